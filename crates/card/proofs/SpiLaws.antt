@@ -1,0 +1,373 @@
+-- Laws of SPI headers and bursts.
+use Prim.Native.Nat.{ℕ, zero, suc, _+_, _-_, _*_, _/_, _%_, _≤_, _<_}
+use mathlib.Core.Path.{_≡_, refl, ap, _∙_}
+use mathlib.Core.Logic.{_⊎_, inl, inr}
+use mathlib.Core.List.{List, [], _∷_}
+use mathlib.Core.Bool.{Bool, true, false, not, _||_, _&&_}
+use native.Mathlib.Omega.{arith}
+use native.Mathlib.Nat.{mul-zero}
+use lib.ListN.{length, drop, getD, replicate, length-drop, length-replicate}
+use lib.Dec.{eqb, ltb, eqb·suc-zero}
+use borrow.Author.Tests.{eqb-true, eqb-false, eq-eqb, ne-eqb, ltb-false, not-false}
+use Rattle.lbp16.proofs.BoolLaws.{or-false}
+use Rattle.lbp16.proofs.WordLaws.{bit-le}
+use Rattle.lbp16.specs.Answer.{Answer}
+use Rattle.lbp16.specs.Space.{registers, row, storeBytes}
+use Rattle.lbp16.specs.Word.{bit}
+use Rattle.packet.specs.Step.{Kind, read, write, storeAfter, valuesRead}
+use Rattle.packet.specs.Rules.{Rule, first, any, misaligned, pastEnd, pickNumber}
+use Rattle.packet.specs.Command.{elements}
+use Rattle.packet.proofs.RuleLaws.{none-holds}
+use Rattle.packet.proofs.ElementLaws.{past-last}
+use Rattle.packet.proofs.StoreLaws.{length-after}
+use Rattle.card.specs.declared.spi.Header.{Header}
+use Rattle.card.specs.Spi.{readCommand, writeCommand, headerOf, headerWord, otherCommand, answerOf, headerWritten}
+use Rattle.card.specs.Spi.{firstWord, bytesOfWords, wordsOfBytes, burstKind, burstSteps, burstRefusals, burstWords}
+use Rattle.card.specs.Spi.{burstOutcome, runBurst}
+use Rattle.card.specs.Cells.{Within, cells, filled}
+use Rattle.card.proofs.CellLaws.{steps-within, reads-keep, reads-cells, writes-fill, filled-outside}
+
+-- Headers and words are inverse both ways.
+
+pub record InRange (h : Header) : Type 0 where
+  pub address : h .address < 65536
+  pub command : h .command < 16
+  pub count : h .count < 128
+
+bit-read : (b : Bool) → eqb (bit b) 1 ≡ b
+unfolding bit
+bit-read false = refl
+bit-read true = refl
+
+bit-written : (n : ℕ) → n ≤ 1 → bit (eqb n 1) ≡ n
+unfolding bit
+bit-written n h = go (eqb n 1) refl
+  where
+    go : (b : Bool) → eqb n 1 ≡ b → bit b ≡ n
+    go true e = let q : n ≡ 1 = eqb-true n 1 e in omega arith
+    go false e = let q = eqb-false n 1 e in omega arith
+
+pub header-of-word : (h : Header) → InRange h → headerOf (headerWord h) ≡ h
+unfolding headerWord headerOf
+header-of-word h r =
+    let b = bit-le (h .increment) in
+    let w = headerWord h in
+    let address : w / 65536 ≡ h .address = omega arith in
+    let command : w / 4096 % 16 ≡ h .command = omega arith in
+    let increment : w / 2048 % 2 ≡ bit (h .increment) = omega arith in
+    let count : w / 16 % 128 ≡ h .count = omega arith in
+    λ i.
+    record {
+      address = address i;
+      command = command i;
+      increment = (ap (λ (n : ℕ). eqb n 1) increment ∙ bit-read (h .increment)) i;
+      count = count i;
+    }
+
+-- The four unused bits of a word are written as 0.
+pub word-of-header : (w : ℕ) → headerWord (headerOf w) ≡ w / 16 * 16
+unfolding headerWord headerOf
+word-of-header w = rw (bit-written (w / 2048 % 2) (omega arith)) (omega arith)
+
+-- the rules that a header is written by
+abbrev pub headerRules : Header → List Rule
+headerRules h =
+    record { number = 32; holds = otherCommand h }
+    ∷ record { number = 33; holds = eqb (h .count) 0 || ltb 127 (h .count) }
+    ∷ []
+
+known-command : (h : Header) → otherCommand h ≡ false → (h .command ≡ readCommand) ⊎ (h .command ≡ writeCommand)
+unfolding otherCommand
+known-command h e = go (eqb (h .command) readCommand) (eqb (h .command) writeCommand) refl refl e
+  where
+    go : (a b : Bool) → eqb (h .command) readCommand ≡ a → eqb (h .command) writeCommand ≡ b → (not a && not b) ≡ false
+        → (h .command ≡ readCommand) ⊎ (h .command ≡ writeCommand)
+    go true b p q e = inl (eqb-true _ _ p)
+    go false true p q e = inr (eqb-true _ _ q)
+    go false false p q e = let z : _≡_ {A = ℕ} 0 1 = cc in absurd (omega arith)
+
+-- A header is written exactly as its fields are allowed to be.
+pub record Writable (h : Header) : Type 0 where
+  pub command : (h .command ≡ readCommand) ⊎ (h .command ≡ writeCommand)
+  pub low : 1 ≤ h .count
+  pub high : h .count ≤ 127
+
+pub writable : (h : Header) → first (headerRules h) ≡ 0 → Writable h
+writable h e =
+    let (other, (count, end)) = none-holds (headerRules h) (omega arith) e in
+    let (none, many) = or-false _ _ count in
+    record {
+      command = known-command h other;
+      low = let n = eqb-false (h .count) 0 none in omega arith;
+      high = ltb-false 127 (h .count) many;
+    }
+
+pub command-le : (h : Header) → Writable h → h .command ≤ 11
+command-le h r = go (r .command)
+  where
+    go : (h .command ≡ readCommand) ⊎ (h .command ≡ writeCommand) → h .command ≤ 11
+    go (inl e) = omega arith
+    go (inr e) = omega arith
+
+-- A header refused, and a header written, as the code answers them.
+pub header-number : (h : Header) (n m : ℕ) (other : Bool) → n ≡ pickNumber other 32 m → other ≡ otherCommand h
+    → m ≡ pickNumber (eqb (h .count) 0 || ltb 127 (h .count)) 33 0 → n ≡ first (headerRules h)
+unfolding first
+header-number h n m other e f g = rw (e, f, g)
+
+pub header-refused : (h : Header) (n : ℕ) → n ≡ first (headerRules h) → (n ≡ 0 → ⊥) → headerWritten h ≡ Answer.refused n 0
+unfolding headerWritten
+header-refused h zero e k = absurd (k refl)
+header-refused h (suc n) e k = rw (← e)
+
+pub header-accepted : (h : Header) → first (headerRules h) ≡ 0 → headerWritten h ≡ Answer.accepted (headerWord h ∷ [])
+unfolding headerWritten
+header-accepted h e = rw e
+
+-- The word that is written reads back as the header.
+pub written-reads-back : (h : Header) (w : ℕ) → h .address < 65536 → headerWritten h ≡ Answer.accepted (w ∷ [])
+    → headerOf w ≡ h
+unfolding headerWritten
+written-reads-back h w a e = go (first (headerRules h)) refl e
+  where
+    go : (n : ℕ) → first (headerRules h) ≡ n → answerOf n (headerWord h ∷ []) ≡ Answer.accepted (w ∷ []) → headerOf w ≡ h
+    go zero q e =
+        let r = writable h q in
+        let c = command-le h r in
+        let same : headerWord h ≡ w = cc in
+        rw (← same) (header-of-word h (record { address = a; command = omega arith; count = omega arith }))
+    go (suc n) q e = let z : _≡_ {A = ℕ} 0 1 = cc in absurd (omega arith)
+
+pub word-none : (words : List ℕ) → length words ≡ 0 → firstWord words ≡ 0
+unfolding firstWord
+word-none [] h = refl
+word-none (w ∷ ws) h = absurd (omega arith)
+
+pub word-first : (words : List ℕ) → (length words ≡ 0 → ⊥) → firstWord words ≡ getD words 0 0
+unfolding firstWord
+word-first [] h = absurd (h refl)
+word-first (w ∷ ws) h = refl
+
+-- Rule 35 as the code tests it.
+pub past-quick : (h : Header) (words : List ℕ)
+    → any pastEnd (burstSteps h words)
+    ≡ (not (eqb (h .count) 0) && ltb 65536 (h .address + pickNumber (h .increment) (h .count * 4) 4))
+unfolding burstSteps any elements row
+past-quick h words = go (h .count) (h .increment)
+  where
+    a : ℕ
+    a = h .address
+
+    go : (n : ℕ) (i : Bool)
+        → any pastEnd (elements (burstKind h) registers n a (pickNumber i 4 0) (bytesOfWords (drop 1 words)))
+        ≡ (not (eqb n 0) && ltb 65536 (a + pickNumber i (n * 4) 4))
+    go zero i = refl
+    go (suc n) true =
+        let same : a + n * 4 + 4 ≡ a + suc n * 4 = omega arith in
+        past-last _ registers n a 4 _ ∙ rw (eqb·suc-zero n) (ap (ltb 65536) same)
+    go (suc n) false =
+        let same : a + n * 0 + 4 ≡ a + 4 = rw mul-zero (omega arith) in
+        past-last _ registers n a 0 _ ∙ rw (eqb·suc-zero n) (ap (ltb 65536) same)
+
+-- the header of the words sent
+abbrev pub headerIn : List ℕ → Header
+headerIn words = headerOf (firstWord words)
+
+-- A burst that no rule refuses.
+pub record Sound (words store room : List ℕ) : Type 0 where
+  pub whole : length store ≡ storeBytes
+  pub fits : length room ≡ length words
+  pub command : (headerIn words .command ≡ readCommand) ⊎ (headerIn words .command ≡ writeCommand)
+  pub some : 1 ≤ headerIn words .count
+  pub sent : length words ≡ 1 + headerIn words .count
+  pub aligned : misaligned registers (headerIn words .address) ≡ false
+  pub inside : any pastEnd (burstSteps (headerIn words) words) ≡ false
+
+module _ (words store room : List ℕ) where
+  pub sound : first (burstRefusals words store room) ≡ 0 → Sound words store room
+  unfolding burstRefusals
+  sound e =
+      let (lent, (empty, (other, (none, (sent, (place, end)))))) =
+      none-holds (burstRefusals words store room) (omega arith) e in
+      let (whole, fits) = or-false _ _ lent in
+      let (aligned, inside) = or-false (misaligned registers (headerIn words .address)) _ place in
+      record {
+        whole = eqb-true _ _ (not-false _ whole);
+        fits = eqb-true _ _ (not-false _ fits);
+        command = known-command (headerIn words) other;
+        some = let n = eqb-false (headerIn words .count) 0 none in omega arith;
+        sent = eqb-true _ _ (not-false _ sent);
+        aligned = aligned;
+        inside = inside;
+      }
+
+-- A burst that is not refused, with its header and the way from cell to cell.
+pub record Ready (words store room : List ℕ) (h : Header) (stride : ℕ) : Type 0 where
+  pub passed : first (burstRefusals words store room) ≡ 0
+  pub header : h ≡ headerIn words
+  pub apart : stride ≡ pickNumber (h .increment) 4 0
+
+module _ (words store room : List ℕ) (h : Header) (stride : ℕ) (ready : Ready words store room h stride) where
+  ready-sound : Sound words store room
+  ready-sound = sound words store room (ready .passed)
+
+  ready-count : length words ≡ suc (h .count)
+  ready-count = rw (ready .header) (omega (arith, ready-sound .sent))
+
+  pub ready-lengths : (length store ≡ storeBytes) × (1 ≤ length words) × (length room ≡ length words)
+  ready-lengths = (ready-sound .whole, omega (arith, ready-count), ready-sound .fits)
+
+  pub ready-within : Within (length words - 1) (h .address) stride
+  unfolding burstSteps
+  ready-within =
+      let n : length words - 1 ≡ h .count = omega (arith, ready-count) in
+      rw (n, ready .apart, ready .header) (steps-within _ _ _ _ _ (ready-sound .inside))
+
+  -- What it leaves, cell by cell.
+  pub burst-reads : (h .command ≡ writeCommand → ⊥) → (after : List ℕ)
+      → after ≡ 0 ∷ cells (length room - 1) (h .address) stride store
+      → runBurst words store room ≡ record { answer = Answer.accepted []; store = store; room = after }
+  unfolding runBurst burstOutcome burstWords burstKind burstSteps
+  burst-reads k after e =
+      let n : length room - 1 ≡ h .count = omega (arith, ready-count, ready-sound .fits) in
+      let m : length words - 1 ≡ h .count = omega (arith, ready-count) in
+      let w : Within (h .count) (h .address) stride = rw m at ready-within in
+      let c = reads-cells (h .count) (h .address) stride (bytesOfWords (drop 1 words)) store (ready-sound .whole) w in
+      rw (ready .passed, ← ready .header, ne-eqb _ _ k, ← ready .apart, reads-keep, c, e, n)
+
+  pub burst-writes : h .command ≡ writeCommand → (after room' : List ℕ)
+      → after ≡ filled (drop 1 words) (h .address) stride store → room' ≡ replicate (length room) 0
+      → runBurst words store room ≡ record { answer = Answer.accepted []; store = after; room = room' }
+  unfolding runBurst burstOutcome burstWords burstKind burstSteps
+  burst-writes k after room' e f =
+      let n : h .count ≡ length (drop 1 words) = rw length-drop (omega (arith, ready-count)) in
+      let m : length room ≡ suc (length (drop 1 words)) = omega (arith, ready-count, ready-sound .fits) in
+      rw (ready .passed, ← ready .header, eq-eqb _ _ k, ← ready .apart, n, writes-fill, e, f, m)
+
+pub burst-refused : (words store room : List ℕ) (n : ℕ) → n ≡ first (burstRefusals words store room) → (n ≡ 0 → ⊥)
+    → runBurst words store room ≡ record { answer = Answer.refused n 0; store = store; room = room }
+unfolding runBurst burstOutcome
+burst-refused words store room zero e k = absurd (k refl)
+burst-refused words store room (suc n) e k = rw (← e)
+
+-- Laws of the outcome, by the number of the first rule that holds.
+
+refused-changes-nothing : (k : ℕ) (words store room : List ℕ) (n place : ℕ)
+    → burstOutcome k words store room .answer ≡ Answer.refused n place
+    → (burstOutcome k words store room .store ≡ store) × (burstOutcome k words store room .room ≡ room)
+unfolding burstOutcome
+refused-changes-nothing zero words store room n place e = let z : _≡_ {A = ℕ} 0 1 = cc in absurd (omega arith)
+refused-changes-nothing (suc k) words store room n place e = (refl, refl)
+
+refused-number : (k : ℕ) (words store room : List ℕ) (n place : ℕ)
+    → burstOutcome k words store room .answer ≡ Answer.refused n place → (n ≡ k) × (1 ≤ k) × (place ≡ 0)
+unfolding burstOutcome
+refused-number zero words store room n place e = let z : _≡_ {A = ℕ} 0 1 = cc in absurd (omega arith)
+refused-number (suc k) words store room n place e = (cc, omega arith, cc)
+
+store-length : (k : ℕ) (words store room : List ℕ) → length (burstOutcome k words store room .store) ≡ length store
+unfolding burstOutcome
+store-length zero words store room = length-after (burstSteps (headerIn words) words) store
+store-length (suc k) words store room = refl
+
+store-outside : (k : ℕ) (words store room : List ℕ) → (k ≡ 0 → Sound words store room) → (i : ℕ) → 65536 ≤ i
+    → getD (burstOutcome k words store room .store) i 0 ≡ getD store i 0
+unfolding burstOutcome burstSteps
+store-outside zero words store room s i h = go (burstKind (headerIn words)) (s refl .inside)
+  where
+    a : ℕ
+    a = headerIn words .address
+
+    d : ℕ
+    d = pickNumber (headerIn words .increment) 4 0
+
+    n : headerIn words .count ≡ length (drop 1 words)
+    n = rw length-drop (omega (arith, s refl .sent))
+
+    go : (k : Kind) → any pastEnd (elements k registers (headerIn words .count) a d (bytesOfWords (drop 1 words))) ≡ false
+        → getD (storeAfter (elements k registers (headerIn words .count) a d (bytesOfWords (drop 1 words))) store) i 0
+        ≡ getD store i 0
+    go read e = rw reads-keep
+    go write e = rw (n, writes-fill) (filled-outside (drop 1 words) a d store i (rw n at (steps-within _ _ _ _ _ e)) h)
+store-outside (suc k) words store room s i h = refl
+
+length-words-of-bytes : (n : ℕ) (bs : List ℕ) → length (wordsOfBytes n bs) ≡ n
+unfolding wordsOfBytes
+length-words-of-bytes zero bs = refl
+length-words-of-bytes (suc n) bs = ap suc (length-words-of-bytes n (drop 4 bs))
+
+length-burst-words : (k : Kind) (n : ℕ) (values : List ℕ) → length (burstWords k n values) ≡ suc n
+unfolding burstWords
+length-burst-words read n values = ap suc (length-words-of-bytes n values)
+length-burst-words write n values = ap suc (length-replicate n 0)
+
+room-length : (k : ℕ) (words store room : List ℕ) → (k ≡ 0 → length words ≡ 1 + headerIn words .count)
+    → burstOutcome k words store room .answer ≡ Answer.accepted []
+    → length (burstOutcome k words store room .room) ≡ length words
+unfolding burstOutcome
+room-length zero words store room s e =
+    length-burst-words (burstKind (headerIn words)) (headerIn words .count) (valuesRead (burstSteps (headerIn words) words) store)
+    ∙ omega (arith, s refl)
+room-length (suc k) words store room s e = let z : _≡_ {A = ℕ} 0 1 = cc in absurd (omega arith)
+
+-- P holds of each rule's number
+abbrev AllNumbers : (ℕ → Type 0) → List Rule → Type 0
+AllNumbers P [] = Unit
+AllNumbers P (r ∷ rs) = P (r .number) × AllNumbers P rs
+
+-- so it holds of the first's, if it holds of 0
+first-among : (P : ℕ → Type 0) → P 0 → (rs : List Rule) → AllNumbers P rs → P (first rs)
+unfolding first
+first-among P z [] a = z
+first-among P z (r ∷ rs) a = go (r .holds) (first-among P z rs (a .1))
+  where
+    go : (b : Bool) → P (first rs) → P (pickNumber b (r .number) (first rs))
+    go true later = a .0
+    go false later = later
+
+module _ (words store room : List ℕ) where
+  -- A refused burst changes nothing lent.
+  pub burst-refusal-changes-nothing : (n place : ℕ) → runBurst words store room .answer ≡ Answer.refused n place
+      → (runBurst words store room .store ≡ store) × (runBurst words store room .room ≡ room)
+  unfolding runBurst
+  burst-refusal-changes-nothing = refused-changes-nothing (first (burstRefusals words store room)) words store room
+
+  -- Its number is 1 or one of 31 to 35, and its place 0.
+  pub burst-refusal-number : (n place : ℕ) → runBurst words store room .answer ≡ Answer.refused n place
+      → ((n ≡ 1) ⊎ ((31 ≤ n) × (n ≤ 35))) × (place ≡ 0)
+  unfolding runBurst burstRefusals
+  burst-refusal-number n place e =
+      let (same, some, zero-place) = refused-number (first (burstRefusals words store room)) words store room n place e in
+      (rw same (first-among Listed (λ h. absurd (omega arith)) (burstRefusals words store room) all some), zero-place)
+    where
+      Listed : ℕ → Type 0
+      Listed k = 1 ≤ k → (k ≡ 1) ⊎ ((31 ≤ k) × (k ≤ 35))
+
+      all : AllNumbers Listed (burstRefusals words store room)
+      all = (
+        λ h. inl refl,
+        (
+          λ h. inr (omega arith),
+          (
+            λ h. inr (omega arith),
+            (λ h. inr (omega arith), (λ h. inr (omega arith), (λ h. inr (omega arith), tt))),
+          ),
+        ),
+      )
+
+  -- The answer to an accepted burst has as many words as were sent.
+  pub burst-answer-length : runBurst words store room .answer ≡ Answer.accepted []
+      → length (runBurst words store room .room) ≡ length words
+  unfolding runBurst
+  burst-answer-length =
+      room-length (first (burstRefusals words store room)) words store room (λ e. sound words store room e .sent)
+
+  -- The store keeps its length.
+  pub burst-store-length : length (runBurst words store room .store) ≡ length store
+  unfolding runBurst
+  burst-store-length = store-length (first (burstRefusals words store room)) words store room
+
+  -- A burst touches space 0 alone: no byte of another space, so not the unlock cell either.
+  pub burst-outside : (i : ℕ) → 65536 ≤ i → getD (runBurst words store room .store) i 0 ≡ getD store i 0
+  unfolding runBurst
+  burst-outside = store-outside (first (burstRefusals words store room)) words store room (sound words store room)

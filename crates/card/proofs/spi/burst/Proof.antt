@@ -1,0 +1,98 @@
+use borrow.Author.Needs.{needs}
+use Rattle.card.proofs.spi.burst.Statement.{statement}
+use Rattle.card.proofs.spi.burst.Tie as tie
+use Rattle.card.proofs.spi.burst.Reads as reads
+use Rattle.card.proofs.spi.burst.Lts as lts
+use Rattle.card.proofs.spi.first_word.Reads as first-word-reads
+use Rattle.card.proofs.spi.header_of.Reads as header-of-reads
+use Rattle.card.proofs.spi.read_cells.Reads as read-cells-reads
+use Rattle.card.proofs.spi.refusal_of.Reads as refusal-of-reads
+use Rattle.card.proofs.spi.stride_of.Reads as stride-of-reads
+use Rattle.card.proofs.spi.write_cells.Reads as write-cells-reads
+use denote.Ref.{now}
+use mathlib.Core.Path.{sym, ap, _∙_, refl}
+use native.Mathlib.Omega.{arith}
+use Rattle.card.specs.Spi.{headerOf, burstListed}
+use Rattle.card.proofs.SpiLaws.{Ready, ready-lengths, ready-within, burst-refused, burst-reads, burst-writes}
+
+refusal-of-requires : tie.Need-refusal-of-requires
+refusal-of-requires c κs = search needs
+
+same-length : tie.Need-same-length
+same-length c = search needs
+
+same-length-2 : tie.Need-same-length-2
+same-length-2 c = search needs
+
+returns : tie.Need-returns
+unfolding burstListed
+returns c = rw (burst-refused _ _ _ _ (c .before .refusal-of .ensures) (c .if1 .taken)) (refl, (refl, refl))
+
+first-word-requires : tie.Need-first-word-requires
+first-word-requires c κs = search needs
+
+header-of-requires : tie.Need-header-of-requires
+header-of-requires c κs = search needs
+
+cast-from : tie.Need-cast-from
+cast-from c = search needs
+
+stride-of-requires : tie.Need-stride-of-requires
+stride-of-requires c κs = search needs
+
+-- past the test the burst is sound
+ready : (c : tie.After-struct-known2)
+    → Ready (now (c .before .before .before .before .before .before .before .before .before .before .before .before .args .words)) (now (c .before .before .before .before .before .before .before .before .before .before .before .before .args .store)) (now (c .before .before .before .before .before .before .before .before .before .before .before .before .args .answer)) (c .before .before .before .header-of .result) (c .before .stride-of .result)
+ready c =
+    record {
+      passed = sym (c .before .before .before .before .before .before .refusal-of .ensures) ∙ c .before .before .before .before .before .if1 .left;
+      header = c .before .before .before .header-of .ensures ∙ ap headerOf (c .before .before .before .before .first-word .ensures);
+      apart = c .before .stride-of .ensures .0;
+    }
+
+write-cells-requires : tie.Need-write-cells-requires
+write-cells-requires c κs = let r = ready (c .before .before .before) in let l = ready-lengths _ _ _ _ _ r in (l .0, l .1, l .2, c .before .before .before .before .stride-of .ensures .1, ready-within _ _ _ _ _ r)
+
+read-cells-requires : tie.Need-read-cells-requires
+read-cells-requires c κs = let r = ready (c .before .before .before) in let l = ready-lengths _ _ _ _ _ r in (l .0, omega (arith, l .1, l .2), c .before .before .before .before .stride-of .ensures .1, rw (← l .2) at (ready-within _ _ _ _ _ r))
+
+same-length-3 : tie.Need-same-length-3
+same-length-3 c = search needs
+
+same-length-4 : tie.Need-same-length-4
+same-length-4 c = search needs
+
+returns-2 : tie.Need-returns-2
+unfolding burstListed
+returns-2 c = rw (burst-writes _ _ _ _ _ (ready (c .before .before .before .before .before .before .before .before)) (c .before .before .before .before .before .before .before .if2 .taken) _ _ (c .before .before .before .before .write-cells .ensures .0) (c .before .before .before .before .write-cells .ensures .1)) (refl, (refl, refl))
+
+same-length-5 : tie.Need-same-length-5
+same-length-5 c = search needs
+
+same-length-6 : tie.Need-same-length-6
+same-length-6 c = search needs
+
+returns-3 : tie.Need-returns-3
+unfolding burstListed
+returns-3 c = rw (burst-reads _ _ _ _ _ (ready (c .before .before .before .before .before .before)) (c .before .before .before .before .before .if2 .left) _ (c .before .before .read-cells .ensures)) (refl, (refl, refl))
+
+pub burst-spec : {M : Type 1} → statement M
+burst-spec =
+    tie.close
+    (tie.spec
+    refusal-of-requires
+    same-length
+    same-length-2
+    returns
+    first-word-requires
+    header-of-requires
+    cast-from
+    stride-of-requires
+    write-cells-requires
+    read-cells-requires
+    same-length-3
+    same-length-4
+    returns-2
+    same-length-5
+    same-length-6
+    returns-3)

@@ -1,0 +1,13 @@
+use Rattle.card.proofs.spi.other_command.Statement.{statement}
+use Rattle.card.proofs.spi.other_command.Tie as tie
+use Rattle.card.proofs.spi.other_command.Reads as reads
+use Rattle.card.proofs.spi.other_command.Lts as lts
+use mathlib.Core.Path.{refl}
+use Rattle.card.specs.Spi.{otherCommand}
+
+returns : tie.Need-returns
+unfolding otherCommand
+returns c = refl
+
+pub other-command-spec : {M : Type 1} → statement M
+other-command-spec = tie.close (tie.spec returns)

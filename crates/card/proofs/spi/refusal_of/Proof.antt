@@ -1,0 +1,71 @@
+use borrow.Author.Needs.{needs}
+use Rattle.card.proofs.spi.refusal_of.Statement.{statement}
+use Rattle.card.proofs.spi.refusal_of.Tie as tie
+use Rattle.card.proofs.spi.refusal_of.Reads as reads
+use Rattle.card.proofs.spi.refusal_of.Lts as lts
+use Rattle.card.proofs.spi.first_of.Reads as first-of-reads
+use Rattle.card.proofs.spi.first_word.Reads as first-word-reads
+use Rattle.card.proofs.spi.header_of.Reads as header-of-reads
+use Rattle.card.proofs.spi.other_command.Reads as other-command-reads
+use Rattle.card.proofs.spi.out_of_place.Reads as out-of-place-reads
+use Rattle.packet.specs.Rules.{first}
+use Rattle.card.specs.Spi.{burstRefusals}
+use denote.Ref.{now}
+
+first-word-requires : tie.Need-first-word-requires
+first-word-requires c κs = search needs
+
+header-of-requires : tie.Need-header-of-requires
+header-of-requires c κs = search needs
+
+cast-promised : tie.Need-cast-promised
+cast-promised c = search needs
+
+add-promised : tie.Need-add-promised
+add-promised c = search needs
+
+out-of-place-requires : tie.Need-out-of-place-requires
+out-of-place-requires c κs = search needs
+
+first-of-requires : tie.Need-first-of-requires
+first-of-requires c κs = search needs
+
+first-of-requires-2 : tie.Need-first-of-requires-2
+first-of-requires-2 c κs = search needs
+
+first-of-requires-3 : tie.Need-first-of-requires-3
+first-of-requires-3 c κs = search needs
+
+other-command-requires : tie.Need-other-command-requires
+other-command-requires c κs = search needs
+
+first-of-requires-4 : tie.Need-first-of-requires-4
+first-of-requires-4 c κs = search needs
+
+first-of-requires-5 : tie.Need-first-of-requires-5
+first-of-requires-5 c κs = search needs
+
+first-of-requires-6 : tie.Need-first-of-requires-6
+first-of-requires-6 c κs = search needs
+
+returns : tie.Need-returns
+unfolding first burstRefusals
+returns c = simp (c .first-of6 .ensures, c .before .first-of5 .ensures, c .before .before .first-of4 .ensures, c .before .before .before .other-command .ensures, c .before .before .before .before .first-of3 .ensures, c .before .before .before .before .before .before .first-of2 .ensures, c .before .before .before .before .before .before .before .first-of .ensures, c .before .before .before .before .before .before .before .before .out-of-place .ensures (now (c .before .before .before .before .before .before .before .before .before .before .before .before .before .before .before .args .words)), c .before .before .before .before .before .before .before .before .before .before .header-of .ensures, c .before .before .before .before .before .before .before .before .before .before .before .first-word .ensures)
+
+pub refusal-of-spec : {M : Type 1} → statement M
+refusal-of-spec =
+    tie.close
+    (tie.spec
+    first-word-requires
+    header-of-requires
+    cast-promised
+    add-promised
+    out-of-place-requires
+    first-of-requires
+    first-of-requires-2
+    first-of-requires-3
+    other-command-requires
+    first-of-requires-4
+    first-of-requires-5
+    first-of-requires-6
+    returns)

@@ -1,0 +1,4 @@
+pub mod Run
+pub mod Spi
+pub mod Inside
+pub mod Cells

@@ -1,0 +1,5 @@
+// One packet, and one SPI burst, on a card store.
+mod block;
+mod element;
+pub mod run;
+pub mod spi;

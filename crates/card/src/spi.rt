@@ -1,0 +1,185 @@
+// SPI headers, and one SPI burst on space 0 of the store.
+use crate::element;
+use lbp16::Refusal;
+use lbp16::pointer::Pointer;
+ghost use mathlib.Core.Path.{_≡_};
+ghost use mathlib.Core.Bool.{_||_};
+ghost use mathlib.Core.List.{List, _∷_};
+ghost use Prim.Native.Nat.{ℕ, _+_, _-_, _*_, _≤_};
+ghost use lib.ListN.{length, drop, replicate};
+ghost use Rattle.lbp16.specs.Space.{registers, storeBytes};
+ghost use Rattle.lbp16.specs.Word.{bit};
+ghost use Rattle.packet.specs.Rules.{first, pickNumber, misaligned, pastEnd, any};
+ghost use Rattle.card.specs.Spi.{headerOf, headerWritten, headerListed, otherCommand, firstWord, burstSteps, burstRefusals, runBurst, burstListed};
+ghost use Rattle.card.specs.Cells.{Within, cells, filled};
+
+const READ: u8 = 0xA;
+
+const WRITE: u8 = 0xB;
+
+// The bytes of the whole store.
+const STORE: usize = 65728;
+
+// The fields of a header word, high bits first; the four lowest bits are unused.
+pub struct Header {
+    pub address: u16,
+    pub command: u8,
+    pub increment: bool,
+    pub count: u8,
+}
+
+pub enum HeaderWritten {
+    Word(u32),
+    Refused(Refusal),
+}
+
+pub enum BurstAnswer {
+    Accepted,
+    Refused(Refusal),
+}
+
+// Every word has a header; its unused bits are ignored.
+pub fn header_of(word: u32) -> Header
+    ensures { λ r. ⌜ r ≡ headerOf word ⌝ }
+{
+    Header {
+        address: (word / 65536) as u16,
+        command: (word / 4096 % 16) as u8,
+        increment: word / 2048 % 2 == 1,
+        count: (word / 16 % 128) as u8,
+    }
+}
+
+fn first_of(test: bool, number: u32, later: u32) -> u32
+    ensures { λ r. ⌜ r ≡ pickNumber test number later ⌝ }
+{
+    if test { number } else { later }
+}
+
+fn other_command(h: Header) -> bool
+    ensures { λ r. ⌜ r ≡ otherCommand h ⌝ }
+{
+    (h.command != READ) & (h.command != WRITE)
+}
+
+fn increment_bit(h: Header) -> u32
+    ensures { λ r. ⌜ (r ≡ bit (h .increment) * 2048) × (r ≤ 2048) ⌝ }
+{
+    if h.increment { 2048 } else { 0 }
+}
+
+// Refused with 32 for another command, with 33 for a count outside 1 to 127.
+pub fn header_word(h: Header) -> HeaderWritten
+    ensures { λ r. ⌜ headerListed r ≡ headerWritten h ⌝ }
+{
+    let number = first_of((h.count == 0) | (127 < h.count), 33, 0);
+    let number = first_of(other_command(h), 32, number);
+    if number != 0 {
+        return HeaderWritten::Refused(Refusal { number, place: 0 });
+    }
+    let address = h.address as u32;
+    let command = h.command as u32;
+    let count = h.count as u32;
+    HeaderWritten::Word(address * 65536 + command * 4096 + increment_bit(h) + count * 16)
+}
+
+// 0 where no word was sent.
+fn first_word(words: &[u32]) -> u32
+    ensures { λ r. ⌜ r ≡ firstWord (now (words .entry)) ⌝ }
+{
+    if words.len() == 0 { 0 } else { words[0] }
+}
+
+// From one cell to the next.
+fn stride_of(h: Header) -> usize
+    ensures { λ r. ⌜ (r ≡ pickNumber (h .increment) 4 0) × (r ≤ 4) ⌝ }
+{
+    if h.increment { 4 } else { 0 }
+}
+
+// The bytes from the address to the end of the furthest cell.
+fn span_of(h: Header) -> u32
+    ensures { λ r. ⌜ (r ≡ pickNumber (h .increment) (h .count * 4) 4) × (r ≤ 1020) ⌝ }
+{
+    if h.increment { h.count as u32 * 4 } else { 4 }
+}
+
+// Refusal 35. Cells rise from the address, so the last is the furthest.
+fn out_of_place(h: Header) -> bool
+    ensures { λ r. ⌜ ((words : List ℕ) → r ≡ (misaligned registers (h .address) || any pastEnd (burstSteps h words))) ⌝ }
+{
+    let address = h.address as u32;
+    (address % 4 != 0) | ((h.count != 0) & (Pointer::REGISTERS < address + span_of(h)))
+}
+
+// The lowest number of refusals 1 and 31 to 35 whose condition holds, 0 if none does.
+fn refusal_of(words: &[u32], store: &[u8], answer: &[u32]) -> u32
+    ensures { λ r. ⌜ r ≡ first (burstRefusals (now (words .entry)) (now (store .entry)) (now (answer .entry))) ⌝ }
+{
+    let h = header_of(first_word(words));
+    let sent = words.len();
+    let promised = 1 + h.count as usize;
+    let r = first_of(out_of_place(h), 35, 0);
+    let r = first_of(sent != promised, 34, r);
+    let r = first_of(h.count == 0, 33, r);
+    let r = first_of(other_command(h), 32, r);
+    let r = first_of(sent == 0, 31, r);
+    first_of((store.len() != STORE) | (answer.len() != sent), 1, r)
+}
+
+// The cells from `from` on follow the first word of the answer, which is 0.
+fn read_cells(store: &[u8], from: usize, stride: usize, answer: &mut [u32])
+    requires { ⌜ (length (now store) ≡ storeBytes) × (1 ≤ length (now answer)) × (stride ≤ 4) × Within (length (now answer) - 1) from stride ⌝ }
+    ensures { λ r. ⌜ now (answer .exit) ≡ 0 ∷ cells (length (now (answer .entry)) - 1) from stride (now (store .entry)) ⌝ }
+{
+    answer[0] = 0;
+    let mut at = from;
+    let mut i: usize = 1;
+    while i < answer.len() {
+        answer[i] = element::fetch4(store, at);
+        at += stride;
+        i += 1;
+    }
+}
+
+// The words after the header go into the cells from `from` on; all words of the answer are 0.
+fn write_cells(words: &[u32], store: &mut [u8], from: usize, stride: usize, answer: &mut [u32])
+    requires { ⌜ (length (now store) ≡ storeBytes) × (1 ≤ length (now words)) × (length (now answer) ≡ length (now words)) × (stride ≤ 4) × Within (length (now words) - 1) from stride ⌝ }
+    ensures { λ r. ⌜ now (store .exit) ≡ filled (drop 1 (now (words .entry))) from stride (now (store .entry)) ⌝ }
+    ensures { λ r. ⌜ now (answer .exit) ≡ replicate (length (now (answer .entry))) 0 ⌝ }
+{
+    answer[0] = 0;
+    let mut at = from;
+    let mut i: usize = 1;
+    while i < words.len() {
+        let word = words[i];
+        element::store4(store, at, word);
+        answer[i] = 0;
+        at += stride;
+        i += 1;
+    }
+}
+
+// The whole burst is checked before anything is done.
+pub fn burst(words: &[u32], store: &mut [u8], answer: &mut [u32]) -> BurstAnswer
+    ensures { λ r. ⌜ burstListed r ≡ runBurst (now (words .entry)) (now (store .entry)) (now (answer .entry)) .answer ⌝ }
+    ensures { λ r. ⌜ now (store .exit) ≡ runBurst (now (words .entry)) (now (store .entry)) (now (answer .entry)) .store ⌝ }
+    ensures { λ r. ⌜ now (answer .exit) ≡ runBurst (now (words .entry)) (now (store .entry)) (now (answer .entry)) .room ⌝ }
+{
+    let refused = refusal_of(words, store, answer);
+    if refused != 0 {
+        return BurstAnswer::Refused(Refusal {
+            number: refused,
+            place: 0,
+        });
+    }
+    let h = header_of(first_word(words));
+    let from = h.address as usize;
+    let stride = stride_of(h);
+    if h.command == WRITE {
+        write_cells(words, store, from, stride, answer);
+    } else {
+        read_cells(store, from, stride, answer);
+    }
+    BurstAnswer::Accepted
+}

@@ -1,0 +1,5 @@
+-- Laws of the definitions in specs/.
+pub mod BoolLaws
+pub mod WordLaws
+pub mod SpaceLaws
+pub mod PointerLaws

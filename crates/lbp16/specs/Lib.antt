@@ -1,0 +1,4 @@
+pub mod Answer
+pub mod Word
+pub mod Space
+pub mod Pointer

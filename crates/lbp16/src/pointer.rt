@@ -1,0 +1,97 @@
+// A space's address pointer, and the four that a card keeps.
+use crate::space;
+ghost use mathlib.Core.Path.{_≡_};
+ghost use Rattle.lbp16.specs.Space.{spaceOf};
+ghost use Rattle.lbp16.specs.Pointer.{advanced, fresh, pointerOf, withPointer, aboveSize};
+
+// Wider than the sixteen bits of an address, since it may stand past the end of a space.
+pub struct Pointer {
+    pub at: u32,
+}
+
+impl Pointer {
+    pub const REGISTERS: u32 = 65536;
+
+    pub const EEPROM: u32 = 128;
+
+    pub const STATUS: u32 = 32;
+
+    pub const INFORMATION: u32 = 32;
+
+    pub fn new(at: u32) -> Self
+        ensures { λ r. ⌜ r .at ≡ at ⌝ }
+    {
+        Pointer { at }
+    }
+
+    // The address plus the bytes moved; a sum past the largest u32 stays there and never wraps.
+    pub fn advance(self, bytes: u32) -> Self
+        ensures { λ r. ⌜ r .at ≡ advanced (self .at) bytes ⌝ }
+    {
+        let at = self.at;
+        if bytes <= 4294967295 - at {
+            Pointer { at: at + bytes }
+        } else {
+            Pointer { at: 4294967295 }
+        }
+    }
+}
+
+pub struct Pointers {
+    pub registers: Pointer,
+    pub eeprom: Pointer,
+    pub status: Pointer,
+    pub information: Pointer,
+}
+
+impl Pointers {
+    // The pointers of a fresh card.
+    pub fn fresh() -> Self
+        ensures { λ r. ⌜ r ≡ fresh ⌝ }
+    {
+        Pointers {
+            registers: Pointer::new(0),
+            eeprom: Pointer::new(0),
+            status: Pointer::new(0),
+            information: Pointer::new(0),
+        }
+    }
+
+    // The pointer of a space; 0 for a space that the card lacks.
+    pub fn of(self, space: u8) -> Pointer
+        ensures { λ r. ⌜ r .at ≡ pointerOf self (spaceOf space) ⌝ }
+    {
+        match space {
+            0 => self.registers,
+            2 => self.eeprom,
+            6 => self.status,
+            7 => self.information,
+            _ => Pointer::new(0),
+        }
+    }
+
+    // The same pointers but for that of one space.
+    pub fn with(self, space: u8, p: Pointer) -> Self
+        ensures { λ r. ⌜ r ≡ withPointer self (spaceOf space) (p .at) ⌝ }
+    {
+        let mut next = self;
+        match space {
+            0 => next.registers = p,
+            2 => next.eeprom = p,
+            6 => next.status = p,
+            7 => next.information = p,
+            _ => {}
+        }
+        next
+    }
+
+    // Whether some pointer stands above its space's size.
+    pub fn above_size(self) -> bool
+        ensures { λ r. ⌜ r ≡ aboveSize self ⌝ }
+    {
+        (Pointer::REGISTERS < self.registers.at)
+            | (Pointer::EEPROM < self.eeprom.at)
+            | (Pointer::STATUS < self.status.at)
+            | (Pointer::INFORMATION < self.information.at)
+    }
+}

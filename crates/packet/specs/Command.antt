@@ -1,0 +1,131 @@
+-- One command of a packet: what is found at it, from the packet's bytes from that command on.
+use Prim.Native.Nat.{ℕ, zero, suc, _+_, _*_}
+use mathlib.Core.List.{List, [], _∷_}
+use mathlib.Core.Bool.{Bool, true, false, not, _||_, _&&_}
+use lib.ListN.{length, take, drop}
+use lib.Dec.{eqb, ltb}
+use Rattle.lbp16.specs.Space.{Space, spaceOf, isAbsent, row}
+use Rattle.lbp16.specs.Word.{fieldsOf}
+use Rattle.lbp16.specs.Pointer.{pointerOf, withPointer}
+use Rattle.lbp16.specs.declared.word.Fields.{Fields}
+use Rattle.lbp16.specs.declared.pointer.Pointers.{Pointers}
+use Rattle.packet.specs.Bytes.{number}
+use Rattle.packet.specs.Step.{Kind, read, write, Step, carried, answered, isWrite, unlocked, replyBytes}
+use Rattle.packet.specs.Rules.{Rule, first, misaligned, pastEnd, barred, any, pickNumber}
+use Rattle.packet.specs.declared.command.Found.{Found}
+use Rattle.packet.specs.declared.command.Progress.{Progress}
+use Rattle.packet.specs.declared.command.Command.{Command}
+use Rattle.packet.specs.declared.command.Which.{Which}
+use Rattle.packet.specs.declared.command.Which.the-variants.{Read, Write, Refused}
+
+-- the most bytes that a packet or its reply may have: 1,500 less 28 of IP and UDP headers
+abbrev pub limit : ℕ
+limit = 1472
+
+abbrev pub pickFields : Bool → Fields → Fields → Fields
+pickFields true a b = a
+pickFields false a b = b
+
+-- the fields of the word at the front; all 0 where it is cut off
+unfoldable pub fieldsAt : List ℕ → Fields
+fieldsAt rest = pickFields (ltb (length rest) 2) (fieldsOf 0) (fieldsOf (number (take 2 rest)))
+
+abbrev pub pickKind : Bool → Kind
+pickKind true = write
+pickKind false = read
+
+unfoldable pub kindOf : Fields → Kind
+kindOf f = pickKind (f .write)
+
+-- the bytes of word and address, and those of the whole command
+unfoldable pub headerBytes : Fields → ℕ
+headerBytes f = pickNumber (f .address) 4 2
+
+unfoldable pub commandBytes : Fields → ℕ
+commandBytes f = headerBytes f + f .count * carried (kindOf f) (spaceOf (f .space))
+
+-- the address used: the one given, or the pointer's
+unfoldable pub addressUsed : Pointers → Fields → List ℕ → ℕ
+addressUsed p f rest = pickNumber (f .address) (number (take 2 (drop 2 rest))) (pointerOf p (spaceOf (f .space)))
+
+-- from one element to the next
+unfoldable pub stride : Fields → ℕ
+stride f = pickNumber (f .increment) (row (spaceOf (f .space)) .element) 0
+
+-- n elements from address a on, d apart; `bytes` are those that follow the header
+unfoldable pub elements : Kind → Space → ℕ → ℕ → ℕ → List ℕ → List Step
+elements k s zero a d bytes = []
+elements k s (suc n) a d bytes =
+    record { kind = k; space = s; address = a; bytes = take (carried k s) bytes }
+    ∷ elements k s n (a + d) d (drop (carried k s) bytes)
+
+unfoldable pub stepsAt : Pointers → Fields → List ℕ → List Step
+stepsAt p f rest =
+    elements (kindOf f) (spaceOf (f .space)) (f .count) (addressUsed p f rest) (stride f) (drop (headerBytes f) rest)
+
+-- Refusal 8: the address used is misaligned, or some element stands past the end.
+unfoldable pub outOfPlace : Pointers → Fields → List ℕ → Bool
+outOfPlace p f rest = misaligned (spaceOf (f .space)) (addressUsed p f rest) || any pastEnd (stepsAt p f rest)
+
+-- Refusals 3 to 12. `open?`: whether the unlock is open; `reply`: the reply's bytes so far.
+unfoldable pub refusals : Pointers → Bool → ℕ → Fields → List ℕ → List Rule
+refusals p open? reply f rest =
+    let s = spaceOf (f .space) in
+    let k = kindOf f in
+    record { number = 3; holds = ltb (length rest) (headerBytes f) }
+    ∷ record { number = 4; holds = f .info }
+    ∷ record { number = 5; holds = isAbsent s }
+    ∷ record { number = 6; holds = not (eqb (f .size) (row s .size)) }
+    ∷ record { number = 7; holds = eqb (f .count) 0 }
+    ∷ record { number = 8; holds = outOfPlace p f rest }
+    ∷ record { number = 9; holds = any barred (stepsAt p f rest) }
+    ∷ record { number = 10; holds = f .write && row s .locked && not open? }
+    ∷ record { number = 11; holds = ltb (length rest) (commandBytes f) }
+    ∷ record { number = 12; holds = ltb limit (reply + f .count * answered k s) }
+    ∷ []
+
+unfoldable pub whichOf : ℕ → Kind → Which
+whichOf zero read = Read
+whichOf zero write = Write
+whichOf (suc n) k = Refused (suc n)
+
+-- What is found at the command: its fields, its place, and which of read, write or refusal it is.
+unfoldable pub found : Pointers → Bool → ℕ → ℕ → List ℕ → Found
+found p open? reply place rest =
+    let f = fieldsAt rest in
+    record { fields = f; place = place; which = whichOf (first (refusals p open? reply f rest)) (kindOf f) }
+
+-- A command sets its space's pointer to the address, and with increment moves it past all elements.
+unfoldable pub pointersAfter : Pointers → Fields → List ℕ → Pointers
+pointersAfter p f rest = withPointer p (spaceOf (f .space)) (addressUsed p f rest + f .count * stride f)
+
+-- the number of what is found, 0 where it is no refusal
+abbrev pub numberOf : Which → ℕ
+numberOf Read = 0
+numberOf Write = 0
+numberOf (Refused n) = n
+
+abbrev pub writes : Which → Bool
+writes Read = false
+writes Write = true
+writes (Refused n) = false
+
+-- A command with what is found at it, and the progress after it; a refusal leaves the progress.
+abbrev pub nextBy : Which → Progress → Progress → Progress
+nextBy Read next g = next
+nextBy Write next g = next
+nextBy (Refused n) next g = g
+
+unfoldable pub progressAfter : Progress → Fields → List ℕ → Progress
+progressAfter g f rest =
+    let steps = stepsAt (g .pointers) f rest in
+    record {
+      pointers = pointersAfter (g .pointers) f rest;
+      unlocked = unlocked (g .unlocked) steps;
+      reply = g .reply + replyBytes steps;
+    }
+
+unfoldable pub commandAt : Progress → ℕ → List ℕ → Command
+commandAt g place rest =
+    let x = found (g .pointers) (g .unlocked) (g .reply) place rest in
+    record { found = x; next = nextBy (x .which) (progressAfter g (fieldsAt rest) rest) g }

@@ -1,0 +1,6 @@
+pub mod Bytes
+pub mod Step
+pub mod Rules
+pub mod Command
+pub mod Judge
+pub mod Verdict

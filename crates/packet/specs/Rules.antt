@@ -1,0 +1,36 @@
+-- Rules of the refusal table: each a number and its condition, lowest number first.
+use Prim.Native.Nat.{ℕ, _+_, _%_}
+use mathlib.Core.List.{List, [], _∷_}
+use mathlib.Core.Bool.{Bool, true, false, not, _||_, _&&_}
+use lib.Dec.{eqb, ltb}
+use Rattle.lbp16.specs.Space.{Space, row}
+use Rattle.packet.specs.Step.{Step, isWrite}
+
+pub record Rule : Type 0 where
+  pub number : ℕ
+  pub holds : Bool
+
+abbrev pub pickNumber : Bool → ℕ → ℕ → ℕ
+pickNumber true a b = a
+pickNumber false a b = b
+
+-- the number of the first rule whose condition holds, 0 if none does
+unfoldable pub first : List Rule → ℕ
+first [] = 0
+first (r ∷ rs) = pickNumber (r .holds) (r .number) (first rs)
+
+-- an address that is not a multiple of the element size
+unfoldable pub misaligned : Space → ℕ → Bool
+misaligned s a = not (eqb (a % row s .element) 0)
+
+-- an element past the space's end
+unfoldable pub pastEnd : Step → Bool
+pastEnd s = ltb (row (s .space) .bytes) (s .address + row (s .space) .element)
+
+-- an element written to a read-only cell: any of space 7, those of space 2 below 0x20
+unfoldable pub barred : Step → Bool
+barred s = ltb (s .address) (row (s .space) .«read_only») && isWrite (s .kind)
+
+unfoldable pub any : (Step → Bool) → List Step → Bool
+any f [] = false
+any f (s ∷ ss) = f s || any f ss

@@ -1,0 +1,311 @@
+// What is found at one command of a packet. Every function here gets the packet's bytes from that command on.
+use lbp16::pointer::Pointer;
+use lbp16::pointer::Pointers;
+use lbp16::space;
+use lbp16::word;
+use lbp16::word::Fields;
+ghost use mathlib.Core.Path.{_≡_};
+ghost use Prim.Native.Nat.{_*_, _+_, _≤_, _<_};
+ghost use lib.ListN.{length, take, drop};
+ghost use lib.Dec.{ltb};
+ghost use Rattle.lbp16.specs.Space.{spaceOf, row, status};
+ghost use Rattle.packet.specs.Bytes.{number};
+ghost use Rattle.packet.specs.Step.{Kind, carried, answered, statusWrite, turned, unlocked};
+ghost use Rattle.packet.specs.Rules.{first, pickNumber, any, barred};
+ghost use Rattle.packet.specs.Command.{fieldsAt, pickKind, kindOf, outOfPlace, headerBytes, commandBytes, addressUsed, stride, elements, stepsAt, refusals, whichOf, numberOf, writes, found, pointersAfter, progressAfter, commandAt, limit};
+
+// The most bytes that a packet or its reply may have: 1,500 less 28 of IP and UDP headers.
+pub const LIMIT: usize = 1472;
+
+pub enum Which {
+    Read,
+    Write,
+    Refused(u32),
+}
+
+// The fields (all 0 where the word is cut off), the command's offset, and which of read, write or refusal it is.
+pub struct Found {
+    pub fields: Fields,
+    pub place: usize,
+    pub which: Which,
+}
+
+// What the commands before this one leave: the pointers, whether the unlock is open, the reply's bytes so far.
+pub struct Progress {
+    pub pointers: Pointers,
+    pub unlocked: bool,
+    pub reply: usize,
+}
+
+pub struct Command {
+    pub found: Found,
+    pub next: Progress,
+}
+
+fn wide(b: u8) -> u16
+    ensures { λ r. ⌜ (r ≡ b) × (r < 256) ⌝ }
+{
+    b as u16
+}
+
+// The number in the two bytes from `at` on, low byte first; a byte that is not there counts as 0.
+fn pair_at(s: &[u8], at: usize) -> u16
+    ensures { λ r. ⌜ r ≡ number (take 2 (drop at (now (s .entry)))) ⌝ }
+{
+    if s.len() <= at {
+        return 0;
+    }
+    let low = wide(s[at]);
+    let next = at + 1;
+    if s.len() <= next {
+        return low;
+    }
+    low + 256 * wide(s[next])
+}
+
+fn fields_at(rest: &[u8]) -> Fields
+    ensures { λ r. ⌜ r ≡ fieldsAt (now (rest .entry)) ⌝ }
+{
+    if rest.len() < 2 {
+        word::fields_of(0)
+    } else {
+        word::fields_of(pair_at(rest, 0))
+    }
+}
+
+// The bytes of the command word and its address.
+pub fn header_bytes(f: Fields) -> usize
+    ensures { λ r. ⌜ (r ≡ headerBytes f) × (r ≤ 4) ⌝ }
+{
+    if f.address { 4 } else { 2 }
+}
+
+// The bytes of all elements.
+fn element_bytes(f: Fields) -> usize
+    ensures { λ r. ⌜ (r ≡ f .count * row (spaceOf (f .space)) .element) × (r ≤ 1020) ⌝ }
+{
+    let row = space::row_of(f.space);
+    (f.count as usize) * (row.element as usize)
+}
+
+// The bytes that a write carries in its packet, and those that a read adds to the reply.
+fn carried_bytes(f: Fields) -> usize
+    ensures { λ r. ⌜ (r ≡ f .count * carried (kindOf f) (spaceOf (f .space))) × (r ≤ 1020) ⌝ }
+{
+    if f.write { element_bytes(f) } else { 0 }
+}
+
+fn answered_bytes(f: Fields) -> usize
+    ensures { λ r. ⌜ (r ≡ f .count * answered (kindOf f) (spaceOf (f .space))) × (r ≤ 1020) ⌝ }
+{
+    if f.write { 0 } else { element_bytes(f) }
+}
+
+// The bytes of the whole command.
+pub fn command_bytes(f: Fields) -> usize
+    ensures { λ r. ⌜ r ≡ commandBytes f ⌝ }
+{
+    header_bytes(f) + carried_bytes(f)
+}
+
+// The address that the command uses: the one given, or the pointer's.
+pub fn address_used(p: Pointers, f: Fields, rest: &[u8]) -> u32
+    ensures { λ r. ⌜ r ≡ addressUsed p f (now (rest .entry)) ⌝ }
+{
+    if f.address {
+        pair_at(rest, 2) as u32
+    } else {
+        p.of(f.space).at
+    }
+}
+
+// From one element to the next.
+pub fn stride_of(f: Fields) -> u32
+    ensures { λ r. ⌜ r ≡ stride f ⌝ }
+{
+    if f.increment {
+        space::row_of(f.space).element
+    } else {
+        0
+    }
+}
+
+// The bytes from the address used to the end of the furthest element.
+fn span_of(f: Fields) -> usize
+    ensures { λ r. ⌜ (r ≡ pickNumber (f .increment) (f .count * row (spaceOf (f .space)) .element) (row (spaceOf (f .space)) .element)) × (r ≤ 1020) ⌝ }
+{
+    if f.increment {
+        element_bytes(f)
+    } else {
+        space::row_of(f.space).element as usize
+    }
+}
+
+fn first_of(test: bool, number: u32, later: u32) -> u32
+    ensures { λ r. ⌜ r ≡ pickNumber test number later ⌝ }
+{
+    if test { number } else { later }
+}
+
+fn passes_limit(reply: usize, more: usize) -> bool
+    ensures { λ r. ⌜ r ≡ ltb limit (reply + more) ⌝ }
+{
+    if LIMIT < reply {
+        return true;
+    }
+    LIMIT - reply < more
+}
+
+// Refusal 8. Elements rise from the address used, so the last is the furthest.
+fn out_of_place(rest: &[u8], p: Pointers, f: Fields) -> bool
+    ensures { λ r. ⌜ r ≡ outOfPlace p f (now (rest .entry)) ⌝ }
+{
+    let row = space::row_of(f.space);
+    let used = address_used(p, f, rest) as usize;
+    let element = row.element as usize;
+    let bytes = row.bytes as usize;
+    (used % element != 0) | ((f.count != 0) & (bytes < used + span_of(f)))
+}
+
+// Refusal 9. The first element is the lowest.
+fn read_only(rest: &[u8], p: Pointers, f: Fields) -> bool
+    ensures { λ r. ⌜ r ≡ any barred (stepsAt p f (now (rest .entry))) ⌝ }
+{
+    let row = space::row_of(f.space);
+    let used = address_used(p, f, rest);
+    (f.count != 0) & ((used < row.read_only) & f.write)
+}
+
+// The lowest number of refusals 3 to 12 whose condition holds, 0 if none does.
+fn refusal_of(rest: &[u8], at: Progress, f: Fields) -> u32
+    ensures { λ r. ⌜ r ≡ first (refusals (at .pointers) (at .unlocked) (at .reply) f (now (rest .entry))) ⌝ }
+{
+    let pointers = at.pointers;
+    let row = space::row_of(f.space);
+    let r = first_of(passes_limit(at.reply, answered_bytes(f)), 12, 0);
+    let r = first_of(rest.len() < command_bytes(f), 11, r);
+    let r = first_of(f.write & row.locked & !at.unlocked, 10, r);
+    let r = first_of(read_only(rest, pointers, f), 9, r);
+    let r = first_of(out_of_place(rest, pointers, f), 8, r);
+    let r = first_of(f.count == 0, 7, r);
+    let r = first_of(f.size != row.size, 6, r);
+    let r = first_of(space::is_absent(f.space), 5, r);
+    let r = first_of(f.info, 4, r);
+    first_of(rest.len() < header_bytes(f), 3, r)
+}
+
+fn which_of(number: u32, write: bool) -> Which
+    ensures { λ r. ⌜ r ≡ whichOf number (pickKind write) ⌝ }
+{
+    if number != 0 {
+        return Which::Refused(number);
+    }
+    if write { Which::Write } else { Which::Read }
+}
+
+// Whether the unlock is open after one element, at `at` in `data`, is written to an address of space 6.
+fn turned_by(open: bool, address: usize, data: &[u8], at: usize) -> bool
+    ensures { λ r. ⌜ r ≡ turned «open» (statusWrite address (take 2 (drop at (now («data» .entry))))) ⌝ }
+{
+    if address == 0x1A {
+        pair_at(data, at) == 0x5A02
+    } else {
+        open
+    }
+}
+
+// Whether it is open after a write of `count` elements to space 6, from address `used` on.
+fn unlock_after(open: bool, count: u8, used: u32, stride: u32, data: &[u8]) -> bool
+    requires { ⌜ stride ≤ 4 ⌝ }
+    ensures { λ r. ⌜ r ≡ unlocked «open» (elements Kind.write status count used stride (now («data» .entry))) ⌝ }
+{
+    let n = count as usize;
+    let step = stride as usize;
+    let mut now_open = open;
+    let mut address = used as usize;
+    let mut i: usize = 0;
+    while i < n {
+        now_open = turned_by(now_open, address, data, i * 2);
+        address += step;
+        i += 1;
+    }
+    now_open
+}
+
+// Whether it is open after the command.
+fn unlocked_next(rest: &[u8], open: bool, f: Fields, used: u32) -> bool
+    requires { ⌜ headerBytes f ≤ length (now rest) ⌝ }
+    ensures { λ r. ⌜ r ≡ unlocked «open» (elements (kindOf f) (spaceOf (f .space)) (f .count) used (stride f) (drop (headerBytes f) (now (rest .entry)))) ⌝ }
+{
+    if f.write & (f.space == 6) {
+        let h = header_bytes(f);
+        unlock_after(open, f.count, used, stride_of(f), &rest[h..])
+    } else {
+        open
+    }
+}
+
+// How far the elements move the pointer.
+fn moved_bytes(f: Fields) -> u32
+    ensures { λ r. ⌜ (r ≡ f .count * stride f) × (r ≤ 1020) ⌝ }
+{
+    (f.count as u32) * stride_of(f)
+}
+
+// The progress after a command that no rule refuses.
+fn progress_after(rest: &[u8], at: Progress, f: Fields) -> Progress
+    requires { ⌜ first (refusals (at .pointers) (at .unlocked) (at .reply) f (now rest)) ≡ 0 ⌝ }
+    ensures { λ r. ⌜ r ≡ progressAfter at f (now (rest .entry)) ⌝ }
+{
+    let pointers = at.pointers;
+    let used = address_used(pointers, f, rest);
+    let pointer = Pointer::new(used).advance(moved_bytes(f));
+    Progress {
+        pointers: pointers.with(f.space, pointer),
+        unlocked: unlocked_next(rest, at.unlocked, f, used),
+        reply: at.reply + answered_bytes(f),
+    }
+}
+
+// What is found at a command, and the progress after it; a refusal leaves the progress as it was.
+pub fn command_at(rest: &[u8], at: Progress, place: usize) -> Command
+    ensures { λ r. ⌜ r ≡ commandAt at place (now (rest .entry)) ⌝ }
+{
+    let fields = fields_at(rest);
+    let number = refusal_of(rest, at, fields);
+    let which = which_of(number, fields.write);
+    let found = Found {
+        fields,
+        place,
+        which,
+    };
+    if number != 0 {
+        return Command { found, next: at };
+    }
+    Command {
+        found,
+        next: progress_after(rest, at, fields),
+    }
+}
+
+// The number of what is found, 0 where it is no refusal.
+pub fn number_of(which: Which) -> u32
+    ensures { λ r. ⌜ r ≡ numberOf which ⌝ }
+{
+    match which {
+        Which::Read => 0,
+        Which::Write => 0,
+        Which::Refused(n) => n,
+    }
+}
+
+// Whether a write is found.
+pub fn is_write(which: Which) -> bool
+    ensures { λ r. ⌜ r ≡ writes which ⌝ }
+{
+    match which {
+        Which::Read => false,
+        Which::Write => true,
+        Which::Refused(_) => false,
+    }
+}

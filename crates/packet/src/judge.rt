@@ -1,0 +1,50 @@
+// The check of a whole packet, command by command.
+use crate::command;
+use crate::command::Progress;
+use lbp16::Refusal;
+use lbp16::pointer::Pointers;
+ghost use mathlib.Core.Path.{_≡_};
+ghost use Rattle.packet.specs.Verdict.{start, verdict};
+
+pub enum Verdict {
+    // The progress after the last command.
+    Accepted(Progress),
+    Refused(Refusal),
+}
+
+// The unlock is closed when a packet begins.
+pub fn begin(p: Pointers) -> Progress
+    ensures { λ r. ⌜ r ≡ start p ⌝ }
+{
+    Progress {
+        pointers: p,
+        unlocked: false,
+        reply: 0,
+    }
+}
+
+// The earliest command that is refused, or the progress after all.
+pub fn judge(packet: &[u8], p: Pointers) -> Verdict
+    ensures { λ r. ⌜ r ≡ verdict p (now (packet .entry)) ⌝ }
+{
+    let mut at = begin(p);
+    let mut place: usize = 0;
+    let mut rest = packet;
+    while 0 < rest.len() {
+        let c = command::command_at(rest, at, place);
+        let found = c.found;
+        let which = found.which;
+        let number = command::number_of(which);
+        if number != 0 {
+            return Verdict::Refused(Refusal {
+                number,
+                place: place as u64,
+            });
+        }
+        let k = command::command_bytes(found.fields);
+        at = c.next;
+        place += k;
+        rest = &rest[k..];
+    }
+    Verdict::Accepted(at)
+}

@@ -1,0 +1,3 @@
+// A packet's check. It needs the packet's bytes and the pointers, and no store.
+pub mod command;
+pub mod judge;
