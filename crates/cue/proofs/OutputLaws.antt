@@ -1,0 +1,108 @@
+-- Laws of the output: taking it apart gives the packets again, and it has at most twice the list's bytes.
+use Prim.Native.Nat.{ℕ, zero, suc, _+_, _*_, _≤_, _<_}
+use mathlib.Core.Path.{_≡_, refl, _∙_}
+use mathlib.Core.List.{List, [], _∷_, _++_, map}
+use mathlib.Core.Bool.{false}
+use native.Mathlib.Omega.{arith}
+use lib.ListN.{length, take, drop, length-append}
+use lib.Seq.{take-append-seam, drop-append-seam, drop-append-add}
+use borrow.Author.Tests.{le-ltb}
+use Rattle.packet.specs.Bytes.{number, bytesOf}
+use Rattle.packet.specs.Step.{Step}
+use Rattle.packet.proofs.StepLaws.{carried-le}
+use Rattle.cue.specs.Records.{records, recordsOf, recordBytes}
+use Rattle.cue.specs.Packing.{Command, joinAll, packetBytes, Open, commandsOf, joined, started, packFrom, packets}
+use Rattle.cue.specs.Output.{packetMark, framed, outputOf, parts, withPart, lengthAt, unsoundAt, apartFrom, apart}
+use Rattle.cue.specs.Compile.{packed, output}
+use Rattle.cue.proofs.Relations.{Good}
+use Rattle.cue.proofs.RecordLaws.{listBytes, records-good, list-bytes}
+use Rattle.cue.proofs.PacketLaws.{packet-bytes-append, join-append, command-length}
+use Rattle.cue.proofs.PackingLaws.{Packed, packing-keeps, turn-cases, started-bytes, record-bytes-le}
+
+-- packets whose lengths can be written in two bytes
+pub data Short : List (List ℕ) → Type 0 where
+  none : Short []
+  more : {p : List ℕ} {ps : List (List ℕ)} → length p < 65536 → Short ps → Short (p ∷ ps)
+
+-- one packet taken off
+apart-next : (fuel : ℕ) (rest p tail : List ℕ) → 0 < length rest → unsoundAt rest ≡ false
+    → take (lengthAt rest) (drop 4 rest) ≡ p → drop (4 + lengthAt rest) rest ≡ tail
+    → apartFrom (suc fuel) rest ≡ withPart p (apartFrom fuel tail)
+unfolding apartFrom
+apart-next fuel [] p tail h u e f = absurd (omega arith)
+apart-next fuel (b ∷ bs) p tail h u e f = rw (u, e, f) refl
+
+-- mark and length have four bytes
+pub framed-bytes : (p tail : List ℕ) → length (framed p ++ tail) ≡ 4 + length p + length tail
+unfolding framed bytesOf
+framed-bytes p tail = simp length-append (omega arith)
+
+-- a packet with its frame, before other bytes
+module _ (p tail : List ℕ) (h : length p < 65536) where
+  framed-length : lengthAt (framed p ++ tail) ≡ length p
+  unfolding lengthAt framed number bytesOf
+  framed-length = omega arith
+
+  framed-sound : unsoundAt (framed p ++ tail) ≡ false
+  unfolding unsoundAt framed number bytesOf
+  framed-sound =
+      let all = framed p ++ tail in
+      le-ltb (length all) (4 + lengthAt all) (omega (arith, framed-length, framed-bytes p tail))
+
+  framed-apart : (fuel : ℕ) → apartFrom (suc fuel) (framed p ++ tail) ≡ withPart p (apartFrom fuel tail)
+  unfolding framed bytesOf
+  framed-apart fuel =
+      let frame = bytesOf 2 packetMark ++ bytesOf 2 (length p) in
+      let behind = drop-append-add frame (p ++ tail) (length p) ∙ drop-append-seam p tail in
+      apart-next fuel _ p tail (omega arith) framed-sound (rw framed-length (take-append-seam p tail)) (rw framed-length behind)
+
+apart-from : (fuel : ℕ) {ps : List (List ℕ)} → Short ps → length (outputOf ps) ≤ fuel → apartFrom fuel (outputOf ps) ≡ parts ps
+unfolding outputOf withPart apartFrom
+apart-from zero Short.none h = refl
+apart-from (suc fuel) Short.none h = refl
+apart-from zero (Short.more {p} {ps} b s) h = absurd (omega (arith, framed-bytes p (outputOf ps)))
+apart-from (suc fuel) (Short.more {p} {ps} b s) h =
+    rw (framed-apart p (outputOf ps) b fuel, apart-from fuel s (omega (arith, framed-bytes p (outputOf ps))))
+
+-- An output taken apart is its packets.
+pub apart-output : (ps : List (List ℕ)) → Short ps → apart (outputOf ps) ≡ parts ps
+unfolding apart
+apart-output ps s = apart-from _ s (omega arith)
+
+packed-short : {css : List (List Command)} {xs : List Step} → Packed css xs → Short (map packetBytes css)
+packed-short Packed.none = Short.none
+packed-short (Packed.more {cs} k p) = Short.more {p = packetBytes cs} (omega (arith, k .short)) (packed-short p)
+
+-- The packing rule's packets are short.
+pub packets-short : (xs : List Step) → Good xs → Short (packed xs)
+unfolding packed
+packets-short xs g = packed-short (packing-keeps xs g)
+
+-- a record that joins adds its own bytes only
+pub joined-bytes : (o : Open) (x : Step)
+    → length (packetBytes (commandsOf (joined o x))) ≡ length (packetBytes (commandsOf o)) + length (x .bytes)
+unfolding commandsOf joined packetBytes joinAll
+joined-bytes o x = simp (packet-bytes-append, length-append, command-length, join-append) (omega arith)
+
+-- the bytes from the open packet's frame on
+output-from : (o : Open) {ys : List Step} → Good ys
+    → length (outputOf (map packetBytes (packFrom o ys))) ≤ 4 + length (packetBytes (commandsOf o)) + 2 * listBytes ys
+unfolding outputOf packFrom listBytes packetBytes
+output-from o Good.none = rw framed-bytes (omega arith)
+output-from o (Good.more {x} {xs = ys} bad w g) =
+    let few = carried-le (x .kind) (x .space) in
+    turn-cases o x
+    (λ t. length (outputOf (map packetBytes (t .closed ++ packFrom (t .open?) ys)))
+    ≤ 4 + length (packetBytes (commandsOf o)) + 2 * (recordBytes (x .kind) + listBytes ys))
+    (λ _. omega (arith, output-from (joined o x) g, joined-bytes o x, record-bytes-le (x .kind)))
+    (λ _. omega (arith, output-from (started (commandsOf o) x) g, started-bytes (commandsOf o) x w))
+    (rw framed-bytes (omega (arith, output-from (started [] x) g, started-bytes [] x w)))
+
+output-le : {xs : List Step} → Good xs → length (output xs) ≤ 2 * listBytes xs
+unfolding output packed packets outputOf listBytes packetBytes
+output-le Good.none = omega arith
+output-le (Good.more {x} bad w g) = omega (arith, output-from (started [] x) g, started-bytes [] x w)
+
+-- The output has at most twice the list's bytes.
+pub output-bound : (list : List ℕ) (xs : List Step) → recordsOf list ≡ records xs → length (output xs) ≤ 2 * length list
+output-bound list xs e = omega (arith, output-le (records-good list xs e), list-bytes list xs e)

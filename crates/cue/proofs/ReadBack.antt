@@ -1,0 +1,179 @@
+-- Reading back: the check of a packet that is made of sound commands accepts it and finds the commands' steps.
+use Prim.Native.Nat.{ℕ, zero, suc, _+_, _*_, _≤_}
+use mathlib.Core.Path.{_≡_, refl, sym, _∙_}
+use mathlib.Core.List.{List, _++_, append-assoc, append-nil}
+use mathlib.Core.Bool.{Bool, false}
+use lib.ListN.{length, drop, length-append}
+use lib.Seq.{take-at, drop-at}
+use native.Mathlib.Nat.{zero-mul, suc-mul}
+use native.Mathlib.Omega.{arith}
+use Rattle.lbp16.specs.Space.{Space, registers, eeprom, status, information, absent, spaceOf, isAbsent, row}
+use Rattle.lbp16.specs.Word.{wordOf}
+use Rattle.lbp16.specs.declared.pointer.Pointers.{Pointers}
+use Rattle.lbp16.proofs.WordLaws.{InRange, fields-of-word, word-below}
+use Rattle.packet.specs.Bytes.{bytesOf}
+use Rattle.packet.specs.Step.{Kind, read, write, carried, isWrite, unlocked, replyBytes}
+use Rattle.packet.specs.Command.{limit, fieldsAt, pickKind, kindOf, commandBytes as commandLength}
+use Rattle.packet.specs.Command.{headerBytes, addressUsed, stride, elements, stepsAt}
+use Rattle.packet.specs.Judge.{Carried, accepted, begin, carry, judgeFrom, judge}
+use Rattle.packet.proofs.ByteLaws.{length-bytes}
+use Rattle.packet.proofs.StepLaws.{unlocked-append, reply-append}
+use Rattle.packet.proofs.CommandLaws.{fields-at-front, address-given, reply-of-command}
+use Rattle.packet.proofs.JudgeLaws.{PassedNext, judged-end, judged-past, pointers-kept}
+use Rattle.cue.specs.Packing.{Command, spaceNumber, commandFields, joinAll, commandBytes, packetBytes}
+use Rattle.cue.specs.Packing.{elementSteps, commandSteps, packetSteps}
+use Rattle.cue.proofs.Relations.{Wide, Sound, SoundAll, Does}
+
+-- a space and a kind are found again by what a command's word says of them
+pub space-back : (s : Space) → isAbsent s ≡ false → spaceOf (spaceNumber s) ≡ s
+unfolding spaceOf spaceNumber isAbsent
+space-back registers e = refl
+space-back eeprom e = refl
+space-back status e = refl
+space-back information e = refl
+space-back absent e = let z : _≡_ {A = ℕ} 0 1 = cc in absurd (omega arith)
+
+kind-back : (c : Command) → kindOf (commandFields c) ≡ c .kind
+unfolding kindOf commandFields isWrite
+kind-back c = go (c .kind)
+  where
+    go : (k : Kind) → pickKind (isWrite k) ≡ k
+    go read = refl
+    go write = refl
+
+-- the bytes of elements, joined, and the steps that are read from them
+pub length-joined : {n : ℕ} {es : List (List ℕ)} → Wide n es → length (joinAll es) ≡ length es * n
+unfolding joinAll
+length-joined Wide.none = rw zero-mul
+length-joined (Wide.more e w) = rw (length-append, e, length-joined w, suc-mul) (omega arith)
+
+elements-back : (k : Kind) (s : Space) (a d : ℕ) (more : List ℕ) {es : List (List ℕ)} → Wide (carried k s) es
+    → elements k s (length es) a d (joinAll es ++ more) ≡ elementSteps k s a d es
+unfolding elements elementSteps joinAll
+elements-back k s a d more Wide.none = refl
+elements-back k s a d more (Wide.more {e} {es} l w) =
+    rw (append-assoc, take-at e _ _ l, drop-at e _ _ l, elements-back k s (a + d) d more w)
+
+-- a command's word can be written
+row-in-range : (s : Space) → (spaceNumber s ≤ 7) × (row s .size ≤ 3)
+unfolding spaceNumber row
+row-in-range registers = omega arith
+row-in-range eeprom = omega arith
+row-in-range status = omega arith
+row-in-range information = omega arith
+row-in-range absent = omega arith
+
+-- word and address are four bytes
+long : (c : Command) → 4 ≤ length (commandBytes c)
+unfolding commandBytes
+long c = simp (length-append, length-bytes) (omega arith)
+
+-- One sound command, with any bytes after it: fields, address, data and steps are read back.
+module _ {open? : Bool} (c : Command) (h : Sound open? c) (more : List ℕ) where
+  parts : commandBytes c ++ more
+      ≡ bytesOf 2 (wordOf (commandFields c)) ++ (bytesOf 2 (c .address) ++ (joinAll (c .elements) ++ more))
+  unfolding commandBytes
+  parts = simp append-assoc
+
+  in-range : InRange (commandFields c)
+  unfolding commandFields
+  in-range = record { space = row-in-range (c .space) .0; size = row-in-range (c .space) .1; count = h .few }
+
+  fields-back : fieldsAt (commandBytes c ++ more) ≡ commandFields c
+  fields-back =
+      rw (parts, fields-at-front _ (bytesOf 2 (c .address) ++ (joinAll (c .elements) ++ more)) (word-below _ in-range))
+      (fields-of-word _ in-range)
+
+  address-back : (p : Pointers) → addressUsed p (commandFields c) (commandBytes c ++ more) ≡ c .address
+  unfolding commandFields
+  address-back p = rw parts (address-given p (commandFields c) _ (c .address) _ refl (h .address))
+
+  data-back : drop 4 (commandBytes c ++ more) ≡ joinAll (c .elements) ++ more
+  unfolding commandBytes
+  data-back =
+      let header = bytesOf 2 (wordOf (commandFields c)) ++ bytesOf 2 (c .address) in
+      rw (append-assoc header) (drop-at header _ 4 (simp (length-append, length-bytes)))
+
+  steps-back : (p : Pointers) → stepsAt p (commandFields c) (commandBytes c ++ more) ≡ commandSteps c
+  unfolding stepsAt commandSteps commandFields stride headerBytes
+  steps-back p =
+      rw (address-back p, kind-back c, space-back (c .space) (h .present), data-back)
+      (elements-back _ _ _ _ more (h .wide))
+
+  -- its length, and what remains after it
+  length-back : commandLength (commandFields c) ≡ length (commandBytes c)
+  unfolding commandLength commandBytes commandFields headerBytes
+  length-back =
+      simp (length-append, length-bytes, kind-back c, space-back (c .space) (h .present), length-joined (h .wide))
+
+  remains : drop (commandLength (commandFields c)) (commandBytes c ++ more) ≡ more
+  remains = drop-at (commandBytes c) more _ (sym length-back)
+
+  length-all : length (commandBytes c ++ more) ≡ commandLength (commandFields c) + length more
+  length-all = rw (length-append, length-back)
+
+  -- no rule refuses it
+  passes-next : (k : Carried) → unlocked false (k .steps) ≡ open?
+      → replyBytes (k .steps) + replyBytes (commandSteps c) ≤ limit → PassedNext k (commandBytes c ++ more)
+  unfolding commandFields headerBytes commandLength
+  passes-next k u l =
+      let s = space-back (c .space) (h .present) in
+      let sum = length-all in
+      let steps = steps-back (k .pointers) in
+      rw fields-back
+      record {
+        header = omega arith;
+        plain = refl;
+        present = rw s (h .present);
+        sized = rw s;
+        some = h .some;
+        aligned = rw (address-back (k .pointers), s) (h .aligned);
+        inside = rw steps (h .inside);
+        allowed = rw steps (h .allowed);
+        unlocks = rw (s, u) (h .unlocks);
+        whole = omega arith;
+        answers = rw (← reply-of-command (k .pointers) (commandFields c) (commandBytes c ++ more), steps) l;
+      }
+
+  -- the check goes on behind the command, with the command's steps
+  judged-on : (fuel : ℕ) (k : Carried) → unlocked false (k .steps) ≡ open?
+      → replyBytes (k .steps) + replyBytes (commandSteps c) ≤ limit
+      → judgeFrom (suc fuel) k (commandBytes c ++ more) ≡ judgeFrom fuel (carry k (commandBytes c ++ more)) more
+  judged-on fuel k u l =
+      let some : 1 ≤ length (commandBytes c ++ more) = rw length-append (omega (arith, long c)) in
+      judged-past fuel k (commandBytes c ++ more) some (passes-next k u l) ∙ rw (fields-back, remains)
+
+  steps-on : (k : Carried) → carry k (commandBytes c ++ more) .steps ≡ k .steps ++ commandSteps c
+  unfolding carry
+  steps-on k = rw (fields-back, steps-back (k .pointers))
+
+-- From any place of a packet on, with fuel enough, the rest of its commands are accepted and add their steps.
+from-place : (fuel : ℕ) (k : Carried) {open? : Bool} {cs : List Command} → SoundAll open? cs
+    → unlocked false (k .steps) ≡ open? → length (packetBytes cs) ≤ fuel
+    → replyBytes (k .steps) + replyBytes (packetSteps cs) ≤ limit
+    → (end : Carried) × (judgeFrom fuel k (packetBytes cs) ≡ accepted end) × (end .steps ≡ k .steps ++ packetSteps cs)
+unfolding packetBytes packetSteps
+from-place fuel k SoundAll.none u f l = (k, judged-end fuel k, sym (append-nil (k .steps)))
+from-place zero k (SoundAll.more {c = c} {cs = cs} h hs) u f l =
+    absurd (omega (arith, long c, length-append (commandBytes c) (packetBytes cs)))
+from-place (suc fuel) k (SoundAll.more {c = c} {cs = cs} h hs) u f l =
+    let more = packetBytes cs in
+    let next = carry k (commandBytes c ++ more) in
+    let steps = steps-on c h more k in
+    let bytes = length-append (commandBytes c) more in
+    let reply = reply-append (commandSteps c) (packetSteps cs) in
+    let small : replyBytes (next .steps) + replyBytes (packetSteps cs) ≤ limit = rw (steps, reply-append) (omega arith) in
+    let (end, e, s) = from-place fuel next hs (rw (steps, unlocked-append, u)) (omega (arith, long c)) small in
+    (end, judged-on c h more fuel k u (omega arith) ∙ e, s ∙ rw (steps, append-assoc))
+
+-- A packet of sound commands that keeps both limits is accepted from any pointers, and does its commands' steps.
+pub read-back : (cs : List Command) → SoundAll false cs → length (packetBytes cs) ≤ limit
+    → replyBytes (packetSteps cs) ≤ limit → Does (packetBytes cs) (packetSteps cs)
+unfolding judge begin unlocked replyBytes
+read-back cs h short l =
+    record {
+      short = short;
+      judged = λ p below.
+          let (end, e, s) = from-place (length (packetBytes cs)) (begin p) h refl (omega arith) (omega arith) in
+          (end, e, s, pointers-kept p (packetBytes cs) end below e);
+    }

@@ -1,0 +1,153 @@
+-- Laws of a record as the code reads it.
+use Prim.Native.Nat.{ℕ, _+_, _%_, _≤_}
+use mathlib.Core.Path.{_≡_, refl, sym, ap}
+use mathlib.Core.List.{List, [], _∷_}
+use mathlib.Core.Bool.{Bool, true, false, not, _||_, _&&_}
+use native.Mathlib.Omega.{arith}
+use lib.Dec.{eqb, ltb}
+use lib.ListN.{length, take, drop, getD, drop-of-length-le, length-take}
+use lib.Seq.{drop-drop}
+use borrow.Author.Tests.{eqb-true, eqb-false}
+use Rattle.lbp16.specs.Space.{Space, registers, eeprom, status, information, absent, spaceOf, isAbsent, row}
+use Rattle.lbp16.proofs.BoolLaws.{or-false}
+use Rattle.packet.specs.Bytes.{number}
+use Rattle.packet.specs.Step.{carried, isWrite, isStatus, namesUnlock}
+use Rattle.packet.specs.Rules.{first, pickNumber, misaligned, pastEnd, barred}
+use Rattle.packet.specs.Command.{pickKind}
+use Rattle.packet.proofs.RuleLaws.{none-holds}
+use Rattle.cue.specs.Records.{recordStep, recordSpace, recordKind, recordBytes, recordRefusals, badElement, upperHalf}
+use Rattle.cue.specs.Records.{markAt, readMark, writeMark, valueBytes, mostRecords}
+use Rattle.cue.specs.Packing.{spaceNumber}
+use Rattle.cue.specs.Inside.{recordAt, brief}
+use Rattle.cue.proofs.RecordLaws.{whole, step-bytes}
+
+-- what holds of the four spaces, and of a number that names none, holds of every number's space
+pub space-cases : (n : ℕ) (P : ℕ → Space → Type 0) → P 0 registers → P 2 eeprom → P 6 status → P 7 information
+    → ((n ≡ 0 → ⊥) → (n ≡ 2 → ⊥) → (n ≡ 6 → ⊥) → (n ≡ 7 → ⊥) → P n absent) → P n (spaceOf n)
+unfolding spaceOf
+space-cases n P a b c d e = go (eqb n 0) (eqb n 2) (eqb n 6) (eqb n 7) refl refl refl refl
+  where
+    pick : Bool → Space → Space → Space
+    pick = Rattle.lbp16.specs.Space.pickSpace
+
+    go : (t u v w : Bool) → eqb n 0 ≡ t → eqb n 2 ≡ u → eqb n 6 ≡ v → eqb n 7 ≡ w
+        → P n (pick t registers (pick u eeprom (pick v status (pick w information absent))))
+    go true u v w p q r s = rw (eqb-true n 0 p) a
+    go false true v w p q r s = rw (eqb-true n 2 q) b
+    go false false true w p q r s = rw (eqb-true n 6 r) c
+    go false false false true p q r s = rw (eqb-true n 7 s) d
+    go false false false false p q r s = e (eqb-false n 0 p) (eqb-false n 2 q) (eqb-false n 6 r) (eqb-false n 7 s)
+
+ne-false : (n m : ℕ) → (n ≡ m → ⊥) → eqb n m ≡ false
+ne-false n m h = borrow.Author.Tests.ne-eqb n m h
+
+is-six : (n : ℕ) → isStatus (spaceOf n) ≡ eqb n 6
+unfolding isStatus
+is-six n = space-cases n (λ m s. isStatus s ≡ eqb m 6) refl refl refl refl (λ a b c d. sym (ne-false n 6 c))
+
+-- a space that the card has is named by its number
+number-of : (n : ℕ) → isAbsent (spaceOf n) ≡ false → spaceNumber (spaceOf n) ≡ n
+unfolding isAbsent spaceNumber
+number-of n =
+    space-cases n (λ m s. isAbsent s ≡ false → spaceNumber s ≡ m) (λ h. refl) (λ h. refl) (λ h. refl) (λ h. refl)
+    (λ a b c d h. let z : _≡_ {A = ℕ} 0 1 = cc in absurd (omega arith))
+
+pub write-of : (b : Bool) → isWrite (pickKind b) ≡ b
+unfolding isWrite
+write-of true = refl
+write-of false = refl
+
+-- refusal 23 as the code tests it
+pub bad-element-is : (rest : List ℕ)
+    → badElement (recordStep rest)
+    ≡ (let r = recordAt rest in
+    let s = row (spaceOf (r .space)) in
+    isAbsent (spaceOf (r .space)) || not (eqb (r .address % s .element) 0) || ltb (s .bytes) (r .address + s .element)
+    || (ltb (r .address) (s .«read_only») && r .write)
+    || (eqb (r .address) 0x1A && eqb (r .space) 6))
+unfolding badElement recordStep recordSpace recordKind recordAt misaligned pastEnd barred namesUnlock
+bad-element-is rest = rw (write-of, is-six) refl
+
+-- the part of the value that an element has no room for
+middle : (l : List ℕ) → drop 2 (take 4 l) ≡ take 2 (drop 2 l)
+middle [] = refl
+middle (a ∷ []) = refl
+middle (a ∷ b ∷ l) = refl
+
+upper-at : (rest : List ℕ) → drop 2 (take 4 (drop 6 rest)) ≡ take 2 (drop 8 rest)
+upper-at rest = rw (middle, drop-drop) refl
+
+pub too-wide-is : (rest : List ℕ) → isAbsent (recordSpace rest) ≡ false
+    → (not (eqb (getD rest 2 0) 0) && not (eqb (number (take 2 (drop 8 rest))) 0)) ≡ not (eqb (upperHalf rest) 0)
+unfolding isAbsent recordSpace upperHalf valueBytes row number
+too-wide-is rest =
+    let four : drop 4 (take 4 (drop 6 rest)) ≡ [] =
+    (let h : length (take 4 (drop 6 rest)) ≤ 4 = rw length-take (omega arith) in drop-of-length-le (take 4 (drop 6 rest)) h) in
+    space-cases (getD rest 2 0)
+    (λ m s. isAbsent s ≡ false
+    → (not (eqb m 0) && not (eqb (number (take 2 (drop 8 rest))) 0))
+    ≡ not (eqb (number (drop (row s .element) (take 4 (drop 6 rest)))) 0))
+    (λ h. rw four refl)
+    (λ h. rw upper-at refl)
+    (λ h. rw upper-at refl)
+    (λ h. rw upper-at refl)
+    (λ a b c d h. let z : _≡_ {A = ℕ} 0 1 = cc in absurd (omega arith))
+
+present : (rest : List ℕ) → badElement (recordStep rest) ≡ false → isAbsent (recordSpace rest) ≡ false
+unfolding badElement recordStep
+present rest e =
+    let x = recordStep rest in
+    let a = isAbsent (x .space) in
+    let b = misaligned (x .space) (x .address) in
+    or-false a b (or-false (a || b) (pastEnd x) (or-false (a || b || pastEnd x) (barred x) (or-false _ (namesUnlock x) e .0) .0) .0) .0
+
+-- The chain of tests, where that of rule 24 is the definition's wherever rule 23 does not hold.
+pub chain-is : (index : ℕ) (rest : List ℕ) (w : Bool) → (isAbsent (recordSpace rest) ≡ false → w ≡ not (eqb (upperHalf rest) 0))
+    → first (recordRefusals index rest)
+    ≡ pickNumber (eqb index mostRecords) 21
+    (pickNumber
+    ((not (eqb (markAt rest) readMark) && not (eqb (markAt rest) writeMark))
+    || ltb (length rest) (recordBytes (pickKind (eqb (markAt rest) writeMark))))
+    22
+    (pickNumber (badElement (recordStep rest)) 23
+    (pickNumber (not (eqb (getD rest 3 0) 0) || (eqb (markAt rest) writeMark && w)) 24 0)))
+unfolding recordRefusals first recordKind
+chain-is index rest w h =
+    rw (write-of)
+    (ap
+    (λ (n : ℕ). pickNumber (eqb index mostRecords) 21
+    (pickNumber
+    ((not (eqb (markAt rest) readMark) && not (eqb (markAt rest) writeMark))
+    || ltb (length rest) (recordBytes (pickKind (eqb (markAt rest) writeMark))))
+    22
+    n))
+    (go (badElement (recordStep rest)) refl))
+  where
+    test : Bool → ℕ
+    test u = pickNumber (not (eqb (getD rest 3 0) 0) || (eqb (markAt rest) writeMark && u)) 24 0
+
+    go : (b : Bool) → badElement (recordStep rest) ≡ b
+        → pickNumber b 23 (test (not (eqb (upperHalf rest) 0))) ≡ pickNumber b 23 (test w)
+    go true e = refl
+    go false e = ap test (sym (h (present rest e)))
+
+-- A record that no rule refuses: it is whole, and is what the code reads.
+pub record Passing (index : ℕ) (rest : List ℕ) : Type 0 where
+  pub few : index ≡ mostRecords → ⊥
+  pub bytes : recordBytes (recordStep rest .kind) ≤ length rest
+  pub good : badElement (recordStep rest) ≡ false
+  pub wide : length (recordStep rest .bytes) ≡ carried (recordStep rest .kind) (recordStep rest .space)
+  pub read : recordAt rest ≡ brief (recordStep rest)
+
+pub passing : (index : ℕ) (rest : List ℕ) → first (recordRefusals index rest) ≡ 0 → Passing index rest
+unfolding recordAt brief recordStep recordRefusals recordKind recordSpace
+passing index rest e =
+    let w = whole index rest e in
+    let n = none-holds (recordRefusals index rest) (omega arith) e in
+    record {
+      few = eqb-false _ _ (n .0);
+      bytes = w .bytes;
+      good = w .good;
+      wide = step-bytes rest _ _ (w .bytes);
+      read = rw (write-of, number-of (getD rest 2 0) (present rest (w .good))) refl;
+    }

@@ -1,0 +1,98 @@
+-- Laws of what the second pass writes.
+use Prim.Native.Nat.{ℕ, suc, _+_, _-_, _/_, _%_, _≤_, _<_}
+use mathlib.Core.Path.{_≡_, refl, _∙_}
+use mathlib.Core.List.{List, [], _∷_, _++_}
+use mathlib.Core.Bool.{true, false}
+use native.Mathlib.Omega.{arith}
+use native.Mathlib.Nat.{add-zero}
+use native.Mathlib.Numerals.{add-one}
+use lib.ListN.{length, take, drop, getD, set, length-take, length-drop}
+use lib.Seq.{sets, drop-cons}
+use borrow.Author.Tests.{le-ltb}
+use Rattle.lbp16.specs.Space.{Space, registers, eeprom, status, information, absent, spaceOf, row}
+use Rattle.lbp16.specs.Answer.{Answer, refusal}
+use Rattle.lbp16.specs.Word.{wordOf, outOfRange, written, listed}
+use Rattle.lbp16.specs.declared.word.Written.{Written}
+use Rattle.lbp16.specs.declared.word.Written.the-variants.{Word, Refused}
+use Rattle.lbp16.specs.declared.Refusal.{Refusal}
+use Rattle.packet.specs.Bytes.{bytesOf}
+use Rattle.cue.specs.Inside.{lastFields, framedAt, unlockedAt, headedAt, wrote, unlockBytes}
+use Rattle.cue.specs.declared.packer.Packer.{Packer}
+
+-- stores one behind the other are one store
+pub sets-append : (l : List ℕ) (i : ℕ) (vs ws : List ℕ) → sets (sets l i vs) (i + length vs) ws ≡ sets l i (vs ++ ws)
+sets-append l i [] ws = rw add-zero refl
+sets-append l i (v ∷ vs) ws =
+    let e : i + suc (length vs) ≡ suc i + length vs = omega arith in
+    rw e (sets-append (set l i v) (suc i) vs ws)
+
+pub put2-is : (l : List ℕ) (at v : ℕ) → v < 65536 → set (set l at (v % 256)) (at + 1) (v / 256) ≡ sets l at (bytesOf 2 v)
+unfolding bytesOf
+put2-is l at v h = let q : v / 256 % 256 ≡ v / 256 = omega arith in rw (q, add-one) refl
+
+pub put4-is : (l : List ℕ) (at a b : ℕ) → sets (sets l at (bytesOf 2 a)) (at + 2) (bytesOf 2 b) ≡ sets l at (bytesOf 2 a ++ bytesOf 2 b)
+unfolding bytesOf
+put4-is l at a b = sets-append l at (bytesOf 2 a) (bytesOf 2 b)
+
+pub unlock-is : (l : List ℕ) (at : ℕ)
+    → sets (sets l at (bytesOf 2 0xD901 ++ bytesOf 2 0x1A)) (at + 4) (bytesOf 2 0x5A02) ≡ sets l at unlockBytes
+unfolding bytesOf
+unlock-is l at = sets-append l at (0x01 ∷ 0xD9 ∷ 0x1A ∷ 0x00 ∷ []) (0x02 ∷ 0x5A ∷ [])
+
+-- a turn of the loop over an element's bytes
+pub element-step : (out rest : List ℕ) (at n i : ℕ) → i < n → 6 + i < length rest
+    → sets out (at + i) (take (n - i) (drop (6 + i) rest))
+    ≡ sets (set out (at + i) (getD rest (6 + i) 0)) (at + (i + 1)) (take (n - (i + 1)) (drop (6 + (i + 1)) rest))
+element-step out rest at n i h k =
+    let e : n - i ≡ suc (n - (i + 1)) = omega arith in
+    let f : at + (i + 1) ≡ suc (at + i) = omega arith in
+    let g : 6 + (i + 1) ≡ suc (6 + i) = omega arith in
+    rw (e, drop-cons rest (6 + i) 0 k, f, g) refl
+
+-- the last command's word is in range
+size-le : (s : Space) → row s .size ≤ 3
+unfolding row
+size-le registers = omega arith
+size-le eeprom = omega arith
+size-le status = omega arith
+size-le information = omega arith
+size-le absent = omega arith
+
+pub last-written : (q : Packer) → q .space ≤ 7 → q .count ≤ 127
+    → written (lastFields q) ≡ Answer.accepted (wordOf (lastFields q) ∷ [])
+unfolding written outOfRange lastFields
+last-written q h k =
+    rw (le-ltb 7 (q .space) h, le-ltb 3 (row (spaceOf (q .space)) .size) (size-le _), le-ltb 127 (q .count) k) refl
+
+module _ (q : Packer) (s : ℕ) (r : Written) (h : q .space ≤ 7) (k : q .count ≤ 127) (a : s ≡ row (spaceOf (q .space)) .size)
+    (e : listed r ≡ written (record {
+      write = q .write;
+      address = true;
+      info = false;
+      space = q .space;
+      size = s;
+      increment = true;
+      count = q .count;
+    })) where
+  word-answer : listed r ≡ Answer.accepted (wordOf (lastFields q) ∷ [])
+  unfolding lastFields
+  word-answer = rw a at e ∙ last-written q h k
+
+  pub word-is : (w : ℕ) → r ≡ Word w → w ≡ wordOf (lastFields q)
+  unfolding listed
+  word-is w d = let z : Answer.accepted (w ∷ []) ≡ Answer.accepted (wordOf (lastFields q) ∷ []) = rw d at word-answer in cc
+
+  pub word-not : (f : Refusal) → r ≡ Refused f → 0 ≡ wordOf (lastFields q)
+  unfolding listed
+  word-not f d =
+      let z : refusal f ≡ Answer.accepted (wordOf (lastFields q) ∷ []) = rw d at word-answer in
+      let y : _≡_ {A = ℕ} 0 1 = cc in
+      absurd (omega arith)
+
+-- the parts of a record's writing, one behind the other
+pub wrote-is : (q : Packer) (n : ℕ) (rest room : List ℕ) → 6 + n ≤ length rest
+    → sets (headedAt q (unlockedAt q (framedAt q room))) (q .end - n) (take n (drop 6 rest)) ≡ wrote q (take n (drop 6 rest)) room
+unfolding wrote
+wrote-is q n rest room h =
+    let e : length (take n (drop 6 rest)) ≡ n = rw (length-take, length-drop) (omega arith) in
+    rw e refl

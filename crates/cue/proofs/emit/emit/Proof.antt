@@ -1,0 +1,91 @@
+use Rattle.cue.proofs.emit.emit.Statement.{statement}
+use Rattle.cue.proofs.emit.emit.Tie as tie
+use Rattle.cue.proofs.emit.emit.Reads as reads
+use Rattle.cue.proofs.emit.emit.Lts as lts
+use Rattle.cue.proofs.emit.put_record.Reads as put-record-reads
+use Rattle.cue.proofs.packer.Packer.empty.Reads as empty-reads
+use Rattle.cue.proofs.packer.carried.Reads as carried-reads
+use Rattle.cue.proofs.packer.turned.Reads as turned-reads
+use Rattle.cue.proofs.records.record_at.Reads as record-at-reads
+use Rattle.cue.proofs.records.record_bytes.Reads as record-bytes-reads
+use borrow.Author.Needs.{needs}
+use lib.ListN.{length}
+use Rattle.cue.proofs.LoopLaws.{roomy}
+use Rattle.cue.proofs.EmitLaws.{Filled, filled-first, filled-last, put-placed, put-element, put-whole, put-shorter, filled-again}
+use Prim.Native.Nat.{_≤_}
+use Rattle.cue.proofs.EmitLaws.{filled-length}
+
+abbrev Inv-loop : tie.InvT-loop
+Inv-loop list out₀ rest₀ packer₀ out rest packer = Filled list rest out₀ out packer
+
+abbrev μ-loop : tie.MeasureT-loop
+μ-loop list out₀ rest₀ packer₀ out rest packer = length rest
+
+empty-requires : tie.Need-empty-requires Inv-loop μ-loop
+empty-requires c κs = search needs
+
+loop-holds : tie.Need-loop-holds Inv-loop μ-loop
+loop-holds c = filled-first _ _ _ (c .empty .ensures)
+
+record-at-requires : tie.Need-record-at-requires Inv-loop μ-loop
+record-at-requires c κs = search needs
+
+turned-requires : tie.Need-turned-requires Inv-loop μ-loop
+turned-requires c κs = roomy (c .before .before .loop .inv .held)
+
+carried-requires : tie.Need-carried-requires Inv-loop μ-loop
+carried-requires c κs = search needs
+
+put-record-requires : tie.Need-put-record-requires Inv-loop μ-loop
+put-record-requires c κs = let t = c .before .before in let b = t .before .before .before in (put-placed _ _ _ _ _ _ _ (b .before .before .before .before .pre) (b .loop .inv) (t .before .before .loop-test .taken) (t .before .record-at .ensures) (t .turned .ensures), c .carried .ensures .1, put-element _ _ _ _ _ _ _ (b .before .before .before .before .pre) (b .loop .inv) (t .before .before .loop-test .taken) (t .before .record-at .ensures) (t .turned .ensures) _ (c .carried .ensures .0))
+
+record-bytes-requires : tie.Need-record-bytes-requires Inv-loop μ-loop
+record-bytes-requires c κs = search needs
+
+whole : (c : tie.After-record-bytes Inv-loop μ-loop) → c .record-bytes .result ≤ length (c .before .before .before .before .before .before .before .before .before .loop .rest .now)
+whole c =
+    let t = c .before .before .before .before .before .before in
+    let b = t .before .before .before in
+    put-whole _ _ _ _ _ _ _ (b .before .before .before .before .pre) (b .loop .inv) (t .before .before .loop-test .taken) (t .before .record-at .ensures) (t .turned .ensures) _ (c .record-bytes .ensures .0)
+
+sub-rest : tie.Need-sub-rest Inv-loop μ-loop
+sub-rest c = whole c
+
+part-rest-start : tie.Need-part-rest-start Inv-loop μ-loop
+part-rest-start c = let h = whole c in search needs
+
+part-rest-end : tie.Need-part-rest-end Inv-loop μ-loop
+part-rest-end c = let h = whole c in search needs
+
+loop-less : tie.Need-loop-less Inv-loop μ-loop
+loop-less c = let t = c .before .before .before .before .before .before .before in let b = t .before .before .before in put-shorter _ _ _ _ _ _ _ (b .before .before .before .before .pre) (b .loop .inv) (t .before .before .loop-test .taken) (t .before .record-at .ensures) (t .turned .ensures) _ (c .before .record-bytes .ensures .0)
+
+loop-again : tie.Need-loop-again Inv-loop μ-loop
+loop-again c = let t = c .before .before .before .before .before .before .before in let b = t .before .before .before in filled-again _ _ _ _ _ _ _ (b .before .before .before .before .pre) (b .loop .inv) (t .before .before .loop-test .taken) (t .before .record-at .ensures) (t .turned .ensures) _ (c .before .record-bytes .ensures .0) _ _ (c .before .before .before .before .before .carried .ensures .0) (c .before .before .before .before .put-record .ensures)
+
+same-length : tie.Need-same-length Inv-loop μ-loop
+same-length c = filled-length _ _ _ _ _ (c .before .before .before .before .before .pre) (c .before .loop .inv) (c .loop-test .left)
+
+returns : tie.Need-returns Inv-loop μ-loop
+returns c = filled-last _ _ _ _ _ (c .before .loop .inv) (c .loop-test .left)
+
+pub emit-spec : {M : Type 1} → statement M
+emit-spec =
+    tie.close
+    (tie.spec
+    Inv-loop
+    μ-loop
+    empty-requires
+    loop-holds
+    record-at-requires
+    turned-requires
+    carried-requires
+    put-record-requires
+    record-bytes-requires
+    sub-rest
+    part-rest-start
+    part-rest-end
+    loop-less
+    loop-again
+    same-length
+    returns)

@@ -1,0 +1,44 @@
+use borrow.Author.Needs.{needs}
+use Rattle.cue.proofs.emit.put_record.Statement.{statement}
+use Rattle.cue.proofs.emit.put_record.Tie as tie
+use Rattle.cue.proofs.emit.put_record.Reads as reads
+use Rattle.cue.proofs.emit.put_record.Lts as lts
+use Rattle.cue.proofs.emit.put_element.Reads as put-element-reads
+use Rattle.cue.proofs.emit.put_frame.Reads as put-frame-reads
+use Rattle.cue.proofs.emit.put_head.Reads as put-head-reads
+use Rattle.cue.proofs.emit.put_unlock.Reads as put-unlock-reads
+use Rattle.cue.proofs.WriteLaws.{wrote-is}
+use denote.Ref.{now}
+
+put-frame-requires : tie.Need-put-frame-requires
+put-frame-requires c κs = search needs
+
+put-unlock-requires : tie.Need-put-unlock-requires
+put-unlock-requires c κs = search needs
+
+put-head-requires : tie.Need-put-head-requires
+put-head-requires c κs = search needs
+
+sub-put-element : tie.Need-sub-put-element
+sub-put-element c = search needs
+
+put-element-requires : tie.Need-put-element-requires
+put-element-requires c κs = search needs
+
+same-length : tie.Need-same-length
+same-length c = search needs
+
+returns : tie.Need-returns
+returns c = let b = c .before .before .before .before .before .before .before in let d = b .before .before .before .before in let g = d .before .before .before .before in let s = g .before .before .before .before in rw (c .before .before .put-element .ensures, b .put-head .ensures, d .put-unlock .ensures, g .put-frame .ensures) (wrote-is (s .args .q) (s .args .n) (now (s .args .rest)) (now (s .args .out)) (s .pre .2))
+
+pub put-record-spec : {M : Type 1} → statement M
+put-record-spec =
+    tie.close
+    (tie.spec
+    put-frame-requires
+    put-unlock-requires
+    put-head-requires
+    sub-put-element
+    put-element-requires
+    same-length
+    returns)

@@ -1,0 +1,39 @@
+use borrow.Author.Needs.{needs}
+use Rattle.cue.proofs.emit.put_unlock.Statement.{statement}
+use Rattle.cue.proofs.emit.put_unlock.Tie as tie
+use Rattle.cue.proofs.emit.put_unlock.Reads as reads
+use Rattle.cue.proofs.emit.put_unlock.Lts as lts
+use Rattle.cue.proofs.emit.put2.Reads as put2-reads
+use Rattle.cue.proofs.emit.put4.Reads as put4-reads
+use Rattle.cue.specs.Inside.{unlockedAt}
+use Rattle.cue.proofs.WriteLaws.{unlock-is}
+use native.Mathlib.Omega.{arith}
+use mathlib.Core.Path.{refl}
+use lib.Seq.{length-sets}
+
+sub-at : tie.Need-sub-at
+sub-at c = c .before .before .before .pre .unlock (c .before .if1 .taken)
+
+put4-requires : tie.Need-put4-requires
+put4-requires c κs = search needs
+
+add-put2 : tie.Need-add-put2
+add-put2 c = search needs
+
+put2-requires : tie.Need-put2-requires
+put2-requires c κs = let h = c .before .before .before .before .before .before .before .before .pre in let k = h .unlock (c .before .before .before .before .before .before .if1 .taken) in rw (c .before .before .before .put4 .ensures, length-sets) (omega (arith, h .word))
+
+same-length : tie.Need-same-length
+same-length c = search needs
+
+returns : tie.Need-returns
+unfolding unlockedAt
+returns c = rw (c .before .before .put2 .ensures, c .before .before .before .before .before .before .put4 .ensures, c .before .before .before .before .before .before .before .before .before .if1 .taken) (unlock-is _ _)
+
+returns-2 : tie.Need-returns-2
+unfolding unlockedAt
+returns-2 c = rw (c .if1 .left) refl
+
+pub put-unlock-spec : {M : Type 1} → statement M
+put-unlock-spec =
+    tie.close (tie.spec sub-at put4-requires add-put2 put2-requires same-length returns returns-2)

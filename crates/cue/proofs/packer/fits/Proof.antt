@@ -1,0 +1,13 @@
+use Rattle.cue.proofs.packer.fits.Statement.{statement}
+use Rattle.cue.proofs.packer.fits.Tie as tie
+use Rattle.cue.proofs.packer.fits.Reads as reads
+use Rattle.cue.proofs.packer.fits.Lts as lts
+use mathlib.Core.Path.{refl}
+use Rattle.cue.specs.Inside.{fits}
+
+returns : tie.Need-returns
+unfolding fits
+returns c = refl
+
+pub fits-spec : {M : Type 1} → statement M
+fits-spec = tie.close (tie.spec returns)

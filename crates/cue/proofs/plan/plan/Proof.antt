@@ -1,0 +1,94 @@
+use Rattle.cue.proofs.plan.plan.Statement.{statement}
+use Rattle.cue.proofs.plan.plan.Tie as tie
+use Rattle.cue.proofs.plan.plan.Reads as reads
+use Rattle.cue.proofs.plan.plan.Lts as lts
+use Rattle.cue.proofs.packer.Packer.empty.Reads as empty-reads
+use Rattle.cue.proofs.packer.turned.Reads as turned-reads
+use Rattle.cue.proofs.records.record_at.Reads as record-at-reads
+use Rattle.cue.proofs.records.record_bytes.Reads as record-bytes-reads
+use Rattle.cue.proofs.records.record_refusal.Reads as record-refusal-reads
+use borrow.Author.Needs.{needs}
+use native.Mathlib.Omega.{arith}
+use lib.ListN.{length}
+use Rattle.cue.proofs.LoopLaws.{Holding, held-first, roomy, plan-refused, plan-ended}
+use Rattle.cue.proofs.LoopLaws.{bytes-whole, held-again}
+use Rattle.cue.specs.Compile.{compileListed}
+use Prim.Native.Nat.{_≤_}
+use Rattle.cue.proofs.LoopLaws.{shorter}
+use Rattle.cue.specs.Inside.{none}
+
+abbrev Inv-loop : tie.InvT-loop
+Inv-loop list rest₀ index₀ packer₀ rest index packer = Holding list rest index packer
+
+abbrev μ-loop : tie.MeasureT-loop
+μ-loop list rest₀ index₀ packer₀ rest index packer = length rest
+
+empty-requires : tie.Need-empty-requires Inv-loop μ-loop
+empty-requires c κs = search needs
+
+loop-holds : tie.Need-loop-holds Inv-loop μ-loop
+loop-holds c = record { s = none; held = held-first _ _ (c .empty .ensures) }
+
+record-refusal-requires : tie.Need-record-refusal-requires Inv-loop μ-loop
+record-refusal-requires c κs = search needs
+
+returns : tie.Need-returns Inv-loop μ-loop
+unfolding compileListed
+returns c = plan-refused _ _ _ _ _ (c .before .before .before .loop .inv .held) _ (omega arith) (c .before .record-refusal .ensures) (c .if1 .taken)
+
+record-at-requires : tie.Need-record-at-requires Inv-loop μ-loop
+record-at-requires c κs = search needs
+
+turned-requires : tie.Need-turned-requires Inv-loop μ-loop
+turned-requires c κs = roomy (c .before .before .before .before .loop .inv .held)
+
+record-bytes-requires : tie.Need-record-bytes-requires Inv-loop μ-loop
+record-bytes-requires c κs = search needs
+
+whole : (c : tie.After-record-bytes Inv-loop μ-loop) → c .record-bytes .result ≤ length (c .before .before .before .before .before .before .loop .rest .now)
+whole c =
+    let b = c .before .before .before in
+    bytes-whole _ _ _ _ _ _ _ _ (b .before .before .before .loop .inv .held) (b .before .before .loop-test .taken) (b .before .record-refusal .ensures) (b .if1 .left) (c .before .before .record-at .ensures) (c .record-bytes .ensures .0)
+
+sub-rest : tie.Need-sub-rest Inv-loop μ-loop
+sub-rest c = whole c
+
+part-rest-start : tie.Need-part-rest-start Inv-loop μ-loop
+part-rest-start c = let h = whole c in search needs
+
+part-rest-end : tie.Need-part-rest-end Inv-loop μ-loop
+part-rest-end c = let h = whole c in search needs
+
+add-index : tie.Need-add-index Inv-loop μ-loop
+add-index c = let h = c .before .before .before .before .before .before .before .loop .inv .held .few in omega arith
+
+loop-less : tie.Need-loop-less Inv-loop μ-loop
+loop-less c = let b = c .before in let d = b .before .before .before .before .before in shorter _ _ _ _ _ _ _ _ (d .before .loop .inv .held) (d .loop-test .taken) (b .before .before .before .before .record-refusal .ensures) (b .before .before .before .if1 .left) (b .before .before .record-at .ensures) (b .record-bytes .ensures .0)
+
+loop-again : tie.Need-loop-again Inv-loop μ-loop
+loop-again c = let b = c .before in let d = b .before .before .before .before .before in record { s = _; held = held-again _ _ _ _ _ _ _ _ (d .before .loop .inv .held) (d .loop-test .taken) (b .before .before .before .before .record-refusal .ensures) (b .before .before .before .if1 .left) (b .before .before .record-at .ensures) (b .record-bytes .ensures .0) _ (b .before .turned .ensures) }
+
+returns-2 : tie.Need-returns-2 Inv-loop μ-loop
+unfolding compileListed
+returns-2 c = plan-ended _ _ _ _ _ (c .before .loop .inv .held) (c .loop-test .left)
+
+pub plan-spec : {M : Type 1} → statement M
+plan-spec =
+    tie.close
+    (tie.spec
+    Inv-loop
+    μ-loop
+    empty-requires
+    loop-holds
+    record-refusal-requires
+    returns
+    record-at-requires
+    turned-requires
+    record-bytes-requires
+    sub-rest
+    part-rest-start
+    part-rest-end
+    add-index
+    loop-less
+    loop-again
+    returns-2)

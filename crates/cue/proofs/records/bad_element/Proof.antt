@@ -1,0 +1,45 @@
+use borrow.Author.Needs.{needs}
+use Rattle.cue.proofs.records.bad_element.Statement.{statement}
+use Rattle.cue.proofs.records.bad_element.Tie as tie
+use Rattle.cue.proofs.records.bad_element.Reads as reads
+use Rattle.cue.proofs.records.bad_element.Lts as lts
+use Rattle.cue.proofs.records.record_at.Reads as record-at-reads
+use Rattle.lbp16.proofs.space.is_absent.Reads as is-absent-reads
+use Rattle.lbp16.proofs.space.row_of.Reads as row-of-reads
+use Rattle.lbp16.proofs.SpaceLaws.{element-nonzero, element-le}
+use Rattle.cue.proofs.ReadingLaws.{bad-element-is}
+use native.Mathlib.Omega.{arith}
+use Prim.Native.Nat.{_≤_}
+
+record-at-requires : tie.Need-record-at-requires
+record-at-requires c κs = search needs
+
+row-of-requires : tie.Need-row-of-requires
+row-of-requires c κs = search needs
+
+cast-address : tie.Need-cast-address
+cast-address c = search needs
+
+is-absent-requires : tie.Need-is-absent-requires
+is-absent-requires c κs = search needs
+
+rem-result : tie.Need-rem-result
+rem-result c = rw (c .before .before .before .row-of .ensures) (element-nonzero _)
+
+add-result : tie.Need-add-result
+add-result c = let h : c .before .before .before .before .row-of .result .element ≤ 4 = rw (c .before .before .before .before .row-of .ensures) (element-le _) in omega arith
+
+returns : tie.Need-returns
+returns c = let b = c .before .before .before .before .before .before in simp (b .is-absent .ensures, b .before .before .row-of .ensures, b .before .before .before .record-at .ensures, bad-element-is)
+
+pub bad-element-spec : {M : Type 1} → statement M
+bad-element-spec =
+    tie.close
+    (tie.spec
+    record-at-requires
+    row-of-requires
+    cast-address
+    is-absent-requires
+    rem-result
+    add-result
+    returns)

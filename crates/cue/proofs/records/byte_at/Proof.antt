@@ -1,0 +1,20 @@
+use borrow.Author.Needs.{needs}
+use Rattle.cue.proofs.records.byte_at.Statement.{statement}
+use Rattle.cue.proofs.records.byte_at.Tie as tie
+use Rattle.cue.proofs.records.byte_at.Reads as reads
+use Rattle.cue.proofs.records.byte_at.Lts as lts
+use mathlib.Core.Path.{sym}
+use lib.ListN.{List·getD-eq-default}
+use denote.Ref.{now}
+
+returns : tie.Need-returns
+returns c = sym (List·getD-eq-default (now (c .before .args .s)) 0 (c .if1 .taken))
+
+shared-slice-read-result : tie.Need-shared-slice-read-result
+shared-slice-read-result c = search needs
+
+returns-2 : tie.Need-returns-2
+returns-2 c = search needs
+
+pub byte-at-spec : {M : Type 1} → statement M
+byte-at-spec = tie.close (tie.spec returns shared-slice-read-result returns-2)

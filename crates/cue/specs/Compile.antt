@@ -1,0 +1,45 @@
+-- Compiling a cue list into lent output room.
+use Prim.Native.Nat.{ℕ}
+use mathlib.Core.List.{List, [], _∷_, _++_, map}
+use mathlib.Core.Bool.{Bool, true, false}
+use lib.ListN.{length, drop}
+use lib.Dec.{ltb}
+use Rattle.lbp16.specs.Answer.{Answer, refusal}
+use Rattle.packet.specs.Step.{Step}
+use Rattle.cue.specs.Records.{Listed, refused, records, recordsOf}
+use Rattle.cue.specs.Packing.{packets, packetBytes}
+use Rattle.cue.specs.Output.{outputOf}
+use Rattle.cue.specs.declared.CompileAnswer.{CompileAnswer}
+
+-- the packets' bytes, in order, and the whole output
+unfoldable pub packed : List Step → List (List ℕ)
+packed xs = map packetBytes (packets xs)
+
+unfoldable pub output : List Step → List ℕ
+output xs = outputOf (packed xs)
+
+-- All that a compilation answers and leaves.
+pub record Compiled : Type 0 where
+  pub answer : Answer
+  pub room : List ℕ
+
+abbrev pub pickCompiled : Bool → Compiled → Compiled → Compiled
+pickCompiled true a b = a
+pickCompiled false a b = b
+
+-- refusal 26, or the output at the front of the room
+unfoldable pub compiledTo : Listed → List ℕ → Compiled
+compiledTo (refused n i) room = record { answer = Answer.refused n i; room = room }
+compiledTo (records xs) room =
+    let bytes = length (output xs) in
+    pickCompiled (ltb (length room) bytes)
+    (record { answer = Answer.refused 26 bytes; room = room })
+    (record { answer = Answer.accepted (bytes ∷ length (packed xs) ∷ []); room = output xs ++ drop bytes room })
+
+unfoldable pub compiled : List ℕ → List ℕ → Compiled
+compiled list room = compiledTo (recordsOf list) room
+
+-- an answer of the code as the papers list it
+unfoldable pub compileListed : CompileAnswer → Answer
+compileListed (CompileAnswer.Compiled bytes count) = Answer.accepted (bytes ∷ count ∷ [])
+compileListed (CompileAnswer.Refused r) = refusal r

@@ -1,0 +1,174 @@
+// The packing rule, on what is known of the packet that is open.
+use crate::records::Record;
+use lbp16::space;
+use packet::command::LIMIT;
+ghost use mathlib.Core.Path.{_≡_};
+ghost use mathlib.Core.Bool.{false};
+ghost use Prim.Native.Nat.{_≤_};
+ghost use Rattle.packet.specs.Rules.{pickNumber};
+ghost use Rattle.cue.specs.Inside.{Progress, summary, carriedBy, answeredBy, agrees, fits, joinedBy, startedBy, closedBy, turnedBy, Roomy};
+
+// The last command's kind, space, address and count; the packet's bytes, its reply's, and whether the unlock is open in
+// it; `unlock`: the last record put an unlock command before its own. `frame`, `word` and `end` are places in the
+// output: of the packet's mark, of the last command's word, and past the packet. `packets` counts this one too.
+pub struct Packer {
+    pub write: bool,
+    pub space: u8,
+    pub address: u16,
+    pub count: u8,
+    pub packet: usize,
+    pub reply: usize,
+    pub unlocked: bool,
+    pub unlock: bool,
+    pub frame: usize,
+    pub word: usize,
+    pub end: usize,
+    pub packets: usize,
+}
+
+impl Packer {
+    // Before the first record: as after a packet that has no room left.
+    pub fn empty() -> Self
+        ensures { λ r. ⌜ r ≡ summary Progress.none false ⌝ }
+    {
+        Packer {
+            write: false,
+            space: 0,
+            address: 0,
+            count: 127,
+            packet: 1473,
+            reply: 0,
+            unlocked: false,
+            unlock: false,
+            frame: 0,
+            word: 0,
+            end: 0,
+            packets: 0,
+        }
+    }
+}
+
+// The bytes of a record's element, in its packet and in the reply.
+pub fn carried(r: Record) -> usize
+    ensures { λ n. ⌜ (n ≡ carriedBy r) × (n ≤ 4) ⌝ }
+{
+    if r.write {
+        space::row_of(r.space).element as usize
+    } else {
+        0
+    }
+}
+
+fn answered(r: Record) -> usize
+    ensures { λ n. ⌜ (n ≡ answeredBy r) × (n ≤ 4) ⌝ }
+{
+    if r.write {
+        0
+    } else {
+        space::row_of(r.space).element as usize
+    }
+}
+
+// (a) of the packing rule, apart from the limits.
+fn agrees(p: Packer, r: Record) -> bool
+    requires { ⌜ Roomy p ⌝ }
+    ensures { λ b. ⌜ b ≡ agrees p r ⌝ }
+{
+    let element = space::row_of(p.space).element;
+    let next = p.address as u32 + p.count as u32 * element;
+    (p.write == r.write) & (p.space == r.space) & (r.address as u32 == next) & (p.count < 127)
+}
+
+fn fits(p: Packer) -> bool
+    ensures { λ b. ⌜ b ≡ fits p ⌝ }
+{
+    (p.packet <= LIMIT) & (p.reply <= LIMIT)
+}
+
+fn joined(p: Packer, r: Record) -> Packer
+    requires { ⌜ Roomy p ⌝ }
+    ensures { λ q. ⌜ q ≡ joinedBy p r ⌝ }
+{
+    let bytes = carried(r);
+    Packer {
+        write: p.write,
+        space: p.space,
+        address: p.address,
+        count: p.count + 1,
+        packet: p.packet + bytes,
+        reply: p.reply + answered(r),
+        unlocked: p.unlocked,
+        unlock: false,
+        frame: p.frame,
+        word: p.word,
+        end: p.end + bytes,
+        packets: p.packets,
+    }
+}
+
+fn unlock_bytes(need: bool) -> usize
+    ensures { λ n. ⌜ (n ≡ pickNumber need 6 0) × (n ≤ 6) ⌝ }
+{
+    if need { 6 } else { 0 }
+}
+
+// (b): a new command in the packet, where needed behind the unlock.
+fn started(p: Packer, r: Record) -> Packer
+    requires { ⌜ (p .packet ≤ 1473) × (p .reply ≤ 1472) × (p .end ≤ 1800004) ⌝ }
+    ensures { λ q. ⌜ q ≡ startedBy p r ⌝ }
+{
+    let need = r.write & space::row_of(r.space).locked & !p.unlocked;
+    let unlock = unlock_bytes(need);
+    let bytes = carried(r);
+    Packer {
+        write: r.write,
+        space: r.space,
+        address: r.address,
+        count: 1,
+        packet: p.packet + unlock + 4 + bytes,
+        reply: p.reply + answered(r),
+        unlocked: p.unlocked | need,
+        unlock: need,
+        frame: p.frame,
+        word: p.end + unlock,
+        end: p.end + unlock + 4 + bytes,
+        packets: p.packets,
+    }
+}
+
+// (c): behind this packet an empty one.
+fn closed(p: Packer) -> Packer
+    requires { ⌜ Roomy p ⌝ }
+    ensures { λ q. ⌜ q ≡ closedBy p ⌝ }
+{
+    Packer {
+        write: p.write,
+        space: p.space,
+        address: p.address,
+        count: p.count,
+        packet: 0,
+        reply: 0,
+        unlocked: false,
+        unlock: false,
+        frame: p.end,
+        word: p.word,
+        end: p.end + 4,
+        packets: p.packets + 1,
+    }
+}
+
+// One record more.
+pub(crate) fn turned(p: Packer, r: Record) -> Packer
+    requires { ⌜ Roomy p ⌝ }
+    ensures { λ q. ⌜ q ≡ turnedBy p r ⌝ }
+{
+    let join = joined(p, r);
+    if agrees(p, r) & fits(join) {
+        return join;
+    }
+    let start = started(p, r);
+    if fits(start) {
+        return start;
+    }
+    started(closed(p), r)
+}

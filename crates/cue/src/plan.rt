@@ -1,0 +1,37 @@
+// The first pass: every record is checked and packed, and nothing is written.
+use crate::CompileAnswer;
+use crate::packer;
+use crate::packer::Packer;
+use crate::records;
+use lbp16::Refusal;
+ghost use mathlib.Core.Path.{_≡_};
+ghost use Rattle.cue.specs.Records.{recordsOf};
+ghost use Rattle.cue.specs.Compile.{compileListed};
+ghost use Rattle.cue.specs.Inside.{Progress, planned, planAnswer};
+
+// The bytes and packets that the list needs, or the refusal of its earliest bad record.
+pub fn plan(list: &[u8]) -> CompileAnswer
+    ensures { λ r. ⌜ compileListed r ≡ planAnswer (planned Progress.none (recordsOf (now (list .entry)))) ⌝ }
+{
+    let mut rest = list;
+    let mut index: usize = 0;
+    let mut packer = Packer::empty();
+    while rest.len() != 0 {
+        let number = records::record_refusal(rest, index);
+        if number != 0 {
+            return CompileAnswer::Refused(Refusal {
+                number,
+                place: index as u64,
+            });
+        }
+        let r = records::record_at(rest);
+        packer = packer::turned(packer, r);
+        let n = records::record_bytes(r.write);
+        rest = &rest[n..];
+        index += 1;
+    }
+    CompileAnswer::Compiled {
+        bytes: packer.end,
+        packets: packer.packets,
+    }
+}
