@@ -19,25 +19,18 @@ use Rattle.packet.specs.Command.{elements}
 use Rattle.packet.proofs.ByteLaws.{length-bytes}
 use Rattle.packet.proofs.StoreLaws.{getD-sets}
 use Rattle.card.specs.Spi.{bytesOfWords, wordsOfBytes}
-use Rattle.card.specs.Cells.{Within, cells, filled}
+use Rattle.card.specs.Cells.{Cells, cells, filled}
 use Rattle.card.proofs.ElementLaws.{length-part}
+use Rattle.card.proofs.StepBlockLaws.{within-store}
 
 -- The cells are the burst's steps.
-pub steps-within : (k : Kind) (n a d : ℕ) (bs : List ℕ) → any pastEnd (elements k registers n a d bs) ≡ false → Within n a d
-unfolding Within any pastEnd elements row
-steps-within k zero a d bs e = tt
-steps-within k (suc n) a d bs e =
-    let (here, later) = or-false _ _ e in
-    (ltb-false _ _ here, steps-within k n (a + d) d (drop (carried k registers) bs) later)
+pub steps-within : (k : Kind) (n a d : ℕ) (bs : List ℕ) → any pastEnd (elements k registers n a d bs) ≡ false → Cells n a d
+unfolding row
+steps-within k n a d bs e = rw zero-add at (within-store k registers n a d 65536 bs e (omega arith))
 
-pub reads-keep : (n a d : ℕ) (bs store : List ℕ) → storeAfter (elements read registers n a d bs) store ≡ store
-unfolding storeAfter elements after stored
-reads-keep zero a d bs store = refl
-reads-keep (suc n) a d bs store = reads-keep n (a + d) d (drop (carried read registers) bs) store
-
-pub reads-cells : (n a d : ℕ) (bs store : List ℕ) → length store ≡ storeBytes → Within n a d
+pub reads-cells : (n a d : ℕ) (bs store : List ℕ) → length store ≡ storeBytes → Cells n a d
     → wordsOfBytes n (valuesRead (elements read registers n a d bs) store) ≡ cells n a d store
-unfolding wordsOfBytes valuesRead elements seen after stored at answered row cells Within
+unfolding wordsOfBytes valuesRead elements seen after stored at answered row cells
 reads-cells zero a d bs store l w = refl
 reads-cells (suc n) a d bs store l w =
     let four : length (take 4 (drop a store)) ≡ 4 = length-part 4 store a (omega arith) in
@@ -55,26 +48,25 @@ writes-fill (w ∷ ws) a d store =
     (writes-fill ws (a + d) d (sets store a (bytesOf 4 w)))
 
 -- they leave the other spaces as they are
-pub filled-outside : (ws : List ℕ) (a d : ℕ) (store : List ℕ) (i : ℕ) → Within (length ws) a d → 65536 ≤ i
+pub filled-outside : (ws : List ℕ) (a d : ℕ) (store : List ℕ) (i : ℕ) → Cells (length ws) a d → 65536 ≤ i
     → getD (filled ws a d store) i 0 ≡ getD store i 0
-unfolding filled Within
+unfolding filled
 filled-outside [] a d store i w h = refl
 filled-outside (x ∷ ws) a d store i w h =
     filled-outside ws (a + d) d (sets store a (bytesOf 4 x)) i (w .1) h
     ∙ getD-sets store i a (bytesOf 4 x) 0 (inr (rw length-bytes (omega arith)))
 
-within-next : (n i a d : ℕ) → i < n → Within (n - i) a d → (a + 4 ≤ 65536) × Within (n - (i + 1)) (a + d) d
-unfolding Within
+within-next : (n i a d : ℕ) → i < n → Cells (n - i) a d → (a + 4 ≤ 65536) × Cells (n - (i + 1)) (a + d) d
 within-next n i a d h w = let e : n - i ≡ suc (n - (i + 1)) = omega arith in rw e at w
 
 -- Before turn i of the loop that reads: the cells read so far stand in the answer, after its first word.
 pub record Reading (store : List ℕ) (from stride : ℕ) (start answer : List ℕ) (at i : ℕ) : Type 0 where
   pub high : i ≤ length answer
   pub same : length answer ≡ length start
-  pub inside : Within (length answer - i) at stride
+  pub inside : Cells (length answer - i) at stride
   pub done : take i answer ++ cells (length answer - i) at stride store ≡ 0 ∷ cells (length start - 1) from stride store
 
-pub reading-starts : (store answer : List ℕ) (from stride : ℕ) → 1 ≤ length answer → Within (length answer - 1) from stride
+pub reading-starts : (store answer : List ℕ) (from stride : ℕ) → 1 ≤ length answer → Cells (length answer - 1) from stride
     → Reading store from stride (set answer 0 0) (set answer 0 0) from 1
 reading-starts store [] from stride h w = absurd (omega arith)
 reading-starts store (x ∷ xs) from stride h w =
@@ -113,12 +105,12 @@ pub record Writing (words store₀ : List ℕ) (from stride : ℕ) (start store 
   pub same : length answer ≡ length start
   pub room : length answer ≡ length words
   pub whole : length store ≡ storeBytes
-  pub inside : Within (length words - i) at stride
+  pub inside : Cells (length words - i) at stride
   pub done : filled (drop i words) at stride store ≡ filled (drop 1 words) from stride store₀
   pub clear : take i answer ≡ replicate i 0
 
 pub writing-starts : (words store answer : List ℕ) (from stride : ℕ) → 1 ≤ length words → length answer ≡ length words
-    → length store ≡ storeBytes → Within (length words - 1) from stride
+    → length store ≡ storeBytes → Cells (length words - 1) from stride
     → Writing words store from stride (set answer 0 0) store (set answer 0 0) from 1
 writing-starts words store [] from stride h l s w = absurd (omega arith)
 writing-starts words store (x ∷ xs) from stride h l s w =

@@ -10,7 +10,7 @@ use lib.ListN.{length, drop, getD, replicate, length-drop, length-replicate}
 use lib.Dec.{eqb, ltb, eqb·suc-zero}
 use borrow.Author.Tests.{eqb-true, eqb-false, eq-eqb, ne-eqb, ltb-false, not-false}
 use Rattle.lbp16.proofs.BoolLaws.{or-false}
-use Rattle.lbp16.proofs.WordLaws.{bit-le}
+use Rattle.lbp16.proofs.WordLaws.{bit-le, bit-read, bit-written}
 use Rattle.lbp16.specs.Answer.{Answer}
 use Rattle.lbp16.specs.Space.{registers, row, storeBytes}
 use Rattle.lbp16.specs.Word.{bit}
@@ -24,8 +24,9 @@ use Rattle.card.specs.declared.spi.Header.{Header}
 use Rattle.card.specs.Spi.{readCommand, writeCommand, headerOf, headerWord, otherCommand, answerOf, headerWritten}
 use Rattle.card.specs.Spi.{firstWord, bytesOfWords, wordsOfBytes, burstKind, burstSteps, burstRefusals, burstWords}
 use Rattle.card.specs.Spi.{burstOutcome, runBurst}
-use Rattle.card.specs.Cells.{Within, cells, filled}
-use Rattle.card.proofs.CellLaws.{steps-within, reads-keep, reads-cells, writes-fill, filled-outside}
+use Rattle.card.specs.Cells.{Cells, cells, filled}
+use Rattle.card.proofs.CellLaws.{steps-within, reads-cells, writes-fill, filled-outside}
+use Rattle.card.proofs.StepBlockLaws.{reads-keep}
 
 -- Headers and words are inverse both ways.
 
@@ -33,19 +34,6 @@ pub record InRange (h : Header) : Type 0 where
   pub address : h .address < 65536
   pub command : h .command < 16
   pub count : h .count < 128
-
-bit-read : (b : Bool) → eqb (bit b) 1 ≡ b
-unfolding bit
-bit-read false = refl
-bit-read true = refl
-
-bit-written : (n : ℕ) → n ≤ 1 → bit (eqb n 1) ≡ n
-unfolding bit
-bit-written n h = go (eqb n 1) refl
-  where
-    go : (b : Bool) → eqb n 1 ≡ b → bit b ≡ n
-    go true e = let q : n ≡ 1 = eqb-true n 1 e in omega arith
-    go false e = let q = eqb-false n 1 e in omega arith
 
 pub header-of-word : (h : Header) → InRange h → headerOf (headerWord h) ≡ h
 unfolding headerWord headerOf
@@ -217,7 +205,7 @@ module _ (words store room : List ℕ) (h : Header) (stride : ℕ) (ready : Read
   pub ready-lengths : (length store ≡ storeBytes) × (1 ≤ length words) × (length room ≡ length words)
   ready-lengths = (ready-sound .whole, omega (arith, ready-count), ready-sound .fits)
 
-  pub ready-within : Within (length words - 1) (h .address) stride
+  pub ready-within : Cells (length words - 1) (h .address) stride
   unfolding burstSteps
   ready-within =
       let n : length words - 1 ≡ h .count = omega (arith, ready-count) in
@@ -231,7 +219,7 @@ module _ (words store room : List ℕ) (h : Header) (stride : ℕ) (ready : Read
   burst-reads k after e =
       let n : length room - 1 ≡ h .count = omega (arith, ready-count, ready-sound .fits) in
       let m : length words - 1 ≡ h .count = omega (arith, ready-count) in
-      let w : Within (h .count) (h .address) stride = rw m at ready-within in
+      let w : Cells (h .count) (h .address) stride = rw m at ready-within in
       let c = reads-cells (h .count) (h .address) stride (bytesOfWords (drop 1 words)) store (ready-sound .whole) w in
       rw (ready .passed, ← ready .header, ne-eqb _ _ k, ← ready .apart, reads-keep, c, e, n)
 

@@ -1,14 +1,14 @@
 -- The inside of private functions' contracts: a burst's cells one after the other. Laws tie them to `runBurst`.
-use Prim.Native.Nat.{ℕ, zero, suc, _+_, _≤_}
+use Prim.Native.Nat.{ℕ, zero, suc, _+_}
 use mathlib.Core.List.{List, [], _∷_}
 use lib.ListN.{take, drop}
 use lib.Seq.{sets}
 use Rattle.packet.specs.Bytes.{number, bytesOf}
+use Rattle.card.specs.Inside.{Within}
 
 -- n cells from address a on, d apart, end within space 0
-unfoldable pub Within : ℕ → ℕ → ℕ → Type 0
-Within zero a d = Unit
-Within (suc n) a d = (a + 4 ≤ 65536) × Within n (a + d) d
+abbrev pub Cells : ℕ → ℕ → ℕ → Type 0
+Cells n a d = Within n a d 4 65536
 
 -- their numbers
 unfoldable pub cells : ℕ → ℕ → ℕ → List ℕ → List ℕ

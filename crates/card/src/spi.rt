@@ -1,7 +1,9 @@
 // SPI headers, and one SPI burst on space 0 of the store.
 use crate::element;
+use crate::run::STORE_BYTES;
 use lbp16::Refusal;
 use lbp16::pointer::Pointer;
+use packet::rule;
 ghost use mathlib.Core.Path.{_≡_};
 ghost use mathlib.Core.Bool.{_||_};
 ghost use mathlib.Core.List.{List, _∷_};
@@ -11,15 +13,13 @@ ghost use Rattle.lbp16.specs.Space.{registers, storeBytes};
 ghost use Rattle.lbp16.specs.Word.{bit};
 ghost use Rattle.packet.specs.Rules.{first, pickNumber, misaligned, pastEnd, any};
 ghost use Rattle.card.specs.Spi.{headerOf, headerWritten, headerListed, otherCommand, firstWord, burstSteps, burstRefusals, runBurst, burstListed};
-ghost use Rattle.card.specs.Cells.{Within, cells, filled};
+ghost use Rattle.card.specs.Cells.{Cells, cells, filled};
 
 const READ: u8 = 0xA;
 
 const WRITE: u8 = 0xB;
 
 // The bytes of the whole store.
-const STORE: usize = 65728;
-
 // The fields of a header word, high bits first; the four lowest bits are unused.
 pub struct Header {
     pub address: u16,
@@ -50,12 +50,6 @@ pub fn header_of(word: u32) -> Header
     }
 }
 
-fn first_of(test: bool, number: u32, later: u32) -> u32
-    ensures { λ r. ⌜ r ≡ pickNumber test number later ⌝ }
-{
-    if test { number } else { later }
-}
-
 fn other_command(h: Header) -> bool
     ensures { λ r. ⌜ r ≡ otherCommand h ⌝ }
 {
@@ -72,8 +66,8 @@ fn increment_bit(h: Header) -> u32
 pub fn header_word(h: Header) -> HeaderWritten
     ensures { λ r. ⌜ headerListed r ≡ headerWritten h ⌝ }
 {
-    let number = first_of((h.count == 0) | (127 < h.count), 33, 0);
-    let number = first_of(other_command(h), 32, number);
+    let number = rule::first_of((h.count == 0) | (127 < h.count), 33, 0);
+    let number = rule::first_of(other_command(h), 32, number);
     if number != 0 {
         return HeaderWritten::Refused(Refusal { number, place: 0 });
     }
@@ -119,17 +113,17 @@ fn refusal_of(words: &[u32], store: &[u8], answer: &[u32]) -> u32
     let h = header_of(first_word(words));
     let sent = words.len();
     let promised = 1 + h.count as usize;
-    let r = first_of(out_of_place(h), 35, 0);
-    let r = first_of(sent != promised, 34, r);
-    let r = first_of(h.count == 0, 33, r);
-    let r = first_of(other_command(h), 32, r);
-    let r = first_of(sent == 0, 31, r);
-    first_of((store.len() != STORE) | (answer.len() != sent), 1, r)
+    let r = rule::first_of(out_of_place(h), 35, 0);
+    let r = rule::first_of(sent != promised, 34, r);
+    let r = rule::first_of(h.count == 0, 33, r);
+    let r = rule::first_of(other_command(h), 32, r);
+    let r = rule::first_of(sent == 0, 31, r);
+    rule::first_of((store.len() != STORE_BYTES) | (answer.len() != sent), 1, r)
 }
 
 // The cells from `from` on follow the first word of the answer, which is 0.
 fn read_cells(store: &[u8], from: usize, stride: usize, answer: &mut [u32])
-    requires { ⌜ (length (now store) ≡ storeBytes) × (1 ≤ length (now answer)) × (stride ≤ 4) × Within (length (now answer) - 1) from stride ⌝ }
+    requires { ⌜ (length (now store) ≡ storeBytes) × (1 ≤ length (now answer)) × (stride ≤ 4) × Cells (length (now answer) - 1) from stride ⌝ }
     ensures { λ r. ⌜ now (answer .exit) ≡ 0 ∷ cells (length (now (answer .entry)) - 1) from stride (now (store .entry)) ⌝ }
 {
     answer[0] = 0;
@@ -144,7 +138,7 @@ fn read_cells(store: &[u8], from: usize, stride: usize, answer: &mut [u32])
 
 // The words after the header go into the cells from `from` on; all words of the answer are 0.
 fn write_cells(words: &[u32], store: &mut [u8], from: usize, stride: usize, answer: &mut [u32])
-    requires { ⌜ (length (now store) ≡ storeBytes) × (1 ≤ length (now words)) × (length (now answer) ≡ length (now words)) × (stride ≤ 4) × Within (length (now words) - 1) from stride ⌝ }
+    requires { ⌜ (length (now store) ≡ storeBytes) × (1 ≤ length (now words)) × (length (now answer) ≡ length (now words)) × (stride ≤ 4) × Cells (length (now words) - 1) from stride ⌝ }
     ensures { λ r. ⌜ now (store .exit) ≡ filled (drop 1 (now (words .entry))) from stride (now (store .entry)) ⌝ }
     ensures { λ r. ⌜ now (answer .exit) ≡ replicate (length (now (answer .entry))) 0 ⌝ }
 {

@@ -1,7 +1,6 @@
 -- Laws of the definitions in specs/, the proof of demand 3, and the compiler's loops.
 pub mod Examples
 pub mod Relations
-pub mod FirstLaws
 pub mod RecordLaws
 pub mod PacketLaws
 pub mod PackingLaws

@@ -21,6 +21,7 @@ use Rattle.cue.specs.Records.{badElement, recordBytes}
 use Rattle.cue.specs.Packing.{Command, spaceNumber, joinAll, packetBytes, elementSteps, commandSteps, packetSteps}
 use Rattle.cue.specs.Packing.{unlockCommand, keepsLimits, Open, commandsOf, sameKind, joined, joins, needsUnlock}
 use Rattle.cue.specs.Packing.{pickCommands, started, Turn, turnBy, turn, packFrom, packets}
+use Rattle.cue.proofs.RecordLaws.{good-element}
 use Rattle.cue.proofs.Relations.{Wide, Sound, SoundAll, Mixed, Good}
 use Rattle.cue.proofs.PacketLaws.{packet-bytes-append, packet-steps-append, command-length, element-steps-append}
 use Rattle.cue.proofs.PacketLaws.{wide-append, mixed-append, sound-append}
@@ -47,15 +48,9 @@ record Element (x : Step) : Type 0 where
   wide : length (x .bytes) ≡ carried (x .kind) (x .space)
 
 element : (x : Step) → badElement x ≡ false → length (x .bytes) ≡ carried (x .kind) (x .space) → Element x
-unfolding badElement
 element x e w =
-    let a = isAbsent (x .space) in
-    let b = misaligned (x .space) (x .address) in
-    let p = or-false (a || b || pastEnd x || barred x) (namesUnlock x) e in
-    let q = or-false (a || b || pastEnd x) (barred x) (p .0) in
-    let r = or-false (a || b) (pastEnd x) (q .0) in
-    let s = or-false a b (r .0) in
-    record { present = s .0; aligned = s .1; inside = r .1; allowed = q .1; wide = w }
+    let (present, aligned, inside, allowed, other) = good-element x e in
+    record { present = present; aligned = aligned; inside = inside; allowed = allowed; wide = w }
 
 -- what rule (a) asks of a record that joins
 pub record Joining (o : Open) (x : Step) : Type 0 where

@@ -3,27 +3,40 @@ use Prim.Native.Nat.{ℕ, zero, suc, _+_, _≤_}
 use mathlib.Core.Path.{_≡_, refl}
 use mathlib.Core.Logic.{_≢_}
 use mathlib.Core.List.{List, [], _∷_}
-use mathlib.Core.Bool.{false, not, _&&_}
+use mathlib.Core.Bool.{false, not, _&&_, _||_}
 use native.Mathlib.Omega.{arith}
 use lib.Dec.{eqb}
 use lib.ListN.{length, take, drop, length-take, length-drop}
 use borrow.Author.Tests.{ltb-false, eqb-false}
 use Rattle.lbp16.proofs.BoolLaws.{or-false}
 use Rattle.lbp16.proofs.SpaceLaws.{element-le}
-use Rattle.lbp16.specs.Space.{Space}
-use Rattle.packet.specs.Step.{Kind, read, write, Step, carried}
-use Rattle.packet.specs.Rules.{first}
-use Rattle.packet.proofs.RuleLaws.{FirstHolds, first-holds, Rising, first-within, Lowest, first-lowest}
+use Rattle.lbp16.specs.Space.{Space, isAbsent}
+use Rattle.packet.specs.Step.{Kind, read, write, Step, carried, namesUnlock}
+use Rattle.packet.specs.Rules.{first, misaligned, pastEnd, barred}
+use Rattle.packet.proofs.RuleLaws.{none-holds, FirstHolds, first-holds, Rising, first-within, Lowest, first-lowest}
 use Rattle.cue.specs.Records.{Listed, refused, records, recordsOf, recordsFrom, recordRefusals, recordStep}
 use Rattle.cue.specs.Records.{recordKind, recordBytes, valueBytes, badElement, markAt, readMark, writeMark}
 use Rattle.cue.specs.Records.{withRecord, listedAt, mostRecords}
-use Rattle.cue.proofs.FirstLaws.{first-none}
 use Rattle.cue.proofs.Relations.{Good}
 
 -- the bytes of these records in a list
 unfoldable pub listBytes : List Step → ℕ
 listBytes [] = 0
 listBytes (x ∷ xs) = recordBytes (x .kind) + listBytes xs
+
+-- the five tests that a good record's element passes
+pub good-element : (x : Step) → badElement x ≡ false
+    → (isAbsent (x .space) ≡ false) × (misaligned (x .space) (x .address) ≡ false) × (pastEnd x ≡ false) × (barred x ≡ false)
+    × (namesUnlock x ≡ false)
+unfolding badElement
+good-element x h =
+    let a = isAbsent (x .space) in
+    let b = a || misaligned (x .space) (x .address) in
+    let o = or-false (b || pastEnd x || barred x) (namesUnlock x) h in
+    let q = or-false (b || pastEnd x) (barred x) (o .0) in
+    let r = or-false b (pastEnd x) (q .0) in
+    let t = or-false a (misaligned (x .space) (x .address)) (r .0) in
+    (t .0, t .1, r .1, q .1, o .1)
 
 -- A record that no rule refuses is whole, and its element is good.
 pub record Whole (rest : List ℕ) : Type 0 where
@@ -33,12 +46,10 @@ pub record Whole (rest : List ℕ) : Type 0 where
 pub whole : (index : ℕ) (rest : List ℕ) → first (recordRefusals index rest) ≡ 0 → Whole rest
 unfolding recordRefusals recordStep
 whole index rest e =
-    let a = first-none _ _ (omega arith) e in
-    let b = first-none _ _ (omega arith) (a .1) in
-    let c = first-none _ _ (omega arith) (b .1) in
+    let (few, (marked, (good, (plain, end)))) = none-holds (recordRefusals index rest) (omega arith) e in
     let m = markAt rest in
-    let d = or-false (not (eqb m readMark) && not (eqb m writeMark)) _ (b .0) in
-    record { bytes = ltb-false _ _ (d .1); good = c .0 }
+    let d = or-false (not (eqb m readMark) && not (eqb m writeMark)) _ marked in
+    record { bytes = ltb-false _ _ (d .1); good = good }
 
 -- A whole record's step has as many bytes as its element.
 pub step-bytes : (rest : List ℕ) (k : Kind) (s : Space) → recordBytes k ≤ length rest
@@ -109,7 +120,7 @@ record-rising index rest = omega arith
 -- a record that no rule refuses is none too many
 index-below : (index : ℕ) (rest : List ℕ) → first (recordRefusals index rest) ≡ 0 → index ≢ mostRecords
 unfolding recordRefusals
-index-below index rest e = eqb-false _ _ (first-none _ _ (omega arith) e .0)
+index-below index rest e = eqb-false _ _ (none-holds (recordRefusals index rest) (omega arith) e .0)
 
 -- from any record on
 abbrev RefusedFrom : ℕ → List ℕ → ℕ → ℕ → Type 0

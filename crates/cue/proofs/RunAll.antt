@@ -24,6 +24,7 @@ use Rattle.card.proofs.RunLaws.{length-cleared, cleared-outside, cleared-inside
 use Rattle.cue.specs.Records.{badElement}
 use Rattle.cue.specs.Play.{isAccepted, replyLength, play}
 use Rattle.cue.specs.Demand3.{SameAsRecords, unlockAfter}
+use Rattle.cue.proofs.RecordLaws.{good-element}
 use Rattle.cue.proofs.Relations.{Mixed, Good, Holds, unlockStep}
 
 -- An aligned element within its space overlaps the unlock cell only at 0x1A of space 6.
@@ -42,20 +43,6 @@ off-cell-at status a m e u = go (decLe a 25)
     go (no g) = inr (omega (arith, other))
 off-cell-at information a m e u = inr (omega arith)
 off-cell-at absent a m e u = inl (omega arith)
-
--- the five tests that a good record's element passes
-pub good-element : (x : Step) → badElement x ≡ false
-    → (isAbsent (x .space) ≡ false) × (misaligned (x .space) (x .address) ≡ false) × (pastEnd x ≡ false) × (barred x ≡ false)
-    × (namesUnlock x ≡ false)
-unfolding badElement
-good-element x h =
-    let a = isAbsent (x .space) in
-    let b = a || misaligned (x .space) (x .address) in
-    let o = or-false (b || pastEnd x || barred x) (namesUnlock x) h in
-    let q = or-false (b || pastEnd x) (barred x) (o .0) in
-    let r = or-false b (pastEnd x) (q .0) in
-    let t = or-false a (misaligned (x .space) (x .address)) (r .0) in
-    (t .0, t .1, r .1, q .1, o .1)
 
 -- A good record's element does not overlap the unlock cell.
 off-cell : (x : Step) → badElement x ≡ false → Apart (at x) (row (x .space) .element) unlockCell 2

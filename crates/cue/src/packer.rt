@@ -8,6 +8,9 @@ ghost use Prim.Native.Nat.{_≤_};
 ghost use Rattle.packet.specs.Rules.{pickNumber};
 ghost use Rattle.cue.specs.Inside.{Progress, summary, carriedBy, answeredBy, agrees, fits, joinedBy, startedBy, closedBy, turnedBy, Roomy};
 
+// The unlock where a packet begins.
+const CLOSED: bool = false;
+
 // The last command's kind, space, address and count; the packet's bytes, its reply's, and whether the unlock is open in
 // it; `unlock`: the last record put an unlock command before its own. `frame`, `word` and `end` are places in the
 // output: of the packet's mark, of the last command's word, and past the packet. `packets` counts this one too.
@@ -148,7 +151,7 @@ fn closed(p: Packer) -> Packer
         count: p.count,
         packet: 0,
         reply: 0,
-        unlocked: false,
+        unlocked: CLOSED,
         unlock: false,
         frame: p.end,
         word: p.word,

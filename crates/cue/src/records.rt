@@ -1,5 +1,7 @@
 // A cue list's records. Every function here gets the list's bytes from that record on.
 use lbp16::space;
+use packet::bytes;
+use packet::rule;
 ghost use mathlib.Core.Path.{_≡_};
 ghost use mathlib.Core.Bool.{not, false};
 ghost use Prim.Native.Nat.{_<_, _≤_};
@@ -26,12 +28,6 @@ pub struct Record {
     pub address: u16,
 }
 
-fn wide(b: u8) -> u16
-    ensures { λ r. ⌜ (r ≡ b) × (r < 256) ⌝ }
-{
-    b as u16
-}
-
 // A byte that is not there counts as 0.
 fn byte_at(s: &[u8], at: usize) -> u8
     ensures { λ r. ⌜ r ≡ getD (now (s .entry)) at 0 ⌝ }
@@ -42,28 +38,13 @@ fn byte_at(s: &[u8], at: usize) -> u8
     s[at]
 }
 
-// The number in the two bytes from `at` on, low byte first.
-fn pair_at(s: &[u8], at: usize) -> u16
-    ensures { λ r. ⌜ r ≡ number (take 2 (drop at (now (s .entry)))) ⌝ }
-{
-    if s.len() <= at {
-        return 0;
-    }
-    let low = wide(s[at]);
-    let next = at + 1;
-    if s.len() <= next {
-        return low;
-    }
-    low + 256 * wide(s[next])
-}
-
 pub fn record_at(rest: &[u8]) -> Record
     ensures { λ r. ⌜ r ≡ recordAt (now (rest .entry)) ⌝ }
 {
     Record {
-        write: pair_at(rest, 0) == WRITE_MARK,
+        write: bytes::pair_at(rest, 0) == WRITE_MARK,
         space: byte_at(rest, 2),
-        address: pair_at(rest, 4),
+        address: bytes::pair_at(rest, 4),
     }
 }
 
@@ -92,24 +73,18 @@ fn bad_element(rest: &[u8]) -> bool
 fn too_wide(rest: &[u8]) -> bool
     ensures { λ r. ⌜ (isAbsent (recordSpace (now (rest .entry))) ≡ false → r ≡ not (eqb (upperHalf (now (rest .entry))) 0)) ⌝ }
 {
-    (byte_at(rest, 2) != 0) & (pair_at(rest, 8) != 0)
-}
-
-fn first_of(test: bool, number: u32, later: u32) -> u32
-    ensures { λ r. ⌜ r ≡ pickNumber test number later ⌝ }
-{
-    if test { number } else { later }
+    (byte_at(rest, 2) != 0) & (bytes::pair_at(rest, 8) != 0)
 }
 
 // The lowest number of refusals 21 to 24 whose condition holds, 0 if none does.
 pub fn record_refusal(rest: &[u8], index: usize) -> u32
     ensures { λ r. ⌜ r ≡ first (recordRefusals index (now (rest .entry))) ⌝ }
 {
-    let mark = pair_at(rest, 0);
+    let mark = bytes::pair_at(rest, 0);
     let write = mark == WRITE_MARK;
     let unknown = (mark != READ_MARK) & !write;
-    let r = first_of((byte_at(rest, 3) != 0) | (write & too_wide(rest)), 24, 0);
-    let r = first_of(bad_element(rest), 23, r);
-    let r = first_of(unknown | (rest.len() < record_bytes(write)), 22, r);
-    first_of(index == MOST, 21, r)
+    let r = rule::first_of((byte_at(rest, 3) != 0) | (write & too_wide(rest)), 24, 0);
+    let r = rule::first_of(bad_element(rest), 23, r);
+    let r = rule::first_of(unknown | (rest.len() < record_bytes(write)), 22, r);
+    rule::first_of(index == MOST, 21, r)
 }

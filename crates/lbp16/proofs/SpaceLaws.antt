@@ -3,40 +3,45 @@ use Prim.Native.Nat.{ℕ, _+_, _≤_, _<_}
 use mathlib.Core.Path.{_≡_, refl}
 use mathlib.Core.Bool.{Bool, true, false}
 use native.Mathlib.Omega.{arith}
+use lib.Dec.{eqb}
 use Rattle.lbp16.specs.Space.{Space, registers, eeprom, status, information, absent, row, isAbsent, storeBytes}
+
+-- what holds of every row of the table
+record Bounded (s : Space) : Type 0 where
+  end : row s .place + row s .bytes ≤ storeBytes
+  bytes : row s .bytes ≤ 65536
+  element : row s .element ≤ 4
+  some : 0 < row s .element
+
+bounded : (s : Space) → Bounded s
+unfolding row
+bounded registers = omega arith
+bounded eeprom = omega arith
+bounded status = omega arith
+bounded information = omega arith
+bounded absent = omega arith
 
 -- every space ends within the store
 pub row-end : (s : Space) → row s .place + row s .bytes ≤ storeBytes
-unfolding row
-row-end registers = omega arith
-row-end eeprom = omega arith
-row-end status = omega arith
-row-end information = omega arith
-row-end absent = omega arith
+row-end s = bounded s .end
 
 pub bytes-le : (s : Space) → row s .bytes ≤ 65536
-unfolding row
-bytes-le registers = omega arith
-bytes-le eeprom = omega arith
-bytes-le status = omega arith
-bytes-le information = omega arith
-bytes-le absent = omega arith
+bytes-le s = bounded s .bytes
 
 pub element-le : (s : Space) → row s .element ≤ 4
-unfolding row
-element-le registers = omega arith
-element-le eeprom = omega arith
-element-le status = omega arith
-element-le information = omega arith
-element-le absent = omega arith
+element-le s = bounded s .element
 
 pub element-nonzero : (s : Space) → 0 < row s .element
-unfolding row
-element-nonzero registers = omega arith
-element-nonzero eeprom = omega arith
-element-nonzero status = omega arith
-element-nonzero information = omega arith
-element-nonzero absent = omega arith
+element-nonzero s = bounded s .some
+
+-- a space that the card lacks has no bytes
+pub absent-bytes : (s : Space) → isAbsent s ≡ eqb (row s .bytes) 0
+unfolding row isAbsent
+absent-bytes registers = refl
+absent-bytes eeprom = refl
+absent-bytes status = refl
+absent-bytes information = refl
+absent-bytes absent = refl
 
 pub element-pos : (s : Space) → isAbsent s ≡ false → 1 < row s .element
 unfolding row isAbsent

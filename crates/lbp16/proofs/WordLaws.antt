@@ -27,12 +27,12 @@ bit-le false = omega arith
 bit-le true = omega arith
 
 -- a bit that is read is the bit that was written
-bit-read : (b : Bool) → eqb (bit b) 1 ≡ b
+pub bit-read : (b : Bool) → eqb (bit b) 1 ≡ b
 unfolding bit
 bit-read false = refl
 bit-read true = refl
 
-bit-written : (n : ℕ) → n ≤ 1 → bit (eqb n 1) ≡ n
+pub bit-written : (n : ℕ) → n ≤ 1 → bit (eqb n 1) ≡ n
 unfolding bit
 bit-written n h = go (eqb n 1) refl
   where

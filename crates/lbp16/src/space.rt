@@ -66,11 +66,5 @@ pub fn row_of(space: u8) -> Row
 pub fn is_absent(space: u8) -> bool
     ensures { λ r. ⌜ r ≡ isAbsent (spaceOf space) ⌝ }
 {
-    match space {
-        0 => false,
-        2 => false,
-        6 => false,
-        7 => false,
-        _ => true,
-    }
+    row_of(space).bytes == 0
 }

@@ -1,4 +1,6 @@
 // What is found at one command of a packet. Every function here gets the packet's bytes from that command on.
+use crate::bytes;
+use crate::rule;
 use lbp16::pointer::Pointer;
 use lbp16::pointer::Pointers;
 use lbp16::space;
@@ -42,34 +44,13 @@ pub struct Command {
     pub next: Progress,
 }
 
-fn wide(b: u8) -> u16
-    ensures { λ r. ⌜ (r ≡ b) × (r < 256) ⌝ }
-{
-    b as u16
-}
-
-// The number in the two bytes from `at` on, low byte first; a byte that is not there counts as 0.
-fn pair_at(s: &[u8], at: usize) -> u16
-    ensures { λ r. ⌜ r ≡ number (take 2 (drop at (now (s .entry)))) ⌝ }
-{
-    if s.len() <= at {
-        return 0;
-    }
-    let low = wide(s[at]);
-    let next = at + 1;
-    if s.len() <= next {
-        return low;
-    }
-    low + 256 * wide(s[next])
-}
-
 fn fields_at(rest: &[u8]) -> Fields
     ensures { λ r. ⌜ r ≡ fieldsAt (now (rest .entry)) ⌝ }
 {
     if rest.len() < 2 {
         word::fields_of(0)
     } else {
-        word::fields_of(pair_at(rest, 0))
+        word::fields_of(bytes::pair_at(rest, 0))
     }
 }
 
@@ -113,7 +94,7 @@ pub fn address_used(p: Pointers, f: Fields, rest: &[u8]) -> u32
     ensures { λ r. ⌜ r ≡ addressUsed p f (now (rest .entry)) ⌝ }
 {
     if f.address {
-        pair_at(rest, 2) as u32
+        bytes::pair_at(rest, 2) as u32
     } else {
         p.of(f.space).at
     }
@@ -123,11 +104,8 @@ pub fn address_used(p: Pointers, f: Fields, rest: &[u8]) -> u32
 pub fn stride_of(f: Fields) -> u32
     ensures { λ r. ⌜ r ≡ stride f ⌝ }
 {
-    if f.increment {
-        space::row_of(f.space).element
-    } else {
-        0
-    }
+    let step = space::row_of(f.space).element;
+    if f.increment { step } else { 0 }
 }
 
 // The bytes from the address used to the end of the furthest element.
@@ -139,12 +117,6 @@ fn span_of(f: Fields) -> usize
     } else {
         space::row_of(f.space).element as usize
     }
-}
-
-fn first_of(test: bool, number: u32, later: u32) -> u32
-    ensures { λ r. ⌜ r ≡ pickNumber test number later ⌝ }
-{
-    if test { number } else { later }
 }
 
 fn passes_limit(reply: usize, more: usize) -> bool
@@ -182,16 +154,16 @@ fn refusal_of(rest: &[u8], at: Progress, f: Fields) -> u32
 {
     let pointers = at.pointers;
     let row = space::row_of(f.space);
-    let r = first_of(passes_limit(at.reply, answered_bytes(f)), 12, 0);
-    let r = first_of(rest.len() < command_bytes(f), 11, r);
-    let r = first_of(f.write & row.locked & !at.unlocked, 10, r);
-    let r = first_of(read_only(rest, pointers, f), 9, r);
-    let r = first_of(out_of_place(rest, pointers, f), 8, r);
-    let r = first_of(f.count == 0, 7, r);
-    let r = first_of(f.size != row.size, 6, r);
-    let r = first_of(space::is_absent(f.space), 5, r);
-    let r = first_of(f.info, 4, r);
-    first_of(rest.len() < header_bytes(f), 3, r)
+    let r = rule::first_of(passes_limit(at.reply, answered_bytes(f)), 12, 0);
+    let r = rule::first_of(rest.len() < command_bytes(f), 11, r);
+    let r = rule::first_of(f.write & row.locked & !at.unlocked, 10, r);
+    let r = rule::first_of(read_only(rest, pointers, f), 9, r);
+    let r = rule::first_of(out_of_place(rest, pointers, f), 8, r);
+    let r = rule::first_of(f.count == 0, 7, r);
+    let r = rule::first_of(f.size != row.size, 6, r);
+    let r = rule::first_of(space::is_absent(f.space), 5, r);
+    let r = rule::first_of(f.info, 4, r);
+    rule::first_of(rest.len() < header_bytes(f), 3, r)
 }
 
 fn which_of(number: u32, write: bool) -> Which
@@ -208,7 +180,7 @@ fn turned_by(open: bool, address: usize, data: &[u8], at: usize) -> bool
     ensures { λ r. ⌜ r ≡ turned «open» (statusWrite address (take 2 (drop at (now («data» .entry))))) ⌝ }
 {
     if address == 0x1A {
-        pair_at(data, at) == 0x5A02
+        bytes::pair_at(data, at) == 0x5A02
     } else {
         open
     }

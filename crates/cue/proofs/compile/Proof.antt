@@ -1,10 +1,6 @@
 use borrow.Author.Needs.{needs}
 use Rattle.cue.proofs.compile.Statement.{statement}
 use Rattle.cue.proofs.compile.Tie as tie
-use Rattle.cue.proofs.compile.Reads as reads
-use Rattle.cue.proofs.compile.Lts as lts
-use Rattle.cue.proofs.emit.emit.Reads as emit-reads
-use Rattle.cue.proofs.plan.plan.Reads as plan-reads
 use Rattle.cue.specs.Compile.{compileListed}
 use Rattle.cue.proofs.Demand3.{demand3}
 use Rattle.cue.proofs.AnswerLaws.{turned-away, too-small, may-write, all-written}

@@ -1,8 +1,5 @@
 use Rattle.card.proofs.block.move_elements.Statement.{statement}
 use Rattle.card.proofs.block.move_elements.Tie as tie
-use Rattle.card.proofs.block.move_elements.Reads as reads
-use Rattle.card.proofs.block.move_elements.Lts as lts
-use Rattle.card.proofs.element.move_element.Reads as move-element-reads
 use native.Mathlib.Omega.{arith}
 use mathlib.Core.Path.{refl}
 use Rattle.packet.specs.Rules.{pickNumber}
@@ -15,39 +12,30 @@ Inv-loop src from from-step dst₀ to to-step count wide n₀ i₀ j₀ dst n i 
 abbrev μ-loop : tie.MeasureT-loop
 μ-loop src from from-step dst₀ to to-step count wide n₀ i₀ j₀ dst n i j = n
 
--- src/block.rt:27:5
 loop-holds : tie.Need-loop-holds Inv-loop μ-loop
 loop-holds c = let p = c .before .before .pre in record { fs-le = p .0; ts-le = p .1; inside = p .2; room = p .3; same = refl; kept = refl }
 
--- src/block.rt:28:9
 move-element-requires : tie.Need-move-element-requires Inv-loop μ-loop
 move-element-requires c κs = moving-now _ (c .before .before .loop .inv) (c .before .loop-test .taken)
 
--- src/block.rt:29:9
 add-i : tie.Need-add-i Inv-loop μ-loop
 add-i c = let b = c .before .before .before .before in let l = b .before .loop .inv in let m = moving-now _ l (b .loop-test .taken) in let h = l .fs-le in omega (arith, c .before .before .before .before .before .before .before .before .good)
 
--- src/block.rt:30:9
 add-j : tie.Need-add-j Inv-loop μ-loop
 add-j c = let b = c .before .before .before .before in let l = b .before .loop .inv in let m = moving-now _ l (b .loop-test .taken) in let h = l .ts-le in let k = l .kept in omega (arith, c .before .before .before .before .before .before .before .before .good)
 
--- src/block.rt:31:9
 sub-n : tie.Need-sub-n Inv-loop μ-loop
 sub-n c = omega arith
 
--- src/block.rt:27:5
 loop-less : tie.Need-loop-less Inv-loop μ-loop
 loop-less c = omega arith
 
--- src/block.rt:27:5
 loop-again : tie.Need-loop-again Inv-loop μ-loop
 loop-again c = let b = c .before .before .before .before in moving-next _ (b .before .loop .inv) (b .loop-test .taken) _ (c .before .before .move-element .ensures)
 
--- src/block.rt:11:1
 same-length : tie.Need-same-length Inv-loop μ-loop
 same-length c = c .before .loop .inv .kept
 
--- src/block.rt:11:1
 returns : tie.Need-returns Inv-loop μ-loop
 returns c = moving-end _ (c .before .loop .inv) (omega arith)
 

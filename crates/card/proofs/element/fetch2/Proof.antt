@@ -1,9 +1,6 @@
 use borrow.Author.Needs.{needs}
 use Rattle.card.proofs.element.fetch2.Statement.{statement}
 use Rattle.card.proofs.element.fetch2.Tie as tie
-use Rattle.card.proofs.element.fetch2.Reads as reads
-use Rattle.card.proofs.element.fetch2.Lts as lts
-use Rattle.card.proofs.element.wide16.Reads as wide16-reads
 use native.Mathlib.Omega.{arith}
 use Rattle.card.proofs.ElementLaws.{number-next, number-from}
 use denote.Ref.{now}

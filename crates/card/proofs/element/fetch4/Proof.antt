@@ -1,9 +1,6 @@
 use borrow.Author.Needs.{needs}
 use Rattle.card.proofs.element.fetch4.Statement.{statement}
 use Rattle.card.proofs.element.fetch4.Tie as tie
-use Rattle.card.proofs.element.fetch4.Reads as reads
-use Rattle.card.proofs.element.fetch4.Lts as lts
-use Rattle.card.proofs.element.wide32.Reads as wide32-reads
 use native.Mathlib.Omega.{arith}
 use denote.Ref.{now}
 use Rattle.packet.specs.Bytes.{number}

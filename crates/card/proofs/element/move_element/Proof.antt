@@ -1,12 +1,6 @@
 use borrow.Author.Needs.{needs}
 use Rattle.card.proofs.element.move_element.Statement.{statement}
 use Rattle.card.proofs.element.move_element.Tie as tie
-use Rattle.card.proofs.element.move_element.Reads as reads
-use Rattle.card.proofs.element.move_element.Lts as lts
-use Rattle.card.proofs.element.fetch2.Reads as fetch2-reads
-use Rattle.card.proofs.element.fetch4.Reads as fetch4-reads
-use Rattle.card.proofs.element.store2.Reads as store2-reads
-use Rattle.card.proofs.element.store4.Reads as store4-reads
 use native.Mathlib.Omega.{arith}
 use denote.Ref.{now}
 use Rattle.card.proofs.ElementLaws.{moved}

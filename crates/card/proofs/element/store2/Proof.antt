@@ -1,8 +1,6 @@
 use borrow.Author.Needs.{needs}
 use Rattle.card.proofs.element.store2.Statement.{statement}
 use Rattle.card.proofs.element.store2.Tie as tie
-use Rattle.card.proofs.element.store2.Reads as reads
-use Rattle.card.proofs.element.store2.Lts as lts
 use lib.ListN.{length-set}
 use native.Mathlib.Omega.{arith}
 use Rattle.card.proofs.ElementLaws.{stored-bytes}

@@ -1,21 +1,13 @@
 use lib.ListN.{length}
 use Rattle.card.proofs.run.perform.Statement.{statement}
 use Rattle.card.proofs.run.perform.Tie as tie
-use Rattle.card.proofs.run.perform.Reads as reads
-use Rattle.card.proofs.run.perform.Lts as lts
-use Rattle.card.proofs.run.do_command.Reads as do-command-reads
-use Rattle.packet.proofs.command.command_at.Reads as command-at-reads
-use Rattle.packet.proofs.command.command_bytes.Reads as command-bytes-reads
-use Rattle.packet.proofs.judge.begin.Reads as begin-reads
 use native.Mathlib.Omega.{arith}
 use borrow.Author.Needs.{needs}
-use mathlib.Core.Path.{_≡_, ap, sym, _∙_}
+use mathlib.Core.Path.{ap, sym, _∙_}
 use lib.ListN.{length-take, length-drop}
 use Rattle.packet.specs.Verdict.{start}
-use Rattle.packet.specs.Judge.{judge}
 use Rattle.packet.proofs.LoopLaws.{Turn}
-use Rattle.card.specs.Inside.{storeLeft, replyLeft}
-use Rattle.card.proofs.PerformLaws.{Doing, Ready, doing-start, doing-end, doing-next, ready, length-store, length-reply}
+use Rattle.card.proofs.PerformLaws.{Doing, doing-start, doing-end, doing-next, ready, length-store, length-reply}
 
 abbrev Inv-loop : tie.InvT-loop
 Inv-loop packet store₀ reply₀ at₀ place₀ rest₀ store reply at place rest =
@@ -24,36 +16,28 @@ Inv-loop packet store₀ reply₀ at₀ place₀ rest₀ store reply at place re
 abbrev μ-loop : tie.MeasureT-loop
 μ-loop packet store₀ reply₀ at₀ place₀ rest₀ store reply at place rest = length rest
 
--- src/run.rt:78:9
 begin-requires : tie.Need-begin-requires Inv-loop μ-loop
 begin-requires c κs = search needs
 
--- src/run.rt:81:5
 loop-holds : tie.Need-loop-holds Inv-loop μ-loop
 unfolding start
 loop-holds c = let p = c .before .before .before .before .pre in rw (c .begin .ensures) (doing-start _ _ _ _ (p .0) (p .1) (p .2))
 
--- src/run.rt:82:13
 command-at-requires : tie.Need-command-at-requires Inv-loop μ-loop
 command-at-requires c κs = search needs
 
--- src/run.rt:87:52
 sub-do-command : tie.Need-sub-do-command Inv-loop μ-loop
 sub-do-command c = let b = c .before .before .before in ready (b .before .before .loop .inv) (b .before .loop-test .taken) _ (b .command-at .ensures) .used
 
--- src/run.rt:87:52
 part-do-command-start : tie.Need-part-do-command-start Inv-loop μ-loop
 part-do-command-start c = let b = c .before .before .before in ready (b .before .before .loop .inv) (b .before .loop-test .taken) _ (b .command-at .ensures) .used
 
--- src/run.rt:87:52
 part-do-command-end : tie.Need-part-do-command-end Inv-loop μ-loop
 part-do-command-end c = search needs
 
--- src/run.rt:87:9
 do-command-requires : tie.Need-do-command-requires Inv-loop μ-loop
 do-command-requires c κs = let b = c .before .before .before .before in let r = ready (b .before .before .loop .inv) (b .before .loop-test .taken) _ (b .command-at .ensures) in (r .passed, r .which, r .store-bytes, r .room)
 
--- src/run.rt:88:13
 command-bytes-requires : tie.Need-command-bytes-requires Inv-loop μ-loop
 command-bytes-requires c κs = search needs
 
@@ -76,39 +60,30 @@ turn c =
     (c .before .before .before .before .before .before .do-command .ensures .1)
     .0
 
--- src/run.rt:90:9
 add-place : tie.Need-add-place Inv-loop μ-loop
 add-place c = let t = turn c in let e = c .before .before .before .before .before .before .before .before .before .before .before .before .before .loop .inv .here .end in omega (arith, c .before .before .before .before .before .before .before .before .before .before .before .before .before .before .before .before .before .before .good)
 
--- src/run.rt:91:16
 sub-rest : tie.Need-sub-rest Inv-loop μ-loop
 sub-rest c = turn c .whole
 
--- src/run.rt:91:16
 part-rest-start : tie.Need-part-rest-start Inv-loop μ-loop
 part-rest-start c = turn c .whole
 
--- src/run.rt:91:16
 part-rest-end : tie.Need-part-rest-end Inv-loop μ-loop
 part-rest-end c = search needs
 
--- src/run.rt:81:5
 loop-less : tie.Need-loop-less Inv-loop μ-loop
 loop-less c = let t = turn (c .before) in simp (length-take, length-drop) (omega arith)
 
--- src/run.rt:81:5
 loop-again : tie.Need-loop-again Inv-loop μ-loop
 loop-again c = let b = c .before .before .before .before .before .before .before .before .before .before .before .before in doing-next (b .before .before .loop .inv) (b .before .loop-test .taken) _ (b .command-at .ensures) _ (c .before .before .command-bytes .ensures) _ _ (c .before .before .before .before .before .before .before .do-command .ensures .0) (c .before .before .before .before .before .before .before .do-command .ensures .1) .1
 
--- src/run.rt:73:1
 same-length : tie.Need-same-length Inv-loop μ-loop
 same-length c = length-store (c .before .loop .inv)
 
--- src/run.rt:73:1
 same-length-2 : tie.Need-same-length-2 Inv-loop μ-loop
 same-length-2 c = length-reply (c .before .loop .inv) ∙ sym (c .before .loop .inv .reply-bytes)
 
--- src/run.rt:73:1
 returns : tie.Need-returns Inv-loop μ-loop
 unfolding start
 returns c = rw (ap (λ g. g .pointers) (c .before .before .begin .ensures)) at (doing-end (c .before .loop .inv) (omega arith))

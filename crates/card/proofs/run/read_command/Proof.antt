@@ -1,59 +1,41 @@
 use borrow.Author.Needs.{needs}
 use Rattle.card.proofs.run.read_command.Statement.{statement}
 use Rattle.card.proofs.run.read_command.Tie as tie
-use Rattle.card.proofs.run.read_command.Reads as reads
-use Rattle.card.proofs.run.read_command.Lts as lts
-use Rattle.card.proofs.block.move_elements.Reads as move-elements-reads
-use Rattle.lbp16.proofs.space.row_of.Reads as row-of-reads
-use Rattle.packet.proofs.command.address_used.Reads as address-used-reads
-use Rattle.packet.proofs.command.stride_of.Reads as stride-of-reads
 use Rattle.card.proofs.CommandRunLaws.{asked, read-fits, read-done}
 
--- src/run.rt:34:9
 row-of-requires : tie.Need-row-of-requires
 row-of-requires c κs = search needs
 
--- src/run.rt:35:16
 address-used-requires : tie.Need-address-used-requires
 address-used-requires c κs = search needs
 
--- src/run.rt:35:16
 cast-used : tie.Need-cast-used
 cast-used c = search needs
 
--- src/run.rt:36:17
 cast-from : tie.Need-cast-from
 cast-from c = search needs
 
--- src/run.rt:36:16
 add-from : tie.Need-add-from
 add-from c = search needs
 
--- src/run.rt:37:16
 stride-of-requires : tie.Need-stride-of-requires
 stride-of-requires c κs = search needs
 
--- src/run.rt:37:16
 cast-step : tie.Need-cast-step
 cast-step c = search needs
 
--- src/run.rt:38:19
 cast-element : tie.Need-cast-element
 cast-element c = search needs
 
--- src/run.rt:39:17
 cast-count : tie.Need-cast-count
 cast-count c = search needs
 
--- src/run.rt:40:5
 move-elements-requires : tie.Need-move-elements-requires
 move-elements-requires c κs = let b = c .before .before .before .before .before .before in let p = b .before .before .before .before .before .pre in let q = asked _ _ _ (p .0) _ _ _ (b .row-of .ensures) (c .before .before .before .before .before .address-used .ensures) (c .before .before .before .stride-of .ensures) _ _ _ (p .2) (read-fits _ _ _ (p .0) _ _ _ (b .row-of .ensures) (c .before .before .before .before .before .address-used .ensures) (c .before .before .before .stride-of .ensures) _ (p .1) (p .3)) in (q .step, q .width, q .spread, q .lined)
 
--- src/run.rt:29:1
 same-length : tie.Need-same-length
 same-length c = search needs
 
--- src/run.rt:29:1
 returns : tie.Need-returns
 returns c = let b = c .before .before .before .before .before .before .before .before .before in let p = b .before .before .before .before .before .pre in read-done _ _ _ (p .0) _ _ _ (b .row-of .ensures) (c .before .before .before .before .before .before .before .before .address-used .ensures) (c .before .before .before .before .before .before .stride-of .ensures) _ _ _ (p .1) (p .2) (p .3) (c .before .before .move-elements .ensures)
 

@@ -1,14 +1,6 @@
 use borrow.Author.Needs.{needs}
 use Rattle.card.proofs.spi.burst.Statement.{statement}
 use Rattle.card.proofs.spi.burst.Tie as tie
-use Rattle.card.proofs.spi.burst.Reads as reads
-use Rattle.card.proofs.spi.burst.Lts as lts
-use Rattle.card.proofs.spi.first_word.Reads as first-word-reads
-use Rattle.card.proofs.spi.header_of.Reads as header-of-reads
-use Rattle.card.proofs.spi.read_cells.Reads as read-cells-reads
-use Rattle.card.proofs.spi.refusal_of.Reads as refusal-of-reads
-use Rattle.card.proofs.spi.stride_of.Reads as stride-of-reads
-use Rattle.card.proofs.spi.write_cells.Reads as write-cells-reads
 use denote.Ref.{now}
 use mathlib.Core.Path.{sym, ap, _∙_, refl}
 use native.Mathlib.Omega.{arith}

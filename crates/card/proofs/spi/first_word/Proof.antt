@@ -1,8 +1,6 @@
 use borrow.Author.Needs.{needs}
 use Rattle.card.proofs.spi.first_word.Statement.{statement}
 use Rattle.card.proofs.spi.first_word.Tie as tie
-use Rattle.card.proofs.spi.first_word.Reads as reads
-use Rattle.card.proofs.spi.first_word.Lts as lts
 use mathlib.Core.Path.{sym}
 use Rattle.card.proofs.SpiLaws.{word-none, word-first}
 

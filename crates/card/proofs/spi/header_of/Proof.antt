@@ -1,8 +1,6 @@
 use borrow.Author.Needs.{needs}
 use Rattle.card.proofs.spi.header_of.Statement.{statement}
 use Rattle.card.proofs.spi.header_of.Tie as tie
-use Rattle.card.proofs.spi.header_of.Reads as reads
-use Rattle.card.proofs.spi.header_of.Lts as lts
 use mathlib.Core.Path.{refl}
 use Rattle.card.specs.Spi.{headerOf}
 

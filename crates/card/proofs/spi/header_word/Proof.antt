@@ -1,11 +1,6 @@
 use borrow.Author.Needs.{needs}
 use Rattle.card.proofs.spi.header_word.Statement.{statement}
 use Rattle.card.proofs.spi.header_word.Tie as tie
-use Rattle.card.proofs.spi.header_word.Reads as reads
-use Rattle.card.proofs.spi.header_word.Lts as lts
-use Rattle.card.proofs.spi.first_of.Reads as first-of-reads
-use Rattle.card.proofs.spi.increment_bit.Reads as increment-bit-reads
-use Rattle.card.proofs.spi.other_command.Reads as other-command-reads
 use native.Mathlib.Omega.{arith}
 use mathlib.Core.Path.{_≡_, sym, _∙_}
 use Rattle.packet.specs.Rules.{first}

@@ -1,7 +1,5 @@
 use Rattle.card.proofs.spi.increment_bit.Statement.{statement}
 use Rattle.card.proofs.spi.increment_bit.Tie as tie
-use Rattle.card.proofs.spi.increment_bit.Reads as reads
-use Rattle.card.proofs.spi.increment_bit.Lts as lts
 use Rattle.lbp16.specs.Word.{bit}
 use native.Mathlib.Omega.{arith}
 

@@ -1,7 +1,5 @@
 use Rattle.card.proofs.spi.other_command.Statement.{statement}
 use Rattle.card.proofs.spi.other_command.Tie as tie
-use Rattle.card.proofs.spi.other_command.Reads as reads
-use Rattle.card.proofs.spi.other_command.Lts as lts
 use mathlib.Core.Path.{refl}
 use Rattle.card.specs.Spi.{otherCommand}
 

@@ -1,9 +1,6 @@
 use borrow.Author.Needs.{needs}
 use Rattle.card.proofs.spi.out_of_place.Statement.{statement}
 use Rattle.card.proofs.spi.out_of_place.Tie as tie
-use Rattle.card.proofs.spi.out_of_place.Reads as reads
-use Rattle.card.proofs.spi.out_of_place.Lts as lts
-use Rattle.card.proofs.spi.span_of.Reads as span-of-reads
 use Rattle.packet.specs.Rules.{misaligned}
 use Rattle.lbp16.specs.Space.{row}
 use Rattle.card.proofs.SpiLaws.{past-quick}

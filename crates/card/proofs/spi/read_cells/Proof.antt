@@ -1,8 +1,5 @@
 use Rattle.card.proofs.spi.read_cells.Statement.{statement}
 use Rattle.card.proofs.spi.read_cells.Tie as tie
-use Rattle.card.proofs.spi.read_cells.Reads as reads
-use Rattle.card.proofs.spi.read_cells.Lts as lts
-use Rattle.card.proofs.element.fetch4.Reads as fetch4-reads
 use Prim.Native.Nat.{_-_}
 use mathlib.Core.Path.{_∙_}
 use native.Mathlib.Omega.{arith}

@@ -1,13 +1,6 @@
 use borrow.Author.Needs.{needs}
 use Rattle.card.proofs.spi.refusal_of.Statement.{statement}
 use Rattle.card.proofs.spi.refusal_of.Tie as tie
-use Rattle.card.proofs.spi.refusal_of.Reads as reads
-use Rattle.card.proofs.spi.refusal_of.Lts as lts
-use Rattle.card.proofs.spi.first_of.Reads as first-of-reads
-use Rattle.card.proofs.spi.first_word.Reads as first-word-reads
-use Rattle.card.proofs.spi.header_of.Reads as header-of-reads
-use Rattle.card.proofs.spi.other_command.Reads as other-command-reads
-use Rattle.card.proofs.spi.out_of_place.Reads as out-of-place-reads
 use Rattle.packet.specs.Rules.{first}
 use Rattle.card.specs.Spi.{burstRefusals}
 use denote.Ref.{now}

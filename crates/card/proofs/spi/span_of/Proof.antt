@@ -1,8 +1,6 @@
 use borrow.Author.Needs.{needs}
 use Rattle.card.proofs.spi.span_of.Statement.{statement}
 use Rattle.card.proofs.spi.span_of.Tie as tie
-use Rattle.card.proofs.spi.span_of.Reads as reads
-use Rattle.card.proofs.spi.span_of.Lts as lts
 use native.Mathlib.Omega.{arith}
 use mathlib.Core.Path.{refl}
 

@@ -1,8 +1,5 @@
 use Rattle.card.proofs.spi.write_cells.Statement.{statement}
 use Rattle.card.proofs.spi.write_cells.Tie as tie
-use Rattle.card.proofs.spi.write_cells.Reads as reads
-use Rattle.card.proofs.spi.write_cells.Lts as lts
-use Rattle.card.proofs.element.store4.Reads as store4-reads
 use Prim.Native.Nat.{ℕ, _-_}
 use mathlib.Core.Path.{ap, sym, _∙_}
 use native.Mathlib.Omega.{arith}

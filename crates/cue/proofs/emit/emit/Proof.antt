@@ -1,13 +1,5 @@
 use Rattle.cue.proofs.emit.emit.Statement.{statement}
 use Rattle.cue.proofs.emit.emit.Tie as tie
-use Rattle.cue.proofs.emit.emit.Reads as reads
-use Rattle.cue.proofs.emit.emit.Lts as lts
-use Rattle.cue.proofs.emit.put_record.Reads as put-record-reads
-use Rattle.cue.proofs.packer.Packer.empty.Reads as empty-reads
-use Rattle.cue.proofs.packer.carried.Reads as carried-reads
-use Rattle.cue.proofs.packer.turned.Reads as turned-reads
-use Rattle.cue.proofs.records.record_at.Reads as record-at-reads
-use Rattle.cue.proofs.records.record_bytes.Reads as record-bytes-reads
 use borrow.Author.Needs.{needs}
 use lib.ListN.{length}
 use Rattle.cue.proofs.LoopLaws.{roomy}

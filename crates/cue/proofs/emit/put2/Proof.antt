@@ -1,8 +1,6 @@
 use borrow.Author.Needs.{needs}
 use Rattle.cue.proofs.emit.put2.Statement.{statement}
 use Rattle.cue.proofs.emit.put2.Tie as tie
-use Rattle.cue.proofs.emit.put2.Reads as reads
-use Rattle.cue.proofs.emit.put2.Lts as lts
 use native.Mathlib.Omega.{arith}
 use lib.ListN.{length-set}
 use Rattle.cue.proofs.WriteLaws.{put2-is}

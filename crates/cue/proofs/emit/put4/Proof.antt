@@ -1,9 +1,6 @@
 use borrow.Author.Needs.{needs}
 use Rattle.cue.proofs.emit.put4.Statement.{statement}
 use Rattle.cue.proofs.emit.put4.Tie as tie
-use Rattle.cue.proofs.emit.put4.Reads as reads
-use Rattle.cue.proofs.emit.put4.Lts as lts
-use Rattle.cue.proofs.emit.put2.Reads as put2-reads
 use Rattle.cue.proofs.WriteLaws.{put4-is}
 
 put2-requires : tie.Need-put2-requires

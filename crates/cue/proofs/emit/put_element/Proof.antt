@@ -1,7 +1,5 @@
 use Rattle.cue.proofs.emit.put_element.Statement.{statement}
 use Rattle.cue.proofs.emit.put_element.Tie as tie
-use Rattle.cue.proofs.emit.put_element.Reads as reads
-use Rattle.cue.proofs.emit.put_element.Lts as lts
 use Prim.Native.Nat.{_+_, _-_, _≤_}
 use mathlib.Core.Path.{_≡_, refl, sym, _∙_}
 use native.Mathlib.Omega.{arith}

@@ -1,9 +1,6 @@
 use borrow.Author.Needs.{needs}
 use Rattle.cue.proofs.emit.put_frame.Statement.{statement}
 use Rattle.cue.proofs.emit.put_frame.Tie as tie
-use Rattle.cue.proofs.emit.put_frame.Reads as reads
-use Rattle.cue.proofs.emit.put_frame.Lts as lts
-use Rattle.cue.proofs.emit.put4.Reads as put4-reads
 use Rattle.cue.specs.Inside.{framedAt, frameBytes}
 
 cast-put4 : tie.Need-cast-put4

@@ -1,10 +1,6 @@
 use borrow.Author.Needs.{needs}
 use Rattle.cue.proofs.emit.put_head.Statement.{statement}
 use Rattle.cue.proofs.emit.put_head.Tie as tie
-use Rattle.cue.proofs.emit.put_head.Reads as reads
-use Rattle.cue.proofs.emit.put_head.Lts as lts
-use Rattle.cue.proofs.emit.put4.Reads as put4-reads
-use Rattle.cue.proofs.emit.word_of.Reads as word-of-reads
 use Rattle.cue.specs.Inside.{headedAt, headBytes}
 use mathlib.Core.Path.{refl}
 

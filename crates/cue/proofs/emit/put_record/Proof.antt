@@ -1,12 +1,6 @@
 use borrow.Author.Needs.{needs}
 use Rattle.cue.proofs.emit.put_record.Statement.{statement}
 use Rattle.cue.proofs.emit.put_record.Tie as tie
-use Rattle.cue.proofs.emit.put_record.Reads as reads
-use Rattle.cue.proofs.emit.put_record.Lts as lts
-use Rattle.cue.proofs.emit.put_element.Reads as put-element-reads
-use Rattle.cue.proofs.emit.put_frame.Reads as put-frame-reads
-use Rattle.cue.proofs.emit.put_head.Reads as put-head-reads
-use Rattle.cue.proofs.emit.put_unlock.Reads as put-unlock-reads
 use Rattle.cue.proofs.WriteLaws.{wrote-is}
 use denote.Ref.{now}
 

@@ -1,10 +1,6 @@
 use borrow.Author.Needs.{needs}
 use Rattle.cue.proofs.emit.put_unlock.Statement.{statement}
 use Rattle.cue.proofs.emit.put_unlock.Tie as tie
-use Rattle.cue.proofs.emit.put_unlock.Reads as reads
-use Rattle.cue.proofs.emit.put_unlock.Lts as lts
-use Rattle.cue.proofs.emit.put2.Reads as put2-reads
-use Rattle.cue.proofs.emit.put4.Reads as put4-reads
 use Rattle.cue.specs.Inside.{unlockedAt}
 use Rattle.cue.proofs.WriteLaws.{unlock-is}
 use native.Mathlib.Omega.{arith}

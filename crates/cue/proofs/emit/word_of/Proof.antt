@@ -1,10 +1,6 @@
 use borrow.Author.Needs.{needs}
 use Rattle.cue.proofs.emit.word_of.Statement.{statement}
 use Rattle.cue.proofs.emit.word_of.Tie as tie
-use Rattle.cue.proofs.emit.word_of.Reads as reads
-use Rattle.cue.proofs.emit.word_of.Lts as lts
-use Rattle.lbp16.proofs.space.row_of.Reads as row-of-reads
-use Rattle.lbp16.proofs.word.word_of.Reads as word-of-reads
 use Rattle.cue.proofs.WriteLaws.{word-is, word-not}
 use mathlib.Core.Path.{ap}
 

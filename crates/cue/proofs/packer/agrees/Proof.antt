@@ -1,9 +1,6 @@
 use borrow.Author.Needs.{needs}
 use Rattle.cue.proofs.packer.agrees.Statement.{statement}
 use Rattle.cue.proofs.packer.agrees.Tie as tie
-use Rattle.cue.proofs.packer.agrees.Reads as reads
-use Rattle.cue.proofs.packer.agrees.Lts as lts
-use Rattle.lbp16.proofs.space.row_of.Reads as row-of-reads
 use Rattle.cue.specs.Inside.{agrees}
 use Rattle.packet.proofs.ElementLaws.{scaled-le}
 use Rattle.lbp16.proofs.SpaceLaws.{element-le}

@@ -1,9 +1,6 @@
 use borrow.Author.Needs.{needs}
 use Rattle.cue.proofs.packer.carried.Statement.{statement}
 use Rattle.cue.proofs.packer.carried.Tie as tie
-use Rattle.cue.proofs.packer.carried.Reads as reads
-use Rattle.cue.proofs.packer.carried.Lts as lts
-use Rattle.lbp16.proofs.space.row_of.Reads as row-of-reads
 use mathlib.Core.Path.{refl}
 use native.Mathlib.Omega.{arith}
 use Rattle.lbp16.proofs.SpaceLaws.{element-le}

@@ -1,8 +1,6 @@
 use borrow.Author.Needs.{needs}
 use Rattle.cue.proofs.packer.closed.Statement.{statement}
 use Rattle.cue.proofs.packer.closed.Tie as tie
-use Rattle.cue.proofs.packer.closed.Reads as reads
-use Rattle.cue.proofs.packer.closed.Lts as lts
 use mathlib.Core.Path.{refl}
 use Rattle.cue.specs.Inside.{closedBy}
 

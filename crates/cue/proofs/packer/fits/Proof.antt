@@ -1,7 +1,5 @@
 use Rattle.cue.proofs.packer.fits.Statement.{statement}
 use Rattle.cue.proofs.packer.fits.Tie as tie
-use Rattle.cue.proofs.packer.fits.Reads as reads
-use Rattle.cue.proofs.packer.fits.Lts as lts
 use mathlib.Core.Path.{refl}
 use Rattle.cue.specs.Inside.{fits}
 

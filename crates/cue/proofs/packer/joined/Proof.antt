@@ -1,10 +1,6 @@
 use borrow.Author.Needs.{needs}
 use Rattle.cue.proofs.packer.joined.Statement.{statement}
 use Rattle.cue.proofs.packer.joined.Tie as tie
-use Rattle.cue.proofs.packer.joined.Reads as reads
-use Rattle.cue.proofs.packer.joined.Lts as lts
-use Rattle.cue.proofs.packer.answered.Reads as answered-reads
-use Rattle.cue.proofs.packer.carried.Reads as carried-reads
 use Rattle.cue.specs.Inside.{joinedBy}
 
 carried-requires : tie.Need-carried-requires

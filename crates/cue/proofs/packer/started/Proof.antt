@@ -1,12 +1,6 @@
 use borrow.Author.Needs.{needs}
 use Rattle.cue.proofs.packer.started.Statement.{statement}
 use Rattle.cue.proofs.packer.started.Tie as tie
-use Rattle.cue.proofs.packer.started.Reads as reads
-use Rattle.cue.proofs.packer.started.Lts as lts
-use Rattle.cue.proofs.packer.answered.Reads as answered-reads
-use Rattle.cue.proofs.packer.carried.Reads as carried-reads
-use Rattle.cue.proofs.packer.unlock_bytes.Reads as unlock-bytes-reads
-use Rattle.lbp16.proofs.space.row_of.Reads as row-of-reads
 use Rattle.cue.specs.Inside.{startedBy, unlockFor}
 
 row-of-requires : tie.Need-row-of-requires

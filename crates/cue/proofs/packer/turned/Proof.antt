@@ -1,13 +1,6 @@
 use borrow.Author.Needs.{needs}
 use Rattle.cue.proofs.packer.turned.Statement.{statement}
 use Rattle.cue.proofs.packer.turned.Tie as tie
-use Rattle.cue.proofs.packer.turned.Reads as reads
-use Rattle.cue.proofs.packer.turned.Lts as lts
-use Rattle.cue.proofs.packer.agrees.Reads as agrees-reads
-use Rattle.cue.proofs.packer.closed.Reads as closed-reads
-use Rattle.cue.proofs.packer.fits.Reads as fits-reads
-use Rattle.cue.proofs.packer.joined.Reads as joined-reads
-use Rattle.cue.proofs.packer.started.Reads as started-reads
 use mathlib.Core.Path.{sym, _∙_}
 use native.Mathlib.Omega.{arith}
 use Rattle.cue.specs.Inside.{closedBy}

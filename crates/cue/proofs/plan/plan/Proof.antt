@@ -1,12 +1,5 @@
 use Rattle.cue.proofs.plan.plan.Statement.{statement}
 use Rattle.cue.proofs.plan.plan.Tie as tie
-use Rattle.cue.proofs.plan.plan.Reads as reads
-use Rattle.cue.proofs.plan.plan.Lts as lts
-use Rattle.cue.proofs.packer.Packer.empty.Reads as empty-reads
-use Rattle.cue.proofs.packer.turned.Reads as turned-reads
-use Rattle.cue.proofs.records.record_at.Reads as record-at-reads
-use Rattle.cue.proofs.records.record_bytes.Reads as record-bytes-reads
-use Rattle.cue.proofs.records.record_refusal.Reads as record-refusal-reads
 use borrow.Author.Needs.{needs}
 use native.Mathlib.Omega.{arith}
 use lib.ListN.{length}

@@ -1,11 +1,6 @@
 use borrow.Author.Needs.{needs}
 use Rattle.cue.proofs.records.bad_element.Statement.{statement}
 use Rattle.cue.proofs.records.bad_element.Tie as tie
-use Rattle.cue.proofs.records.bad_element.Reads as reads
-use Rattle.cue.proofs.records.bad_element.Lts as lts
-use Rattle.cue.proofs.records.record_at.Reads as record-at-reads
-use Rattle.lbp16.proofs.space.is_absent.Reads as is-absent-reads
-use Rattle.lbp16.proofs.space.row_of.Reads as row-of-reads
 use Rattle.lbp16.proofs.SpaceLaws.{element-nonzero, element-le}
 use Rattle.cue.proofs.ReadingLaws.{bad-element-is}
 use native.Mathlib.Omega.{arith}

@@ -1,8 +1,6 @@
 use borrow.Author.Needs.{needs}
 use Rattle.cue.proofs.records.byte_at.Statement.{statement}
 use Rattle.cue.proofs.records.byte_at.Tie as tie
-use Rattle.cue.proofs.records.byte_at.Reads as reads
-use Rattle.cue.proofs.records.byte_at.Lts as lts
 use mathlib.Core.Path.{sym}
 use lib.ListN.{List·getD-eq-default}
 use denote.Ref.{now}

@@ -1,10 +1,6 @@
 use borrow.Author.Needs.{needs}
 use Rattle.cue.proofs.records.record_at.Statement.{statement}
 use Rattle.cue.proofs.records.record_at.Tie as tie
-use Rattle.cue.proofs.records.record_at.Reads as reads
-use Rattle.cue.proofs.records.record_at.Lts as lts
-use Rattle.cue.proofs.records.byte_at.Reads as byte-at-reads
-use Rattle.cue.proofs.records.pair_at.Reads as pair-at-reads
 use Rattle.cue.specs.Inside.{recordAt}
 use Rattle.cue.specs.Records.{markAt}
 

@@ -1,7 +1,5 @@
 use Rattle.cue.proofs.records.record_bytes.Statement.{statement}
 use Rattle.cue.proofs.records.record_bytes.Tie as tie
-use Rattle.cue.proofs.records.record_bytes.Reads as reads
-use Rattle.cue.proofs.records.record_bytes.Lts as lts
 use mathlib.Core.Path.{refl}
 use native.Mathlib.Omega.{arith}
 use Rattle.cue.specs.Records.{recordBytes}

@@ -1,14 +1,6 @@
 use borrow.Author.Needs.{needs}
 use Rattle.cue.proofs.records.record_refusal.Statement.{statement}
 use Rattle.cue.proofs.records.record_refusal.Tie as tie
-use Rattle.cue.proofs.records.record_refusal.Reads as reads
-use Rattle.cue.proofs.records.record_refusal.Lts as lts
-use Rattle.cue.proofs.records.bad_element.Reads as bad-element-reads
-use Rattle.cue.proofs.records.byte_at.Reads as byte-at-reads
-use Rattle.cue.proofs.records.first_of.Reads as first-of-reads
-use Rattle.cue.proofs.records.pair_at.Reads as pair-at-reads
-use Rattle.cue.proofs.records.record_bytes.Reads as record-bytes-reads
-use Rattle.cue.proofs.records.too_wide.Reads as too-wide-reads
 use Rattle.cue.proofs.ReadingLaws.{chain-is}
 use Rattle.cue.specs.Records.{markAt}
 use denote.Ref.{now}

@@ -1,10 +1,6 @@
 use borrow.Author.Needs.{needs}
 use Rattle.cue.proofs.records.too_wide.Statement.{statement}
 use Rattle.cue.proofs.records.too_wide.Tie as tie
-use Rattle.cue.proofs.records.too_wide.Reads as reads
-use Rattle.cue.proofs.records.too_wide.Lts as lts
-use Rattle.cue.proofs.records.byte_at.Reads as byte-at-reads
-use Rattle.cue.proofs.records.pair_at.Reads as pair-at-reads
 use Rattle.cue.proofs.ReadingLaws.{too-wide-is}
 
 byte-at-requires : tie.Need-byte-at-requires

@@ -1,11 +1,8 @@
 use Rattle.lbp16.proofs.word.out_of_range.Statement.{statement}
 use Rattle.lbp16.proofs.word.out_of_range.Tie as tie
-use Rattle.lbp16.proofs.word.out_of_range.Reads as reads
-use Rattle.lbp16.proofs.word.out_of_range.Lts as lts
 use Rattle.lbp16.specs.Word.{outOfRange}
 use mathlib.Core.Path.{refl}
 
--- src/word.rt:45:1
 returns : tie.Need-returns
 unfolding outOfRange
 returns c = refl

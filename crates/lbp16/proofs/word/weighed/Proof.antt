@@ -1,18 +1,14 @@
 use Rattle.lbp16.proofs.word.weighed.Statement.{statement}
 use Rattle.lbp16.proofs.word.weighed.Tie as tie
-use Rattle.lbp16.proofs.word.weighed.Reads as reads
-use Rattle.lbp16.proofs.word.weighed.Lts as lts
 use Rattle.lbp16.specs.Word.{bit}
 use mathlib.Core.Path.{refl}
 use native.Mathlib.Nat.{one-mul, zero-mul, le-refl}
 use native.Mathlib.Omega.{arith}
 
--- src/word.rt:39:1
 returns : tie.Need-returns
 unfolding bit
 returns c = rw (c .if1 .taken) (rw one-mul (refl, le-refl _))
 
--- src/word.rt:39:1
 returns-2 : tie.Need-returns-2
 unfolding bit
 returns-2 c = rw (c .if1 .left) (rw zero-mul (refl, omega arith))

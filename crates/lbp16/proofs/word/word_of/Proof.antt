@@ -1,10 +1,6 @@
 use borrow.Author.Needs.{needs}
 use Rattle.lbp16.proofs.word.word_of.Statement.{statement}
 use Rattle.lbp16.proofs.word.word_of.Tie as tie
-use Rattle.lbp16.proofs.word.word_of.Reads as reads
-use Rattle.lbp16.proofs.word.word_of.Lts as lts
-use Rattle.lbp16.proofs.word.out_of_range.Reads as out-of-range-reads
-use Rattle.lbp16.proofs.word.weighed.Reads as weighed-reads
 use native.Mathlib.Omega.{arith}
 use mathlib.Core.Path.{refl, sym, _∙_}
 use Rattle.lbp16.specs.Word.{written, listed, wordOf}
@@ -16,48 +12,37 @@ use Rattle.lbp16.specs.Answer.{accepted}
 use Rattle.lbp16.specs.Word.{outOfRange}
 use Rattle.lbp16.proofs.WordLaws.{InRange}
 
--- src/word.rt:55:8
 out-of-range-requires : tie.Need-out-of-range-requires
 out-of-range-requires c κs = search needs
 
--- src/word.rt:56:9
 returns : tie.Need-returns
 unfolding written listed
 returns c = rw (sym (c .before .out-of-range .ensures) ∙ c .if1 .taken) refl
 
--- src/word.rt:61:9
 weighed-requires : tie.Need-weighed-requires
 weighed-requires c κs = search needs
 
--- src/word.rt:62:9
 weighed-requires-2 : tie.Need-weighed-requires-2
 weighed-requires-2 c κs = search needs
 
--- src/word.rt:63:9
 weighed-requires-3 : tie.Need-weighed-requires-3
 weighed-requires-3 c κs = search needs
 
--- src/word.rt:64:9
 weighed-requires-4 : tie.Need-weighed-requires-4
 weighed-requires-4 c κs = search needs
 
--- src/word.rt:65:17
 cast-space : tie.Need-cast-space
 cast-space c = search needs
 
--- src/word.rt:66:16
 cast-size : tie.Need-cast-size
 cast-size c = search needs
 
--- src/word.rt:67:17
 cast-count : tie.Need-cast-count
 cast-count c = search needs
 
--- src/word.rt:68:19
 add-t11 : tie.Need-add-t11
 add-t11 c = search needs
 
--- src/word.rt:68:19
 add-t12 : tie.Need-add-t12
 add-t12 c = search needs
 
@@ -67,31 +52,24 @@ kept c = sym (c .before .before .before .before .before .before .before .before 
 range : (c : tie.After-struct-known3) → InRange (c .before .before .before .before .before .before .before .before .before .args .f)
 range c = in-range _ (kept c)
 
--- src/word.rt:68:44
 mul-t13 : tie.Need-mul-t13
 mul-t13 c = let r = range c in omega arith
 
--- src/word.rt:68:19
 add-t14 : tie.Need-add-t14
 add-t14 c = let r = range c in omega arith
 
--- src/word.rt:68:59
 mul-t15 : tie.Need-mul-t15
 mul-t15 c = search needs
 
--- src/word.rt:68:19
 add-t16 : tie.Need-add-t16
 add-t16 c = let r = range c in omega arith
 
--- src/word.rt:68:19
 add-t17 : tie.Need-add-t17
 add-t17 c = let r = range c in omega arith
 
--- src/word.rt:68:19
 add-t18 : tie.Need-add-t18
 add-t18 c = let r = range c in omega arith
 
--- src/word.rt:52:1
 returns-2 : tie.Need-returns-2
 unfolding written listed wordOf
 returns-2 c = rw (kept c) (ap (λ n. accepted (n ∷ [])) (omega arith))

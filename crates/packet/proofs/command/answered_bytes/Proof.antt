@@ -1,25 +1,19 @@
 use borrow.Author.Needs.{needs}
 use Rattle.packet.proofs.command.answered_bytes.Statement.{statement}
 use Rattle.packet.proofs.command.answered_bytes.Tie as tie
-use Rattle.packet.proofs.command.answered_bytes.Reads as reads
-use Rattle.packet.proofs.command.answered_bytes.Lts as lts
-use Rattle.packet.proofs.command.element_bytes.Reads as element-bytes-reads
 use native.Mathlib.Omega.{arith}
 use native.Mathlib.Nat.{mul-zero}
 use Rattle.packet.specs.Step.{answered}
 use Rattle.packet.specs.Command.{kindOf}
 use mathlib.Core.Path.{sym}
 
--- src/command.rt:102:29
 element-bytes-requires : tie.Need-element-bytes-requires
 element-bytes-requires c κs = search needs
 
--- src/command.rt:99:1
 returns : tie.Need-returns
 unfolding answered kindOf
 returns c = rw (c .if1 .taken) (sym (mul-zero _), omega arith)
 
--- src/command.rt:99:1
 returns-2 : tie.Need-returns-2
 unfolding answered kindOf
 returns-2 c = rw (c .before .if1 .left) (c .element-bytes .ensures)

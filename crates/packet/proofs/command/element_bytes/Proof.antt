@@ -1,24 +1,18 @@
 use borrow.Author.Needs.{needs}
 use Rattle.packet.proofs.command.element_bytes.Statement.{statement}
 use Rattle.packet.proofs.command.element_bytes.Tie as tie
-use Rattle.packet.proofs.command.element_bytes.Reads as reads
-use Rattle.packet.proofs.command.element_bytes.Lts as lts
-use Rattle.lbp16.proofs.space.row_of.Reads as row-of-reads
 use native.Mathlib.Omega.{arith}
 use Rattle.packet.proofs.ElementLaws.{scaled-le}
 use Rattle.lbp16.proofs.SpaceLaws.{element-le}
 use mathlib.Core.Path.{ap}
 use Prim.Native.Nat.{_*_, _≤_}
 
--- src/command.rt:88:9
 row-of-requires : tie.Need-row-of-requires
 row-of-requires c κs = search needs
 
--- src/command.rt:89:6
 cast-result : tie.Need-cast-result
 cast-result c = search needs
 
--- src/command.rt:89:27
 cast-result-2 : tie.Need-cast-result-2
 cast-result-2 c = search needs
 
@@ -26,11 +20,9 @@ below : (c : tie.After-struct-known2) → c .before .before .before .args .f .co
 below c =
     scaled-le _ _ (omega arith) (rw (c .before .before .row-of .ensures) (element-le _))
 
--- src/command.rt:89:5
 mul-result : tie.Need-mul-result
 mul-result c = let h = below c in omega arith
 
--- src/command.rt:85:1
 returns : tie.Need-returns
 returns c = (ap (λ r. c .before .before .before .args .f .count * r .element) (c .before .before .row-of .ensures), below c)
 

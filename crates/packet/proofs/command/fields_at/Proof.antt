@@ -1,33 +1,24 @@
 use borrow.Author.Needs.{needs}
 use Rattle.packet.proofs.command.fields_at.Statement.{statement}
 use Rattle.packet.proofs.command.fields_at.Tie as tie
-use Rattle.packet.proofs.command.fields_at.Reads as reads
-use Rattle.packet.proofs.command.fields_at.Lts as lts
-use Rattle.lbp16.proofs.word.fields_of.Reads as fields-of-reads
-use Rattle.packet.proofs.command.pair_at.Reads as pair-at-reads
 use Rattle.packet.specs.Command.{fieldsAt}
 use borrow.Author.Tests.{lt-ltb, le-ltb}
 use mathlib.Core.Path.{ap, _∙_}
 use Rattle.lbp16.specs.Word.{fieldsOf}
 
--- src/command.rt:71:9
 fields-of-requires : tie.Need-fields-of-requires
 fields-of-requires c κs = search needs
 
--- src/command.rt:73:25
 pair-at-requires : tie.Need-pair-at-requires
 pair-at-requires c κs = search needs
 
--- src/command.rt:73:9
 fields-of-requires-2 : tie.Need-fields-of-requires-2
 fields-of-requires-2 c κs = search needs
 
--- src/command.rt:67:1
 returns : tie.Need-returns
 unfolding fieldsAt
 returns c = rw (lt-ltb _ _ (c .before .if1 .taken)) (c .fields-of .ensures)
 
--- src/command.rt:67:1
 returns-2 : tie.Need-returns-2
 unfolding fieldsAt
 returns-2 c = rw (le-ltb _ _ (c .before .before .if1 .left)) (c .fields-of2 .ensures ∙ ap fieldsOf (c .before .pair-at .ensures))

@@ -1,17 +1,13 @@
 use Rattle.packet.proofs.command.header_bytes.Statement.{statement}
 use Rattle.packet.proofs.command.header_bytes.Tie as tie
-use Rattle.packet.proofs.command.header_bytes.Reads as reads
-use Rattle.packet.proofs.command.header_bytes.Lts as lts
 use mathlib.Core.Path.{refl}
 use native.Mathlib.Omega.{arith}
 use Rattle.packet.specs.Command.{headerBytes}
 
--- src/command.rt:78:1
 returns : tie.Need-returns
 unfolding headerBytes
 returns c = rw (c .if1 .taken) (refl, omega arith)
 
--- src/command.rt:78:1
 returns-2 : tie.Need-returns-2
 unfolding headerBytes
 returns-2 c = rw (c .if1 .left) (refl, omega arith)

@@ -1,9 +1,6 @@
 use borrow.Author.Needs.{needs}
 use Rattle.packet.proofs.command.moved_bytes.Statement.{statement}
 use Rattle.packet.proofs.command.moved_bytes.Tie as tie
-use Rattle.packet.proofs.command.moved_bytes.Reads as reads
-use Rattle.packet.proofs.command.moved_bytes.Lts as lts
-use Rattle.packet.proofs.command.stride_of.Reads as stride-of-reads
 use mathlib.Core.Path.{ap}
 use Prim.Native.Nat.{_*_, _≤_}
 use native.Mathlib.Omega.{arith}
@@ -12,11 +9,9 @@ use Rattle.lbp16.proofs.SpaceLaws.{element-le}
 use Rattle.packet.proofs.ElementLaws.{scaled-le}
 use Rattle.packet.proofs.CommandLaws.{stride-le}
 
--- src/command.rt:245:6
 cast-result : tie.Need-cast-result
 cast-result c = search needs
 
--- src/command.rt:245:24
 stride-of-requires : tie.Need-stride-of-requires
 stride-of-requires c κs = search needs
 
@@ -24,11 +19,9 @@ below : (c : tie.After-stride-of) → c .before .before .args .f .count * c .str
 below c =
     scaled-le _ _ (omega arith) (rw (c .stride-of .ensures) (le-trans (stride-le _) (element-le _)))
 
--- src/command.rt:245:5
 mul-result : tie.Need-mul-result
 mul-result c = let h = below c in omega arith
 
--- src/command.rt:242:1
 returns : tie.Need-returns
 returns c = (ap (λ r. c .before .before .args .f .count * r) (c .stride-of .ensures), below c)
 

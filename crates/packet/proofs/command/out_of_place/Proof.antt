@@ -1,49 +1,35 @@
 use borrow.Author.Needs.{needs}
 use Rattle.packet.proofs.command.out_of_place.Statement.{statement}
 use Rattle.packet.proofs.command.out_of_place.Tie as tie
-use Rattle.packet.proofs.command.out_of_place.Reads as reads
-use Rattle.packet.proofs.command.out_of_place.Lts as lts
-use Rattle.lbp16.proofs.space.row_of.Reads as row-of-reads
-use Rattle.packet.proofs.command.address_used.Reads as address-used-reads
-use Rattle.packet.proofs.command.span_of.Reads as span-of-reads
 use Rattle.packet.proofs.ElementLaws.{past-quick}
 use Rattle.packet.specs.Command.{outOfPlace}
 use Rattle.packet.specs.Rules.{misaligned}
 use Rattle.lbp16.proofs.SpaceLaws.{element-nonzero}
 
--- src/command.rt:160:9
 row-of-requires : tie.Need-row-of-requires
 row-of-requires c κs = search needs
 
--- src/command.rt:161:16
 address-used-requires : tie.Need-address-used-requires
 address-used-requires c κs = search needs
 
--- src/command.rt:161:16
 cast-used : tie.Need-cast-used
 cast-used c = search needs
 
--- src/command.rt:162:19
 cast-element : tie.Need-cast-element
 cast-element c = search needs
 
--- src/command.rt:163:17
 cast-bytes : tie.Need-cast-bytes
 cast-bytes c = search needs
 
--- src/command.rt:164:6
 rem-result : tie.Need-rem-result
 rem-result c = rw (c .before .before .before .row-of .ensures) (element-nonzero _)
 
--- src/command.rt:164:63
 span-of-requires : tie.Need-span-of-requires
 span-of-requires c κs = search needs
 
--- src/command.rt:164:56
 add-result : tie.Need-add-result
 add-result c = search needs
 
--- src/command.rt:157:1
 returns : tie.Need-returns
 unfolding outOfPlace misaligned
 returns c = simp (c .span-of .ensures .0, c .before .before .before .before .address-used .ensures, c .before .before .before .before .before .row-of .ensures, past-quick)

@@ -1,33 +1,23 @@
 use borrow.Author.Needs.{needs}
 use Rattle.packet.proofs.command.span_of.Statement.{statement}
 use Rattle.packet.proofs.command.span_of.Tie as tie
-use Rattle.packet.proofs.command.span_of.Reads as reads
-use Rattle.packet.proofs.command.span_of.Lts as lts
-use Rattle.lbp16.proofs.space.row_of.Reads as row-of-reads
-use Rattle.packet.proofs.command.element_bytes.Reads as element-bytes-reads
 use native.Mathlib.Omega.{arith}
 use Rattle.lbp16.proofs.SpaceLaws.{element-le}
-use mathlib.Core.Path.{refl}
 use mathlib.Core.Path.{ap}
 use Rattle.lbp16.specs.Space.{spaceOf}
 
--- src/command.rt:135:9
 element-bytes-requires : tie.Need-element-bytes-requires
 element-bytes-requires c κs = search needs
 
--- src/command.rt:137:9
 row-of-requires : tie.Need-row-of-requires
 row-of-requires c κs = search needs
 
--- src/command.rt:137:9
 cast-result : tie.Need-cast-result
 cast-result c = search needs
 
--- src/command.rt:131:1
 returns : tie.Need-returns
 returns c = rw (c .before .if1 .taken) (c .element-bytes .ensures)
 
--- src/command.rt:131:1
 returns-2 : tie.Need-returns-2
 returns-2 c = rw (c .before .before .if1 .left) (ap (λ r. r .element) (c .before .row-of .ensures), rw (c .before .row-of .ensures) (omega (arith, element-le (spaceOf (c .before .before .before .args .f .space)))))
 

@@ -1,22 +1,16 @@
 use borrow.Author.Needs.{needs}
 use Rattle.packet.proofs.command.stride_of.Statement.{statement}
 use Rattle.packet.proofs.command.stride_of.Tie as tie
-use Rattle.packet.proofs.command.stride_of.Reads as reads
-use Rattle.packet.proofs.command.stride_of.Lts as lts
-use Rattle.lbp16.proofs.space.row_of.Reads as row-of-reads
 use Rattle.packet.specs.Command.{stride}
 use mathlib.Core.Path.{refl, ap}
 
--- src/command.rt:127:22
 row-of-requires : tie.Need-row-of-requires
 row-of-requires c κs = search needs
 
--- src/command.rt:124:1
 returns : tie.Need-returns
 unfolding stride
-returns c = rw (c .before .if1 .taken) (ap (λ r. r .element) (c .row-of .ensures))
+returns c = rw (c .if1 .taken) (ap (λ r. r .element) (c .before .row-of .ensures))
 
--- src/command.rt:124:1
 returns-2 : tie.Need-returns-2
 unfolding stride
 returns-2 c = rw (c .if1 .left) refl

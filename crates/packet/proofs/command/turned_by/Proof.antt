@@ -1,24 +1,18 @@
 use borrow.Author.Needs.{needs}
 use Rattle.packet.proofs.command.turned_by.Statement.{statement}
 use Rattle.packet.proofs.command.turned_by.Tie as tie
-use Rattle.packet.proofs.command.turned_by.Reads as reads
-use Rattle.packet.proofs.command.turned_by.Lts as lts
-use Rattle.packet.proofs.command.pair_at.Reads as pair-at-reads
 use mathlib.Core.Path.{ap}
 use lib.Dec.{eqb}
 use borrow.Author.Tests.{ne-eqb}
 use Rattle.packet.specs.Step.{turned, namesUnlock, isStatus, isWrite}
 
--- src/command.rt:219:26
 pair-at-requires : tie.Need-pair-at-requires
 pair-at-requires c κs = search needs
 
--- src/command.rt:216:1
 returns : tie.Need-returns
 unfolding turned namesUnlock isStatus isWrite
 returns c = rw (c .before .if1 .taken) (ap (λ n. eqb n 0x5A02) (c .pair-at .ensures))
 
--- src/command.rt:216:1
 returns-2 : tie.Need-returns-2
 unfolding turned namesUnlock isStatus isWrite
 returns-2 c = simp (ne-eqb _ _ (c .if1 .left))

@@ -1,12 +1,8 @@
 use Rattle.packet.proofs.command.unlock_after.Statement.{statement}
 use Rattle.packet.proofs.command.unlock_after.Tie as tie
-use Rattle.packet.proofs.command.unlock_after.Reads as reads
-use Rattle.packet.proofs.command.unlock_after.Lts as lts
-use Rattle.packet.proofs.command.turned_by.Reads as turned-by-reads
 use Prim.Native.Nat.{_≤_, _<_, _+_, _-_, _*_}
 use mathlib.Core.Path.{_≡_, refl, sym, _∙_}
 use native.Mathlib.Omega.{arith}
-use native.Mathlib.Nat.{zero-mul}
 use lib.ListN.{drop}
 use Rattle.lbp16.specs.Space.{status}
 use Rattle.packet.specs.Step.{write, unlocked}
@@ -24,35 +20,27 @@ Inv-loop «open» count used stride «data» n step now-open₀ address₀ i₀ 
 abbrev μ-loop : tie.MeasureT-loop
 μ-loop «open» count used stride «data» n step now-open₀ address₀ i₀ now-open address i = n - i
 
--- src/command.rt:232:5
 loop-holds : tie.Need-loop-holds Inv-loop μ-loop
 loop-holds c = (omega arith, omega arith, c .before .pre, omega arith, rw sub-zero refl)
 
--- src/command.rt:233:55
 mul-turned-by : tie.Need-mul-turned-by Inv-loop μ-loop
 mul-turned-by c = omega arith
 
--- src/command.rt:233:9
 turned-by-requires : tie.Need-turned-by-requires Inv-loop μ-loop
 turned-by-requires c κs = search needs
 
--- src/command.rt:234:9
 add-address : tie.Need-add-address Inv-loop μ-loop
 add-address c = omega arith
 
--- src/command.rt:235:9
 add-i : tie.Need-add-i Inv-loop μ-loop
 add-i c = omega arith
 
--- src/command.rt:232:5
 loop-less : tie.Need-loop-less Inv-loop μ-loop
 loop-less c = omega arith
 
--- src/command.rt:232:5
 loop-again : tie.Need-loop-again Inv-loop μ-loop
 loop-again c = (omega arith, omega arith, omega arith, omega arith, c .before .before .loop .inv .4 ∙ unlock-again _ _ _ _ _ _ (c .before .loop-test .taken) ∙ rw (sym (c .turned-by .ensures)) refl)
 
--- src/command.rt:223:1
 returns : tie.Need-returns Inv-loop μ-loop
 unfolding unlocked elements
 returns c = let l = c .before .loop in let z : c .before .before .before .args .count - l .i ≡ 0 = omega arith in sym (rw z at (l .inv .4))

@@ -1,21 +1,16 @@
 use Rattle.packet.proofs.command.which_of.Statement.{statement}
 use Rattle.packet.proofs.command.which_of.Tie as tie
-use Rattle.packet.proofs.command.which_of.Reads as reads
-use Rattle.packet.proofs.command.which_of.Lts as lts
 use mathlib.Core.Path.{refl, sym}
 use Rattle.packet.specs.Command.{whichOf}
 use Rattle.packet.proofs.ElementLaws.{which-refused}
 
--- src/command.rt:198:9
 returns : tie.Need-returns
 returns c = sym (which-refused _ _ (c .if1 .taken))
 
--- src/command.rt:194:1
 returns-2 : tie.Need-returns-2
 unfolding whichOf
 returns-2 c = rw (c .before .if1 .left, c .if2 .taken) refl
 
--- src/command.rt:194:1
 returns-3 : tie.Need-returns-3
 unfolding whichOf
 returns-3 c = rw (c .before .if1 .left, c .if2 .left) refl

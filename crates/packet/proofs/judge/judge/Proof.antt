@@ -1,14 +1,8 @@
 use Rattle.packet.proofs.judge.judge.Statement.{statement}
 use Rattle.packet.proofs.judge.judge.Tie as tie
-use Rattle.packet.proofs.judge.judge.Reads as reads
-use Rattle.packet.proofs.judge.judge.Lts as lts
-use Rattle.packet.proofs.command.command_at.Reads as command-at-reads
-use Rattle.packet.proofs.command.command_bytes.Reads as command-bytes-reads
-use Rattle.packet.proofs.command.number_of.Reads as number-of-reads
-use Rattle.packet.proofs.judge.begin.Reads as begin-reads
 use native.Mathlib.Omega.{arith}
 use borrow.Author.Needs.{needs}
-use mathlib.Core.Path.{_≡_, ap, _∙_, sym}
+use mathlib.Core.Path.{ap, _∙_}
 use lib.ListN.{length}
 use Rattle.packet.specs.Command.{numberOf}
 use Rattle.packet.specs.Judge.{Carried}
@@ -24,29 +18,23 @@ Inv-loop packet at₀ place₀ rest₀ at place rest = (c : Carried) × At (at�
 abbrev μ-loop : tie.MeasureT-loop
 μ-loop packet at₀ place₀ rest₀ at place rest = length rest
 
--- src/judge.rt:31:9
 begin-requires : tie.Need-begin-requires Inv-loop μ-loop
 begin-requires c κs = search needs
 
--- src/judge.rt:34:5
 loop-holds : tie.Need-loop-holds Inv-loop μ-loop
 unfolding start
 loop-holds c = rw (c .begin .ensures) (_, at-begin _ _)
 
--- src/judge.rt:35:13
 command-at-requires : tie.Need-command-at-requires Inv-loop μ-loop
 command-at-requires c κs = search needs
 
--- src/judge.rt:38:13
 number-of-requires : tie.Need-number-of-requires Inv-loop μ-loop
 number-of-requires c κs = search needs
 
--- src/judge.rt:40:13
 returns : tie.Need-returns Inv-loop μ-loop
 unfolding start
 returns c = let b = c .before .before .before in let q = ap (λ g. g .pointers) (b .before .before .before .begin .ensures) in at-refused _ (b .before .before .loop .inv .1) (b .before .loop-test .taken) _ (c .before .number-of .ensures ∙ ap (λ (d : Command). numberOf (d .found .which)) (b .command-at .ensures)) (c .if1 .taken) ∙ ap (λ p. verdict p (c .before .before .before .before .before .before .before .before .args .packet .now)) q
 
--- src/judge.rt:45:13
 command-bytes-requires : tie.Need-command-bytes-requires Inv-loop μ-loop
 command-bytes-requires c κs = search needs
 
@@ -66,31 +54,24 @@ step c =
     (c .before .before .if1 .left)
     (c .before .command-bytes .ensures)
 
--- src/judge.rt:47:9
 add-place : tie.Need-add-place Inv-loop μ-loop
 add-place c = let s = step c in let e = c .before .before .before .before .before .before .before .loop .inv .1 .end in omega arith
 
--- src/judge.rt:48:16
 sub-rest : tie.Need-sub-rest Inv-loop μ-loop
 sub-rest c = step c .whole
 
--- src/judge.rt:48:16
 part-rest-start : tie.Need-part-rest-start Inv-loop μ-loop
 part-rest-start c = step c .whole
 
--- src/judge.rt:48:16
 part-rest-end : tie.Need-part-rest-end Inv-loop μ-loop
 part-rest-end c = search needs
 
--- src/judge.rt:34:5
 loop-less : tie.Need-loop-less Inv-loop μ-loop
 loop-less c = let s = step (c .before) in simp (length-take, length-drop) (omega arith)
 
--- src/judge.rt:34:5
 loop-again : tie.Need-loop-again Inv-loop μ-loop
 loop-again c = (_, step (c .before) .again)
 
--- src/judge.rt:28:1
 returns-2 : tie.Need-returns-2 Inv-loop μ-loop
 unfolding start
 returns-2 c = let q = ap (λ g. g .pointers) (c .before .before .begin .ensures) in verdict-end _ (c .before .loop .inv .1) (omega arith) ∙ ap (λ p. verdict p (c .before .before .before .before .args .packet .now)) q

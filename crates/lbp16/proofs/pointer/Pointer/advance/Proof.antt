@@ -1,25 +1,19 @@
 use borrow.Author.Needs.{needs}
 use Rattle.lbp16.proofs.pointer.Pointer.advance.Statement.{statement}
 use Rattle.lbp16.proofs.pointer.Pointer.advance.Tie as tie
-use Rattle.lbp16.proofs.pointer.Pointer.advance.Reads as reads
-use Rattle.lbp16.proofs.pointer.Pointer.advance.Lts as lts
 use Rattle.lbp16.specs.Pointer.{advanced}
 use native.Mathlib.Omega.{arith}
 
--- src/pointer.rt:30:21
 sub-if1 : tie.Need-sub-if1
 sub-if1 c = search needs
 
--- src/pointer.rt:31:27
 add-t7 : tie.Need-add-t7
 add-t7 c = search needs
 
--- src/pointer.rt:26:5
 returns : tie.Need-returns
 unfolding advanced
 returns c = omega arith
 
--- src/pointer.rt:26:5
 returns-2 : tie.Need-returns-2
 unfolding advanced
 returns-2 c = omega arith

@@ -1,39 +1,30 @@
 use borrow.Author.Needs.{needs}
 use Rattle.lbp16.proofs.pointer.Pointers.of.Statement.{statement}
 use Rattle.lbp16.proofs.pointer.Pointers.of.Tie as tie
-use Rattle.lbp16.proofs.pointer.Pointers.of.Reads as reads
-use Rattle.lbp16.proofs.pointer.Pointers.of.Lts as lts
-use Rattle.lbp16.proofs.pointer.Pointer.new.Reads as new-reads
 use mathlib.Core.Path.{refl}
 use borrow.Author.Tests.{ne-eqb}
 use Rattle.lbp16.specs.Space.{spaceOf}
 use Rattle.lbp16.specs.Pointer.{pointerOf}
 
--- src/pointer.rt:67:18
 new-requires : tie.Need-new-requires
 new-requires c κs = search needs
 
--- src/pointer.rt:59:5
 returns : tie.Need-returns
 unfolding spaceOf pointerOf
 returns c = rw (c .before .match .keys1) refl
 
--- src/pointer.rt:59:5
 returns-2 : tie.Need-returns-2
 unfolding spaceOf pointerOf
 returns-2 c = rw (c .before .match .keys2) refl
 
--- src/pointer.rt:59:5
 returns-3 : tie.Need-returns-3
 unfolding spaceOf pointerOf
 returns-3 c = rw (c .before .match .keys3) refl
 
--- src/pointer.rt:59:5
 returns-4 : tie.Need-returns-4
 unfolding spaceOf pointerOf
 returns-4 c = rw (c .before .match .keys4) refl
 
--- src/pointer.rt:59:5
 returns-5 : tie.Need-returns-5
 unfolding spaceOf pointerOf
 returns-5 c = simp (ne-eqb _ _ (c .before .match .rest .0 .0 .0 .1), ne-eqb _ _ (c .before .match .rest .0 .0 .1), ne-eqb _ _ (c .before .match .rest .0 .1), ne-eqb _ _ (c .before .match .rest .1)) (c .new .ensures)

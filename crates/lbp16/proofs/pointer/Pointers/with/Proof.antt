@@ -1,33 +1,26 @@
 use Rattle.lbp16.proofs.pointer.Pointers.with.Statement.{statement}
 use Rattle.lbp16.proofs.pointer.Pointers.with.Tie as tie
-use Rattle.lbp16.proofs.pointer.Pointers.with.Reads as reads
-use Rattle.lbp16.proofs.pointer.Pointers.with.Lts as lts
 use mathlib.Core.Path.{refl}
 use borrow.Author.Tests.{ne-eqb}
 use Rattle.lbp16.specs.Space.{spaceOf}
 use Rattle.lbp16.specs.Pointer.{withPointer}
 
--- src/pointer.rt:72:5
 returns : tie.Need-returns
 unfolding spaceOf withPointer
 returns c = rw (c .match .keys1) refl
 
--- src/pointer.rt:72:5
 returns-2 : tie.Need-returns-2
 unfolding spaceOf withPointer
 returns-2 c = rw (c .match .keys2) refl
 
--- src/pointer.rt:72:5
 returns-3 : tie.Need-returns-3
 unfolding spaceOf withPointer
 returns-3 c = rw (c .match .keys3) refl
 
--- src/pointer.rt:72:5
 returns-4 : tie.Need-returns-4
 unfolding spaceOf withPointer
 returns-4 c = rw (c .match .keys4) refl
 
--- src/pointer.rt:72:5
 returns-5 : tie.Need-returns-5
 unfolding spaceOf withPointer
 returns-5 c = simp (ne-eqb _ _ (c .match .rest .0 .0 .0 .1), ne-eqb _ _ (c .match .rest .0 .0 .1), ne-eqb _ _ (c .match .rest .0 .1), ne-eqb _ _ (c .match .rest .1))

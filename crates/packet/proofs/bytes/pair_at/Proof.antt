@@ -1,12 +1,9 @@
 use borrow.Author.Needs.{needs}
-use Rattle.cue.proofs.records.pair_at.Statement.{statement}
-use Rattle.cue.proofs.records.pair_at.Tie as tie
-use Rattle.cue.proofs.records.pair_at.Reads as reads
-use Rattle.cue.proofs.records.pair_at.Lts as lts
-use Rattle.cue.proofs.records.wide.Reads as wide-reads
+use Rattle.packet.proofs.bytes.pair_at.Statement.{statement}
+use Rattle.packet.proofs.bytes.pair_at.Tie as tie
 use native.Mathlib.Omega.{arith}
 use mathlib.Core.Path.{sym, _∙_}
 use Rattle.packet.proofs.PairLaws.{pair-none, pair-one, pair-two}
 use Prim.Native.Nat.{_+_, _*_}
 use mathlib.Core.Path.{ap₂}
 

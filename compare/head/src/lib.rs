@@ -1,0 +1,296 @@
+//! A safe wrapper over the static library `libhead.a`: LBP16 packets, SPI bursts and cue lists on
+//! a card store.
+//!
+//! The functions at the top are for use. Those of [`exports`] give each answer as the library
+//! gives it, as numbers.
+//!
+//! ```
+//! let mut store = vec![0; head::STORE_BYTES];
+//! let mut pointers = [0; 4];
+//! let mut reply = [0; head::PACKET_BYTES];
+//!
+//! // Write 0x12345678 to register 0x1000, then read it back.
+//! let packet = [0x81, 0xC2, 0x00, 0x10, 0x78, 0x56, 0x34, 0x12, 0x81, 0x42, 0x00, 0x10];
+//! let length = head::run(&packet, &mut store, &mut pointers, &mut reply)?;
+//! assert_eq!(reply[..length], [0x78, 0x56, 0x34, 0x12]);
+//!
+//! // A read with count 0 is refused.
+//! let refusal = head::run(&[0x80, 0x02], &mut store, &mut pointers, &mut reply).unwrap_err();
+//! assert_eq!((refusal.number, refusal.place), (7, 0));
+//! # Ok::<(), head::Refusal>(())
+//! ```
+
+use std::error::Error;
+use std::fmt;
+
+/// The length that a store must have.
+pub const STORE_BYTES: usize = 65_728;
+
+/// The length that the room for a packet's reply must have, and the longest packet.
+pub const PACKET_BYTES: usize = 1_472;
+
+/// Why a call was turned away. A refused call has changed nothing that it was lent.
+#[derive(Clone, Copy, Debug, PartialEq, Eq)]
+pub struct Refusal {
+    /// Which rule was broken: never 0.
+    pub number: u32,
+    /// The offset of the refused command, the number of the refused record, the bytes needed
+    /// (refusal 26), or 0.
+    pub place: u64,
+}
+
+impl fmt::Display for Refusal {
+    fn fmt(&self, f: &mut fmt::Formatter) -> fmt::Result {
+        write!(f, "refused {} at {}", self.number, self.place)
+    }
+}
+
+impl Error for Refusal {}
+
+/// A command word taken apart.
+#[derive(Clone, Copy, Debug, PartialEq, Eq)]
+pub struct Fields {
+    pub write: bool,
+    /// A 16-bit address follows the word.
+    pub address: bool,
+    pub info: bool,
+    pub space: u8,
+    /// 0, 1, 2, 3 for elements of 1, 2, 4, 8 bytes.
+    pub size: u8,
+    pub increment: bool,
+    pub count: u8,
+}
+
+/// What a compiled list came to.
+#[cfg(feature = "compile")]
+#[derive(Clone, Copy, Debug, PartialEq, Eq)]
+pub struct Compiled {
+    /// The output's length.
+    pub bytes: usize,
+    /// How many packets the output holds.
+    pub packets: u64,
+}
+
+/// Runs one packet on a card and answers the reply's length.
+///
+/// `store` must have [`STORE_BYTES`] and `reply` [`PACKET_BYTES`]. `pointers` are the address
+/// pointers of spaces 0, 2, 6 and 7, none above its space's size; a fresh card's are 0. Store and
+/// pointers are what the next packet starts from. The reply beyond the answered length is left as
+/// it was.
+pub fn run(
+    packet: &[u8],
+    store: &mut [u8],
+    pointers: &mut [u32],
+    reply: &mut [u8],
+) -> Result<usize, Refusal> {
+    let (number, value) = exports::run(packet, store, pointers, reply);
+    accepted(number, value)?;
+    Ok(value as usize)
+}
+
+/// Runs one SPI burst on the registers of a card.
+///
+/// `words` are the header and as many words as its count says. `store` must have [`STORE_BYTES`],
+/// and `answer` as many words as `words`.
+pub fn spi(words: &[u32], store: &mut [u8], answer: &mut [u32]) -> Result<(), Refusal> {
+    let (number, value) = exports::spi(words, store, answer);
+    accepted(number, value)
+}
+
+/// Compiles a cue list to packets in `out`, each after a mark and its length.
+///
+/// Where `out` is too short the refusal is 26 and its place is the length that is needed. What
+/// lies in `out` beyond the answered bytes is left as it was.
+///
+/// ```
+/// // Read register 4.
+/// let list = [b'R', b'D', 0, 0, 4, 0];
+/// let mut out = [0; 100];
+/// let compiled = head::compile(&list, &mut out)?;
+/// assert_eq!(compiled.packets, 1);
+/// assert_eq!(out[..compiled.bytes], [b'L', b'B', 4, 0, 0x81, 0x42, 4, 0]);
+/// # Ok::<(), head::Refusal>(())
+/// ```
+#[cfg(feature = "compile")]
+pub fn compile(list: &[u8], out: &mut [u8]) -> Result<Compiled, Refusal> {
+    let (number, bytes, packets) = exports::compile(list, out);
+    accepted(number, bytes)?;
+    Ok(Compiled {
+        bytes: bytes as usize,
+        packets,
+    })
+}
+
+/// Takes a command word apart. No word is refused.
+///
+/// ```
+/// let fields = head::fields(0x4285);
+/// assert!(fields.address && fields.increment && !fields.write);
+/// assert_eq!((fields.space, fields.size, fields.count), (0, 2, 5));
+/// assert_eq!(head::word(&fields), Ok(0x4285));
+/// ```
+pub fn fields(word: u16) -> Fields {
+    let mut bytes = [0; 7];
+    exports::fields(word, &mut bytes);
+    let [write, address, info, space, size, increment, count] = bytes;
+    Fields {
+        write: write != 0,
+        address: address != 0,
+        info: info != 0,
+        space,
+        size,
+        increment: increment != 0,
+        count,
+    }
+}
+
+/// Puts a command word together. A space above 7, a size above 3 or a count above 127 is refused
+/// with 13.
+pub fn word(fields: &Fields) -> Result<u16, Refusal> {
+    let bytes = [
+        fields.write.into(),
+        fields.address.into(),
+        fields.info.into(),
+        fields.space,
+        fields.size,
+        fields.increment.into(),
+        fields.count,
+    ];
+    let mut word = 0;
+    let number = exports::word(&bytes, &mut word);
+    accepted(number, 0)?;
+    Ok(word)
+}
+
+fn accepted(number: u32, place: u64) -> Result<(), Refusal> {
+    match number {
+        0 => Ok(()),
+        _ => Err(Refusal { number, place }),
+    }
+}
+
+/// The library's exports one for one, safe to call with slices of any length.
+///
+/// The first number of each answer is the refusal number, 0 if the call was accepted.
+pub mod exports {
+    use super::c;
+
+    /// What a value holds before the call, so that one that was not written is seen.
+    const UNWRITTEN: u64 = u64::MAX;
+
+    /// Answers the refusal number, and the reply's length or the place.
+    pub fn run(
+        packet: &[u8],
+        store: &mut [u8],
+        pointers: &mut [u32],
+        reply: &mut [u8],
+    ) -> (u32, u64) {
+        let mut value = UNWRITTEN;
+        // SAFETY: each pointer and length is a slice's, and the library uses no byte beyond.
+        let number = unsafe {
+            c::head_run(
+                packet.as_ptr(),
+                packet.len(),
+                store.as_mut_ptr(),
+                store.len(),
+                pointers.as_mut_ptr(),
+                pointers.len(),
+                reply.as_mut_ptr(),
+                reply.len(),
+                &mut value,
+            )
+        };
+        (number, value)
+    }
+
+    /// Answers the refusal number, and 0 or the place.
+    pub fn spi(words: &[u32], store: &mut [u8], answer: &mut [u32]) -> (u32, u64) {
+        let mut value = UNWRITTEN;
+        // SAFETY: as in `run`.
+        let number = unsafe {
+            c::head_spi(
+                words.as_ptr(),
+                words.len(),
+                store.as_mut_ptr(),
+                store.len(),
+                answer.as_mut_ptr(),
+                answer.len(),
+                &mut value,
+            )
+        };
+        (number, value)
+    }
+
+    /// Answers the refusal number, the output's bytes or the place, and the packets, 0 if refused.
+    #[cfg(feature = "compile")]
+    pub fn compile(list: &[u8], out: &mut [u8]) -> (u32, u64, u64) {
+        let mut bytes = UNWRITTEN;
+        let mut packets = UNWRITTEN;
+        // SAFETY: as in `run`.
+        let number = unsafe {
+            c::head_compile(
+                list.as_ptr(),
+                list.len(),
+                out.as_mut_ptr(),
+                out.len(),
+                &mut bytes,
+                &mut packets,
+            )
+        };
+        (number, bytes, packets)
+    }
+
+    /// Writes 7 bytes: write, address, info, space, size, increment, count. A slice of another
+    /// length is refused with 13 and left alone.
+    pub fn fields(word: u16, fields: &mut [u8]) -> u32 {
+        // SAFETY: as in `run`.
+        unsafe { c::head_fields(word, fields.as_mut_ptr(), fields.len()) }
+    }
+
+    /// Puts the word of these 7 bytes together. Where that is refused, `word` is left alone.
+    pub fn word(fields: &[u8], word: &mut u16) -> u32 {
+        // SAFETY: as in `run`.
+        unsafe { c::head_word(fields.as_ptr(), fields.len(), word) }
+    }
+}
+
+/// The declarations that `include/head.h` gives for C.
+mod c {
+    extern "C" {
+        pub fn head_run(
+            packet: *const u8,
+            packet_len: usize,
+            store: *mut u8,
+            store_len: usize,
+            pointers: *mut u32,
+            pointers_len: usize,
+            reply: *mut u8,
+            reply_len: usize,
+            value: *mut u64,
+        ) -> u32;
+
+        pub fn head_spi(
+            words: *const u32,
+            words_len: usize,
+            store: *mut u8,
+            store_len: usize,
+            answer: *mut u32,
+            answer_len: usize,
+            value: *mut u64,
+        ) -> u32;
+
+        #[cfg(feature = "compile")]
+        pub fn head_compile(
+            list: *const u8,
+            list_len: usize,
+            out: *mut u8,
+            out_len: usize,
+            bytes: *mut u64,
+            packets: *mut u64,
+        ) -> u32;
+
+        pub fn head_fields(word: u16, fields: *mut u8, fields_len: usize) -> u32;
+
+        pub fn head_word(fields: *const u8, fields_len: usize, word: *mut u16) -> u32;
+    }
+}

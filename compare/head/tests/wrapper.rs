@@ -1,0 +1,69 @@
+//! Some of the documents' examples through the wrapper.
+
+use head::{Refusal, PACKET_BYTES, STORE_BYTES};
+
+#[test]
+fn refused_packet_changes_nothing() {
+    let mut store = vec![0xEE; STORE_BYTES];
+    let mut pointers = [0; 4];
+    let mut reply = [0xEE; PACKET_BYTES];
+    let packet = [0x81, 0x42, 0xFC, 0xFF, 0x81, 0x02];
+    let answer = head::run(&packet, &mut store, &mut pointers, &mut reply);
+    assert_eq!(
+        answer,
+        Err(Refusal {
+            number: 8,
+            place: 4
+        })
+    );
+    assert!(store.iter().all(|&byte| byte == 0xEE));
+    assert_eq!(pointers, [0; 4]);
+    assert_eq!(reply, [0xEE; PACKET_BYTES]);
+}
+
+#[test]
+fn pointers_carry_on() {
+    let mut store: Vec<u8> = (0..STORE_BYTES).map(|at| at as u8).collect();
+    let mut pointers = [0; 4];
+    let mut reply = [0xEE; PACKET_BYTES];
+    for first in [0, 4] {
+        let answer = head::run(&[0x81, 0x02], &mut store, &mut pointers, &mut reply);
+        assert_eq!(answer, Ok(4));
+        assert_eq!(reply[..5], [first, first + 1, first + 2, first + 3, 0xEE]);
+    }
+    assert_eq!(pointers, [8, 0, 0, 0]);
+}
+
+#[test]
+fn burst() {
+    let mut store = vec![0; STORE_BYTES];
+    let mut answer = [7; 4];
+    assert_eq!(
+        head::spi(&[0x1000_B830, 1, 2, 3], &mut store, &mut answer),
+        Ok(())
+    );
+    assert_eq!(answer, [0; 4]);
+    assert_eq!(
+        head::spi(&[0x1000_A830, 0, 0, 0], &mut store, &mut answer),
+        Ok(())
+    );
+    assert_eq!(answer, [0, 1, 2, 3]);
+    let refusal = head::spi(&[], &mut store, &mut []).unwrap_err();
+    assert_eq!(refusal.to_string(), "refused 31 at 0");
+}
+
+#[cfg(feature = "compile")]
+#[test]
+fn list_and_its_room() {
+    let list = b"WR\x02\0\x20\0\x20\0\0\0WR\x02\0\x22\0\xA8\xC0\0\0";
+    let packet = [
+        0x4C, 0x42, 0x0E, 0x00, 0x01, 0xD9, 0x1A, 0x00, 0x02, 0x5A, 0x82, 0xC9, 0x20, 0x00, 0x20,
+        0x00, 0xA8, 0xC0,
+    ];
+    let mut out = [0; 18];
+    let compiled = head::compile(list, &mut out).unwrap();
+    assert_eq!((compiled.bytes, compiled.packets), (18, 1));
+    assert_eq!(out, packet);
+    let refusal = head::compile(list, &mut out[..17]).unwrap_err();
+    assert_eq!((refusal.number, refusal.place), (26, 18));
+}

@@ -1,0 +1,116 @@
+//! Cue lists: reading their records, and doing a record alone.
+
+use crate::store::{Space, UNLOCK_ADDRESS};
+use crate::Refusal;
+
+/// The most records that a list may have.
+pub const MOST_RECORDS: u64 = 100_000;
+
+#[derive(Clone, Copy, Debug, PartialEq, Eq)]
+pub struct Record {
+    pub space: Space,
+    pub address: u32,
+    pub action: Action,
+}
+
+#[derive(Clone, Copy, Debug, PartialEq, Eq)]
+pub enum Action {
+    Read,
+    Write(u32),
+}
+
+impl Record {
+    pub fn is_write(&self) -> bool {
+        matches!(self.action, Action::Write(_))
+    }
+
+    /// Whether a written value has no more bits than its element.
+    fn value_fits(&self) -> bool {
+        match self.action {
+            Action::Read => true,
+            Action::Write(value) => self.space.element() == 4 || value <= 0xFFFF,
+        }
+    }
+
+    /// Does the record alone: a read adds the element's bytes to `values`, a write changes the
+    /// element and nothing else.
+    pub fn run(&self, store: &mut [u8], values: &mut Vec<u8>) {
+        let first = self.space.place(self.address);
+        let element = self.space.element() as usize;
+        let cell = &mut store[first..first + element];
+        match self.action {
+            Action::Read => values.extend_from_slice(cell),
+            Action::Write(value) => cell.copy_from_slice(&value.to_le_bytes()[..element]),
+        }
+    }
+}
+
+/// The records of a list in order, up to its end or its first refusal.
+pub struct Records<'a> {
+    rest: &'a [u8],
+    read: u64,
+}
+
+impl<'a> Records<'a> {
+    pub fn new(list: &'a [u8]) -> Records<'a> {
+        Records {
+            rest: list,
+            read: 0,
+        }
+    }
+
+    /// The next record, or the lowest number that it is refused with.
+    fn record(&mut self) -> Result<Record, u32> {
+        if self.read == MOST_RECORDS {
+            return Err(21);
+        }
+        let bytes = match self.rest {
+            [b'R', b'D', ..] => 6,
+            [b'W', b'R', ..] => 10,
+            _ => return Err(22),
+        };
+        let (record, rest) = self.rest.split_at_checked(bytes).ok_or(22u32)?;
+        self.rest = rest;
+        self.read += 1;
+        check(record)
+    }
+}
+
+impl Iterator for Records<'_> {
+    type Item = Result<Record, Refusal>;
+
+    fn next(&mut self) -> Option<Self::Item> {
+        if self.rest.is_empty() {
+            return None;
+        }
+        let place = self.read;
+        Some(self.record().map_err(|number| Refusal { number, place }))
+    }
+}
+
+/// Takes a whole record of 6 or 10 bytes apart.
+fn check(record: &[u8]) -> Result<Record, u32> {
+    let spare = record[3];
+    let address = u32::from(u16::from_le_bytes([record[4], record[5]]));
+    let action = match record[6..] {
+        [a, b, c, d] => Action::Write(u32::from_le_bytes([a, b, c, d])),
+        _ => Action::Read,
+    };
+    let space = Space::from_number(record[2]).ok_or(23u32)?;
+    let record = Record {
+        space,
+        address,
+        action,
+    };
+    if address % space.element() != 0
+        || address + space.element() > space.bytes()
+        || record.is_write() && space.read_only_at(address)
+        || space == Space::Status && address == UNLOCK_ADDRESS
+    {
+        return Err(23);
+    }
+    if spare != 0 || !record.value_fits() {
+        return Err(24);
+    }
+    Ok(record)
+}

@@ -1,0 +1,219 @@
+//! Running one packet on a card store.
+
+use crate::store::{Space, STORE_BYTES, UNLOCK_ADDRESS, UNLOCK_VALUE};
+use crate::words::Fields;
+use crate::{Refusal, PACKET_BYTES};
+use std::ops::Range;
+
+/// Runs a packet and answers the reply's length.
+///
+/// `pointers` are those of spaces 0, 2, 6 and 7, in this order.
+pub fn run(
+    packet: &[u8],
+    store: &mut [u8],
+    pointers: &mut [u32],
+    reply: &mut [u8],
+) -> Result<usize, Refusal> {
+    let rooms_fit = store.len() == STORE_BYTES && reply.len() == PACKET_BYTES;
+    let start = match checked_pointers(pointers) {
+        Some(start) if rooms_fit => start,
+        _ => return Err(Refusal::whole(1)),
+    };
+    if packet.len() > PACKET_BYTES {
+        return Err(Refusal::whole(2));
+    }
+
+    let mut check = Walk::new(packet, start);
+    while !check.at_end() {
+        check.command()?;
+    }
+
+    let mut walk = Walk::new(packet, start);
+    let mut replied = 0;
+    while !walk.at_end() {
+        let command = walk.command()?;
+        replied += command.run(store, &mut reply[replied..]);
+    }
+    let unlock = Space::Status.place(UNLOCK_ADDRESS);
+    store[unlock..unlock + 2].fill(0);
+    pointers.copy_from_slice(&walk.pointers);
+    Ok(replied)
+}
+
+/// The pointers, if there are four and each is at most its space's size.
+fn checked_pointers(pointers: &[u32]) -> Option<[u32; 4]> {
+    let pointers: [u32; 4] = pointers.try_into().ok()?;
+    let fits = |space: &Space| pointers[space.index()] <= space.bytes();
+    Space::ALL.iter().all(fits).then_some(pointers)
+}
+
+/// A command that passed its check.
+struct Command<'a> {
+    space: Space,
+    address: u32,
+    increment: bool,
+    count: u32,
+    action: Action<'a>,
+}
+
+enum Action<'a> {
+    Read,
+    /// Its data: `count` elements.
+    Write(&'a [u8]),
+}
+
+impl Command<'_> {
+    /// Does all elements in order and answers how many bytes were read.
+    fn run(&self, store: &mut [u8], reply: &mut [u8]) -> usize {
+        let element = self.space.element() as usize;
+        let cells = &mut store[self.cells()];
+        match self.action {
+            Action::Read => {
+                let bytes = self.count as usize * element;
+                let reply = &mut reply[..bytes];
+                match (self.increment, element) {
+                    (true, _) => reply.copy_from_slice(cells),
+                    (false, 2) => repeat::<2>(cells, reply),
+                    (false, _) => repeat::<4>(cells, reply),
+                }
+                bytes
+            }
+            Action::Write(data) => {
+                // Without increment each element overwrites the one before it: the last stays.
+                cells.copy_from_slice(&data[data.len() - cells.len()..]);
+                0
+            }
+        }
+    }
+
+    /// The bytes of the store that the elements stand in.
+    fn cells(&self) -> Range<usize> {
+        let first = self.space.place(self.address);
+        let cells = if self.increment { self.count } else { 1 };
+        first..first + (cells * self.space.element()) as usize
+    }
+}
+
+/// Fills the reply with one element of `N` bytes.
+fn repeat<const N: usize>(element: &[u8], reply: &mut [u8]) {
+    let element: [u8; N] = element.try_into().expect("one element");
+    reply.as_chunks_mut().0.fill(element);
+}
+
+/// Takes a packet apart, command by command, and checks each. No store is needed for that.
+struct Walk<'a> {
+    rest: &'a [u8],
+    place: u64,
+    pointers: [u32; 4],
+    unlocked: bool,
+    replied: usize,
+}
+
+impl<'a> Walk<'a> {
+    fn new(packet: &'a [u8], pointers: [u32; 4]) -> Walk<'a> {
+        Walk {
+            rest: packet,
+            place: 0,
+            pointers,
+            unlocked: false,
+            replied: 0,
+        }
+    }
+
+    fn at_end(&self) -> bool {
+        self.rest.is_empty()
+    }
+
+    /// The next command, or the lowest number that it is refused with.
+    fn command(&mut self) -> Result<Command<'a>, Refusal> {
+        let place = self.place;
+        let refused = |number| Refusal { number, place };
+
+        let word = self.take_word().ok_or(refused(3))?;
+        let fields = Fields::from_word(word);
+        let given = match fields.address {
+            true => Some(self.take_word().ok_or(refused(3))?),
+            false => None,
+        };
+        if fields.info {
+            return Err(refused(4));
+        }
+        let space = Space::from_number(fields.space).ok_or(refused(5))?;
+        if fields.size != space.size() {
+            return Err(refused(6));
+        }
+        if fields.count == 0 {
+            return Err(refused(7));
+        }
+        let count = u32::from(fields.count);
+        let element = space.element();
+        let bytes = count * element;
+        let address = given.map_or(self.pointers[space.index()], u32::from);
+        let past_last = address + if fields.increment { bytes } else { element };
+        if address % element != 0 || past_last > space.bytes() {
+            return Err(refused(8));
+        }
+        let action = match fields.write {
+            true => self.check_write(space, address, bytes as usize),
+            false => self.check_read(bytes as usize),
+        };
+        let action = action.map_err(refused)?;
+        if let (Space::Status, Action::Write(data)) = (space, &action) {
+            self.follow_unlock(address, fields.increment, data);
+        }
+        self.pointers[space.index()] = match fields.increment {
+            true => past_last,
+            false => address,
+        };
+        Ok(Command {
+            space,
+            address,
+            increment: fields.increment,
+            count,
+            action,
+        })
+    }
+
+    fn check_write(&mut self, space: Space, address: u32, bytes: usize) -> Result<Action<'a>, u32> {
+        // Elements only go upwards, so the first is the lowest.
+        if space.read_only_at(address) {
+            return Err(9);
+        }
+        if space == Space::Eeprom && !self.unlocked {
+            return Err(10);
+        }
+        self.take(bytes).map(Action::Write).ok_or(11)
+    }
+
+    fn check_read(&mut self, bytes: usize) -> Result<Action<'a>, u32> {
+        self.replied += bytes;
+        if self.replied > PACKET_BYTES {
+            return Err(12);
+        }
+        Ok(Action::Read)
+    }
+
+    /// Opens or closes the unlock with each element of a status write that lands on its cell.
+    fn follow_unlock(&mut self, address: u32, increment: bool, data: &[u8]) {
+        let step = if increment { 2 } else { 0 };
+        let mut address = address;
+        for value in data.chunks_exact(2) {
+            if address == UNLOCK_ADDRESS {
+                self.unlocked = value == UNLOCK_VALUE.to_le_bytes();
+            }
+            address += step;
+        }
+    }
+
+    fn take_word(&mut self) -> Option<u16> {
+        let bytes = self.take(2)?;
+        Some(u16::from_le_bytes([bytes[0], bytes[1]]))
+    }
+
+    fn take(&mut self, bytes: usize) -> Option<&'a [u8]> {
+        let (taken, rest) = self.rest.split_at_checked(bytes)?;
+        self.rest = rest;
+        self.place += bytes as u64;
+        Some(taken)
+    }
+}

@@ -1,0 +1,90 @@
+//! One SPI burst on the register space.
+
+use crate::store::{Space, STORE_BYTES};
+use crate::{Refusal, HIGHEST_COUNT};
+
+const READ: u8 = 0xA;
+const WRITE: u8 = 0xB;
+
+/// The first word of a burst, taken apart.
+#[derive(Clone, Copy, Debug, PartialEq, Eq)]
+pub struct Header {
+    pub address: u16,
+    /// 0xA to read, 0xB to write.
+    pub command: u8,
+    pub increment: bool,
+    pub count: u8,
+}
+
+impl Header {
+    pub fn from_word(word: u32) -> Header {
+        Header {
+            address: (word >> 16) as u16,
+            command: (word >> 12 & 0xF) as u8,
+            increment: word >> 11 & 1 == 1,
+            count: (word >> 4 & 0x7F) as u8,
+        }
+    }
+
+    pub fn to_word(self) -> Result<u32, Refusal> {
+        if !is_command(self.command) {
+            return Err(Refusal::whole(32));
+        }
+        if self.count == 0 || self.count > HIGHEST_COUNT {
+            return Err(Refusal::whole(33));
+        }
+        Ok(u32::from(self.address) << 16
+            | u32::from(self.command) << 12
+            | u32::from(self.increment) << 11
+            | u32::from(self.count) << 4)
+    }
+}
+
+fn is_command(command: u8) -> bool {
+    command == READ || command == WRITE
+}
+
+/// Runs a burst. `answer` has as many words as are sent.
+pub fn burst(words: &[u32], store: &mut [u8], answer: &mut [u32]) -> Result<(), Refusal> {
+    if store.len() != STORE_BYTES || answer.len() != words.len() {
+        return Err(Refusal::whole(1));
+    }
+    let header = check(words).map_err(Refusal::whole)?;
+
+    let step = if header.increment { 4 } else { 0 };
+    let first = Space::Registers.place(header.address.into());
+    let places = (0..usize::from(header.count)).map(|k| first + k * step);
+    answer.fill(0);
+    if header.command == READ {
+        for (answered, at) in answer[1..].iter_mut().zip(places) {
+            let cell = store[at..at + 4].try_into().expect("four bytes");
+            *answered = u32::from_le_bytes(cell);
+        }
+    } else {
+        for (sent, at) in words[1..].iter().zip(places) {
+            store[at..at + 4].copy_from_slice(&sent.to_le_bytes());
+        }
+    }
+    Ok(())
+}
+
+/// The header of a good burst, or the lowest number that it is refused with.
+fn check(words: &[u32]) -> Result<Header, u32> {
+    let header = Header::from_word(*words.first().ok_or(31u32)?);
+    if !is_command(header.command) {
+        return Err(32);
+    }
+    if header.count == 0 {
+        return Err(33);
+    }
+    let count = u32::from(header.count);
+    if words.len() != 1 + count as usize {
+        return Err(34);
+    }
+    let address = u32::from(header.address);
+    let elements = if header.increment { count } else { 1 };
+    if address % 4 != 0 || address + 4 * elements > Space::Registers.bytes() {
+        return Err(35);
+    }
+    Ok(header)
+}

@@ -1,0 +1,309 @@
+//! The worked examples of the scope document, in its order.
+
+use model::packet::run;
+use model::packing::{compile, Compiled};
+use model::spi::{burst, Header};
+use model::store::STORE_BYTES;
+use model::words::Fields;
+use model::{Refusal, PACKET_BYTES};
+
+/// A command word that has an address and no info bit.
+fn addressed(write: bool, space: u8, size: u8, increment: bool, count: u8) -> Fields {
+    Fields {
+        write,
+        address: true,
+        info: false,
+        space,
+        size,
+        increment,
+        count,
+    }
+}
+
+fn both_ways(bytes: [u8; 2], fields: Fields) {
+    let word = u16::from_le_bytes(bytes);
+    assert_eq!(Fields::from_word(word), fields);
+    assert_eq!(fields.to_word(), Ok(word));
+}
+
+/// A card in a known state.
+struct Card {
+    store: Vec<u8>,
+    pointers: [u32; 4],
+    reply: Vec<u8>,
+}
+
+impl Card {
+    fn new() -> Card {
+        let store = (0..STORE_BYTES).map(|at| (at * 7 + at / 256) as u8);
+        Card {
+            store: store.collect(),
+            pointers: [0; 4],
+            reply: vec![0xEE; PACKET_BYTES],
+        }
+    }
+
+    fn run(&mut self, packet: &[u8]) -> Result<usize, Refusal> {
+        run(packet, &mut self.store, &mut self.pointers, &mut self.reply)
+    }
+
+    /// Runs a packet that must be refused and change nothing.
+    fn refuses(packet: &[u8], number: u32, place: u64) {
+        let mut card = Card::new();
+        assert_eq!(card.run(packet), Err(Refusal { number, place }));
+        let fresh = Card::new();
+        assert!(card.store == fresh.store);
+        assert_eq!(card.pointers, fresh.pointers);
+        assert_eq!(card.reply, fresh.reply);
+    }
+}
+
+fn read(space: u8, address: u16) -> Vec<u8> {
+    let mut record = vec![b'R', b'D', space, 0];
+    record.extend(address.to_le_bytes());
+    record
+}
+
+fn write(space: u8, address: u16, value: u32) -> Vec<u8> {
+    let mut record = vec![b'W', b'R', space, 0];
+    record.extend(address.to_le_bytes());
+    record.extend(value.to_le_bytes());
+    record
+}
+
+fn compiled(list: &[u8]) -> Result<(Vec<u8>, u64), Refusal> {
+    let mut out = vec![0xEE; 4 * list.len() + 100];
+    let Compiled { bytes, packets } = compile(list, &mut out)?;
+    assert!(out[bytes..].iter().all(|&byte| byte == 0xEE));
+    out.truncate(bytes);
+    Ok((out, packets))
+}
+
+/// The output's packets, taken apart at marks and lengths.
+fn packets(mut output: &[u8]) -> Vec<&[u8]> {
+    let mut found = Vec::new();
+    while let [b'L', b'B', low, high, rest @ ..] = output {
+        let (packet, rest) = rest.split_at(u16::from_le_bytes([*low, *high]).into());
+        found.push(packet);
+        output = rest;
+    }
+    assert!(output.is_empty());
+    found
+}
+
+#[test]
+fn p1_read_of_five_registers() {
+    both_ways([0x85, 0x42], addressed(false, 0, 2, true, 5));
+}
+
+#[test]
+fn p2_write_of_four_registers() {
+    both_ways([0x84, 0xC2], addressed(true, 0, 2, true, 4));
+}
+
+#[test]
+fn p3_read_of_space_1() {
+    both_ways([0x01, 0x45], addressed(false, 1, 1, false, 1));
+}
+
+#[test]
+fn p4_info_of_space_2() {
+    let mut fields = addressed(false, 2, 1, false, 1);
+    fields.info = true;
+    both_ways([0x01, 0x69], fields);
+}
+
+#[test]
+fn p5_burst_that_reads() {
+    let header = Header {
+        address: 0x1000,
+        command: 0xA,
+        increment: true,
+        count: 3,
+    };
+    assert_eq!(Header::from_word(0x1000_A830), header);
+    assert_eq!(header.to_word(), Ok(0x1000_A830));
+}
+
+#[test]
+fn p6_burst_that_writes() {
+    let header = Header {
+        address: 0x600C,
+        command: 0xB,
+        increment: false,
+        count: 4,
+    };
+    assert_eq!(Header::from_word(0x600C_B040), header);
+    assert_eq!(header.to_word(), Ok(0x600C_B040));
+}
+
+#[test]
+fn p7_eeprom_writes_compile_with_unlock() {
+    let list = [write(2, 0x20, 0x0020), write(2, 0x22, 0xC0A8)].concat();
+    let expected = [
+        0x4C, 0x42, 0x0E, 0x00, 0x01, 0xD9, 0x1A, 0x00, 0x02, 0x5A, 0x82, 0xC9, 0x20, 0x00, 0x20,
+        0x00, 0xA8, 0xC0,
+    ];
+    assert_eq!(compiled(&list), Ok((expected.to_vec(), 1)));
+}
+
+#[test]
+fn p8_empty_list() {
+    assert_eq!(compiled(&[]), Ok((vec![], 0)));
+}
+
+#[test]
+fn p9_eeprom_write_while_locked() {
+    Card::refuses(&[0x82, 0xC9, 0x20, 0x00, 0x20, 0x00, 0xA8, 0xC0], 10, 0);
+}
+
+#[test]
+fn p10_cut_address_before_count_0() {
+    Card::refuses(&[0x00, 0x42], 3, 0);
+    Card::refuses(&[0x00, 0x42, 0x00, 0x10], 7, 0);
+}
+
+#[test]
+fn past_the_last_register() {
+    Card::refuses(&[0x81, 0x42, 0xFC, 0xFF, 0x81, 0x02], 8, 4);
+    Card::refuses(&[0x82, 0x42, 0xFC, 0xFF], 8, 0);
+}
+
+#[test]
+fn the_last_register_twice() {
+    let mut card = Card::new();
+    assert_eq!(card.run(&[0x02, 0x42, 0xFC, 0xFF]), Ok(8));
+    let word = &card.store[65_532..65_536];
+    assert_eq!(card.reply[..8], [word, word].concat());
+    assert!(card.reply[8..].iter().all(|&byte| byte == 0xEE));
+    assert_eq!(card.pointers, [0xFFFC, 0, 0, 0]);
+}
+
+#[test]
+fn rising_reads_fill_a_reply() {
+    let list: Vec<u8> = (0..369).flat_map(|k| read(0, 4 * k)).collect();
+    let (output, count) = compiled(&list).unwrap();
+    let first = [
+        0xFF, 0x42, 0x00, 0x00, 0xFF, 0x42, 0xFC, 0x01, 0xF2, 0x42, 0xF8, 0x03,
+    ];
+    let second = [0x81, 0x42, 0xC0, 0x05];
+    assert_eq!(packets(&output), [&first[..], &second]);
+    assert_eq!(count, 2);
+}
+
+#[test]
+fn rising_writes_fill_a_packet() {
+    let list = |records: u16| -> Vec<u8> {
+        let record = |k: u16| write(0, 4 * k, k.into());
+        (0..records).flat_map(record).collect()
+    };
+    let (output, count) = compiled(&list(365)).unwrap();
+    assert_eq!((output.len(), count), (4 + 1_472, 1));
+    let (output, count) = compiled(&list(366)).unwrap();
+    let lengths: Vec<usize> = packets(&output).iter().map(|p| p.len()).collect();
+    assert_eq!((lengths, count), (vec![1_472, 8], 2));
+}
+
+#[test]
+fn reply_past_its_limit() {
+    let packet = [
+        0xFF, 0x42, 0x00, 0x00, 0xFF, 0x42, 0xFC, 0x01, 0xF3, 0x42, 0xF8, 0x03,
+    ];
+    Card::refuses(&packet, 12, 8);
+}
+
+#[test]
+fn mark_alone() {
+    let refusal = Refusal {
+        number: 22,
+        place: 0,
+    };
+    assert_eq!(compiled(b"RD"), Err(refusal));
+}
+
+#[test]
+fn room_too_small_by_one() {
+    let list = write(0, 0x1000, 1);
+    let mut out = [0xEE; 11];
+    let refusal = Refusal {
+        number: 26,
+        place: 12,
+    };
+    assert_eq!(compile(&list, &mut out), Err(refusal));
+    assert_eq!(out, [0xEE; 11]);
+}
+
+#[test]
+fn empty_packet_clears_the_unlock_cell() {
+    let mut card = Card::new();
+    assert_eq!(card.run(&[]), Ok(0));
+    let mut fresh = Card::new();
+    let cell = 65_664 + 0x1A;
+    fresh.store[cell..cell + 2].fill(0);
+    assert!(card.store == fresh.store);
+}
+
+#[test]
+fn block_over_the_unlock_cell_opens() {
+    // A block from 0x18 to 0x1C of space 6, then an EEPROM write.
+    let opening = [0x83, 0xD9, 0x18, 0x00, 1, 0, 0x02, 0x5A, 3, 0];
+    let closing = [0x83, 0xD9, 0x18, 0x00, 1, 0, 0x03, 0x5A, 3, 0];
+    let eeprom = [0x81, 0xC9, 0x20, 0x00, 9, 8];
+    let mut card = Card::new();
+    assert_eq!(card.run(&[&opening[..], &eeprom].concat()), Ok(0));
+    assert_eq!(card.store[65_536 + 0x20..][..2], [9, 8]);
+    assert_eq!(card.pointers, [0, 0x22, 0x1E, 0]);
+    Card::refuses(&[&opening[..], &closing, &eeprom].concat(), 10, 20);
+}
+
+#[test]
+fn eeprom_block_from_0x1e() {
+    let unlock = [0x01, 0xD9, 0x1A, 0x00, 0x02, 0x5A];
+    let block = [0x82, 0xC9, 0x1E, 0x00, 1, 2, 3, 4];
+    Card::refuses(&[&unlock[..], &block].concat(), 9, 6);
+}
+
+#[test]
+fn writing_a_word_out_of_range() {
+    let good = addressed(false, 7, 3, false, 127);
+    assert!(good.to_word().is_ok());
+    let refused = Err(Refusal::whole(13));
+    assert_eq!(Fields { space: 8, ..good }.to_word(), refused);
+    assert_eq!(Fields { size: 4, ..good }.to_word(), refused);
+    assert_eq!(Fields { count: 128, ..good }.to_word(), refused);
+}
+
+#[test]
+fn writing_a_header_out_of_range() {
+    let good = Header {
+        address: 1,
+        command: 0xA,
+        increment: false,
+        count: 127,
+    };
+    assert_eq!(good.to_word(), Ok(0x0001_A7F0));
+    let refused = |number| Err(Refusal::whole(number));
+    assert_eq!(Header { command: 9, ..good }.to_word(), refused(32));
+    assert_eq!(Header { count: 0, ..good }.to_word(), refused(33));
+    assert_eq!(Header { count: 128, ..good }.to_word(), refused(33));
+    let both = Header {
+        command: 0x1A,
+        count: 0,
+        ..good
+    };
+    assert_eq!(both.to_word(), refused(32));
+}
+
+#[test]
+fn bursts_move_registers() {
+    let mut store = Card::new().store;
+    let mut answer = [7; 4];
+    // The unused low bits are ignored.
+    burst(&[0x1000_B83F, 1, 2, 3], &mut store, &mut answer).unwrap();
+    assert_eq!(answer, [0; 4]);
+    assert_eq!(store[0x1000..0x100C], [1, 0, 0, 0, 2, 0, 0, 0, 3, 0, 0, 0]);
+    burst(&[0x1000_A830, 9, 9, 9], &mut store, &mut answer).unwrap();
+    assert_eq!(answer, [0, 1, 2, 3]);
+    burst(&[0x1004_A030, 9, 9, 9], &mut store, &mut answer).unwrap();
+    assert_eq!(answer, [0, 2, 2, 2]);
+}

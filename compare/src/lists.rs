@@ -1,0 +1,196 @@
+//! Compares compiling: the output, its packet count, and every refusal.
+
+use crate::cues;
+use crate::lent::Lent;
+use crate::rng::Rng;
+use crate::tally::Tally;
+use crate::{hex, numbers, same_answer, same_input, Answer, Outcome};
+use head::exports;
+use model::packing::compile;
+use model::words::Fields;
+use model::{HIGHEST_COUNT, PACKET_BYTES};
+
+const ENDINGS: [u32; 6] = [0, 21, 22, 23, 24, 26];
+
+const SITUATIONS: [&str; 12] = [
+    EMPTY,
+    HUNDRED_THOUSAND,
+    SHORT_BY_ONE,
+    EXACT_ROOM,
+    LARGER_ROOM,
+    FULL_COMMAND,
+    FULL_PACKET,
+    FULL_REPLY,
+    UNLOCKS,
+    LATER[0],
+    LATER[1],
+    LATER[2],
+];
+const EMPTY: &str = "empty list accepted";
+const HUNDRED_THOUSAND: &str = "list of 100,000 records accepted";
+const SHORT_BY_ONE: &str = "room too small by one byte";
+const EXACT_ROOM: &str = "output that fills its room";
+const LARGER_ROOM: &str = "room beyond the output";
+const FULL_COMMAND: &str = "command of 127 elements";
+const FULL_PACKET: &str = "packet of 1,472 bytes";
+const FULL_REPLY: &str = "packet with a reply of 1,472 bytes";
+const UNLOCKS: &str = "unlock in more than one packet";
+/// Numbers 22 to 24 at a record that isn't the first.
+const LATER: [&str; 3] = [
+    "refused 22 past the first record",
+    "refused 23 past the first record",
+    "refused 24 past the first record",
+];
+
+/// Compares `count` lists, and the long ones besides.
+pub fn compare(seed: u64, count: u64) -> Outcome {
+    let mut part = Part {
+        rng: Rng::new(seed),
+        tally: Tally::new("lists", &ENDINGS, &SITUATIONS),
+    };
+    for case in 0..count {
+        let list = cues::any(&mut part.rng);
+        let room = part.room(bytes_needed(&list));
+        let result = part.case(&list, room);
+        result.map_err(|what| format!("list {case}: {what}"))?;
+    }
+    for variant in 0..cues::LONG_LISTS {
+        let list = cues::long(&mut part.rng, variant);
+        let needed = bytes_needed(&list);
+        for room in [needed, needed - 1, needed + 1] {
+            let result = part.case(&list, room);
+            result.map_err(|what| format!("long list {variant}: {what}"))?;
+        }
+    }
+    Ok(vec![part.tally])
+}
+
+struct Part {
+    rng: Rng,
+    tally: Tally,
+}
+
+impl Part {
+    /// Compiles the list to a room of `room` bytes on both sides and compares.
+    fn case(&mut self, list: &[u8], room: usize) -> Result<(), String> {
+        let rng = &mut self.rng;
+        let mut out = Lent::new("output", room, 0);
+        out.change(|out| rng.fill(out));
+
+        let (library, model) = out.lend(room);
+        let result = compile(list, model);
+        let expected = numbers(&result, |compiled| compiled.bytes as u64);
+        let expected_packets = result.map_or(0, |compiled| compiled.packets);
+        let lent = list.to_vec();
+        let (number, bytes, packets) = exports::compile(&lent, library);
+        let same = same_answer((number, bytes), expected)
+            .and_then(|()| same_count(packets, expected_packets))
+            .and_then(|()| same_input(&lent, list))
+            .and_then(|()| out.compare(expected.0 != 0));
+        same.map_err(|what| format!("{what}\nroom of {room} bytes\nlist of {}", hex(list)))?;
+        self.count(list, room, expected, out.model());
+        Ok(())
+    }
+
+    /// A room's length: exact, larger or too small.
+    fn room(&mut self, needed: usize) -> usize {
+        let rng = &mut self.rng;
+        match rng.below(8) {
+            0..=2 => needed,
+            3 => needed + 1,
+            4 => needed + rng.between(1, 2_000),
+            5 => needed.saturating_sub(1),
+            6 => rng.below(needed + 1),
+            _ => rng.pick(&[0, needed, needed + 64]),
+        }
+    }
+
+    fn count(&mut self, list: &[u8], room: usize, (number, value): Answer, out: &[u8]) {
+        self.tally.ending(number);
+        let needed = value as usize;
+        let tally = &mut self.tally;
+        tally.situation(SHORT_BY_ONE, number == 26 && room + 1 == needed);
+        if (22..=24).contains(&number) {
+            tally.situation(LATER[number as usize - 22], value > 0);
+        }
+        if number == 0 {
+            tally.situation(EMPTY, list.is_empty());
+            tally.situation(EXACT_ROOM, room == needed && needed > 0);
+            tally.situation(LARGER_ROOM, room > needed);
+            self.count_output(list, &out[..needed]);
+        }
+    }
+
+    fn count_output(&mut self, list: &[u8], output: &[u8]) {
+        let mut records = 0;
+        let mut unlocks = 0;
+        for packet in packets(output).expect("the implementation's own output") {
+            let commands = commands(packet);
+            let unlock = |fields: &&Fields| fields.space == 6 && fields.write && !fields.increment;
+            let reads = commands.iter().filter(|fields| !fields.write);
+            let reply: usize = reads.map(|read| usize::from(read.count) << read.size).sum();
+            let counts = commands.iter().map(|fields| u64::from(fields.count));
+            let own_unlocks = commands.iter().filter(unlock).count() as u64;
+            let full = |fields: &Fields| fields.count == HIGHEST_COUNT;
+            records += counts.sum::<u64>() - own_unlocks;
+            unlocks += own_unlocks;
+            let tally = &mut self.tally;
+            tally.situation(FULL_COMMAND, commands.iter().any(full));
+            tally.situation(FULL_PACKET, packet.len() == PACKET_BYTES);
+            tally.situation(FULL_REPLY, reply == PACKET_BYTES);
+        }
+        let hundred_thousand = records == 100_000 && !list.is_empty();
+        self.tally.situation(HUNDRED_THOUSAND, hundred_thousand);
+        self.tally.situation(UNLOCKS, unlocks > 1);
+    }
+}
+
+fn same_count(packets: u64, expected: u64) -> Result<(), String> {
+    if packets == expected {
+        return Ok(());
+    }
+    Err(format!(
+        "the library counts {packets} packets; expected: {expected}"
+    ))
+}
+
+/// The output's length if the list is good, 100 if not.
+fn bytes_needed(list: &[u8]) -> usize {
+    match compile(list, &mut []) {
+        Ok(compiled) => compiled.bytes,
+        Err(refusal) if refusal.number == 26 => refusal.place as usize,
+        Err(_) => 100,
+    }
+}
+
+/// Takes output apart at its marks and lengths.
+pub fn packets(mut output: &[u8]) -> Result<Vec<&[u8]>, String> {
+    let mut packets = Vec::new();
+    while !output.is_empty() {
+        let [b'L', b'B', low, high, rest @ ..] = output else {
+            return Err(format!("no mark or length at: {}", hex(output)));
+        };
+        let length = u16::from_le_bytes([*low, *high]);
+        let Some((packet, rest)) = rest.split_at_checked(length.into()) else {
+            return Err(format!("packet of {length} bytes cut off"));
+        };
+        packets.push(packet);
+        output = rest;
+    }
+    Ok(packets)
+}
+
+/// The command words of a compiled packet, where each has an address.
+fn commands(mut packet: &[u8]) -> Vec<Fields> {
+    let mut commands = Vec::new();
+    while let [low, high, ..] = packet {
+        let fields = Fields::from_word(u16::from_le_bytes([*low, *high]));
+        let data = match fields.write {
+            true => usize::from(fields.count) << fields.size,
+            false => 0,
+        };
+        packet = &packet[4 + data..];
+        commands.push(fields);
+    }
+    commands
+}

@@ -1,0 +1,291 @@
+//! Compares packets run on a card whose store and pointers are carried from one to the next.
+
+use crate::drafts;
+use crate::lent::Lent;
+use crate::rng::Rng;
+use crate::tally::Tally;
+use crate::{hex, numbers, same_answer, same_input, Answer, Outcome};
+use model::packet::run;
+use model::store::{Space, STORE_BYTES, UNLOCK_ADDRESS, UNLOCK_VALUE};
+use model::PACKET_BYTES;
+
+const ENDINGS: [u32; 13] = [0, 1, 2, 3, 4, 5, 6, 7, 8, 9, 10, 11, 12];
+
+const SITUATIONS: [&str; 20] = [
+    EMPTY,
+    FULL_PACKET,
+    FULL_REPLY,
+    EEPROM_WRITTEN,
+    EEPROM_KEPT,
+    STALE_UNLOCK,
+    POINTER_AT_END,
+    POINTER_ODD,
+    TOO_LONG_BY_ONE,
+    LATER[0],
+    LATER[1],
+    LATER[2],
+    LATER[3],
+    LATER[4],
+    LATER[5],
+    LATER[6],
+    LATER[7],
+    LATER[8],
+    LATER[9],
+    HUGE_POINTER,
+];
+const EMPTY: &str = "empty packet accepted";
+const FULL_PACKET: &str = "packet of 1,472 bytes accepted";
+const FULL_REPLY: &str = "reply of 1,472 bytes";
+const EEPROM_WRITTEN: &str = "EEPROM changed by an accepted packet";
+const EEPROM_KEPT: &str = "EEPROM write refused with 0x5A02 earlier in the packet";
+const STALE_UNLOCK: &str = "EEPROM write refused while the cell held 0x5A02 from before";
+const POINTER_AT_END: &str = "pointer moved to its space's end";
+const POINTER_ODD: &str = "packet accepted beside a misaligned pointer";
+const TOO_LONG_BY_ONE: &str = "packet of 1,473 bytes refused";
+const HUGE_POINTER: &str = "pointer of 4,294,967,295 refused";
+/// Numbers 3 to 12 at a command that isn't the first.
+const LATER: [&str; 10] = [
+    "refused 3 past the first command",
+    "refused 4 past the first command",
+    "refused 5 past the first command",
+    "refused 6 past the first command",
+    "refused 7 past the first command",
+    "refused 8 past the first command",
+    "refused 9 past the first command",
+    "refused 10 past the first command",
+    "refused 11 past the first command",
+    "refused 12 past the first command",
+];
+
+pub fn compare(seed: u64, count: u64) -> Outcome {
+    let mut part = Part {
+        rng: Rng::new(seed),
+        store: Lent::new("store", STORE_BYTES, 0),
+        pointers: Lent::new("pointers", 4, 0),
+        reply: Lent::new("reply", PACKET_BYTES, 0),
+        tally: Tally::new("packets", &ENDINGS, &SITUATIONS),
+    };
+    for case in 0..count {
+        if case % 4_096 == 0 {
+            let rng = &mut part.rng;
+            part.store.change(|store| rng.fill(store));
+        }
+        let result = part.case();
+        result.map_err(|what| format!("packet {case}: {what}"))?;
+    }
+    Ok(vec![part.tally])
+}
+
+struct Part {
+    rng: Rng,
+    store: Lent<u8>,
+    pointers: Lent<u32>,
+    reply: Lent<u8>,
+    tally: Tally,
+}
+
+/// The lengths of what is lent.
+struct Rooms {
+    store: usize,
+    pointers: usize,
+    reply: usize,
+}
+
+impl Part {
+    fn case(&mut self) -> Result<(), String> {
+        self.change_card();
+        let pointers = self.card_pointers();
+        let packet = drafts::packet(&mut self.rng, pointers);
+        self.spoil_pointer();
+        let rooms = self.rooms();
+        let rng = &mut self.rng;
+        self.reply.change(|reply| rng.fill(reply));
+        let expected = self.call(&packet, &rooms)?;
+        self.count(&packet, expected);
+
+        // A refused pointer is only good for one call.
+        let pointers = match expected.0 {
+            0 => self.card_pointers(),
+            _ => pointers,
+        };
+        self.store.keep();
+        self.pointers.put(0, &pointers);
+        Ok(())
+    }
+
+    /// Gives the packet to both, compares, and answers what both answered.
+    fn call(&mut self, packet: &[u8], rooms: &Rooms) -> Result<Answer, String> {
+        let (library_store, model_store) = self.store.lend(rooms.store);
+        let (library_pointers, model_pointers) = self.pointers.lend(rooms.pointers);
+        let (library_reply, model_reply) = self.reply.lend(rooms.reply);
+        let lent = packet.to_vec();
+        let answer = match head::run(&lent, library_store, library_pointers, library_reply) {
+            Ok(length) => (0, length as u64),
+            Err(refusal) => (refusal.number, refusal.place),
+        };
+        let result = run(packet, model_store, model_pointers, model_reply);
+        let expected = numbers(&result, |&length| length as u64);
+        let same = same_answer(answer, expected)
+            .and_then(|()| same_input(&lent, packet))
+            .and_then(|()| self.compare(expected.0 != 0));
+        same.map_err(|what| self.describe(&what, packet, rooms))?;
+        Ok(expected)
+    }
+
+    fn compare(&mut self, refused: bool) -> Result<(), String> {
+        self.store.compare(refused)?;
+        self.pointers.compare(refused)?;
+        self.reply.compare(refused)
+    }
+
+    fn describe(&self, what: &str, packet: &[u8], rooms: &Rooms) -> String {
+        format!(
+            "{what}\nstore of {} bytes, reply room of {}, {} pointers: {:?}\npacket of {}",
+            rooms.store,
+            rooms.reply,
+            rooms.pointers,
+            &self.pointers.before()[..rooms.pointers],
+            hex(packet)
+        )
+    }
+
+    fn card_pointers(&self) -> [u32; 4] {
+        let model = &self.pointers.model()[..4];
+        model.try_into().expect("four pointers")
+    }
+
+    /// Now and then changes some cells and pointers, as nobody else does between packets.
+    fn change_card(&mut self) {
+        let rng = &mut self.rng;
+        if rng.one_in(4) {
+            let bytes = rng.number().to_le_bytes();
+            let at = match rng.coin() {
+                true => rng.below(256),
+                false => rng.between(65_500, STORE_BYTES - bytes.len()),
+            };
+            self.store.put(at, &bytes);
+        }
+        if rng.one_in(8) {
+            let value = rng.pick(&[UNLOCK_VALUE, UNLOCK_VALUE, 0xFFFF, 0x0100, 0x0001]);
+            self.store.put(unlock_cell(), &value.to_le_bytes());
+        }
+        for space in Space::ALL {
+            if self.rng.one_in(8) {
+                let pointer = good_pointer(&mut self.rng, space);
+                self.pointers.put(space.index(), &[pointer]);
+            }
+        }
+    }
+
+    /// Now and then puts one pointer above its space's size.
+    fn spoil_pointer(&mut self) {
+        if !self.rng.one_in(60) {
+            return;
+        }
+        let space = self.rng.pick(&Space::ALL);
+        let size = space.bytes();
+        let more = self.rng.between(1, 200_000) as u32;
+        let element = space.element();
+        let above = [
+            size + 1,
+            size + element,
+            size + more,
+            u32::MAX,
+            u32::MAX - 1,
+        ];
+        let pointer = self.rng.pick(&above);
+        self.pointers.put(space.index(), &[pointer]);
+    }
+
+    /// The lengths of what is lent: now and then wrong ones.
+    fn rooms(&mut self) -> Rooms {
+        let rng = &mut self.rng;
+        let mut rooms = Rooms {
+            store: STORE_BYTES,
+            pointers: 4,
+            reply: PACKET_BYTES,
+        };
+        if rng.one_in(50) {
+            let faults = rng.between(1, 7);
+            let wrong = |length: usize, rng: &mut Rng| {
+                let lengths = [0, 1, length - 1, length + 1, length / 2, length + 32];
+                rng.pick(&lengths)
+            };
+            if faults & 1 != 0 {
+                rooms.store = wrong(STORE_BYTES, rng);
+            }
+            if faults & 2 != 0 {
+                rooms.reply = wrong(PACKET_BYTES, rng);
+            }
+            if faults & 4 != 0 {
+                rooms.pointers = wrong(4, rng);
+            }
+        }
+        rooms
+    }
+
+    fn count(&mut self, packet: &[u8], (number, value): Answer) {
+        self.tally.ending(number);
+        if number == 0 {
+            self.count_accepted(packet, value);
+        } else {
+            self.count_refused(packet, number, value);
+        }
+    }
+
+    fn count_accepted(&mut self, packet: &[u8], length: u64) {
+        let eeprom = Space::Eeprom.start()..Space::Status.start();
+        let changed = self.store.before()[eeprom.clone()] != self.store.model()[eeprom];
+        let before = self.pointers.before();
+        let after = self.pointers.model();
+        let at = |space: &Space| space.index();
+        let moved_to_end =
+            |space: &Space| after[at(space)] == space.bytes() && before[at(space)] != space.bytes();
+        let odd = |space: &Space| !after[at(space)].is_multiple_of(space.element());
+        let moved_to_end = Space::ALL.iter().any(moved_to_end);
+        let odd = Space::ALL.iter().any(odd);
+        let tally = &mut self.tally;
+        tally.situation(EMPTY, packet.is_empty());
+        tally.situation(FULL_PACKET, packet.len() == PACKET_BYTES);
+        tally.situation(FULL_REPLY, length == PACKET_BYTES as u64);
+        tally.situation(EEPROM_WRITTEN, changed);
+        tally.situation(POINTER_AT_END, moved_to_end);
+        tally.situation(POINTER_ODD, odd && !packet.is_empty());
+    }
+
+    fn count_refused(&mut self, packet: &[u8], number: u32, place: u64) {
+        let cell = &self.store.before()[unlock_cell()..][..2];
+        let stale = cell == UNLOCK_VALUE.to_le_bytes();
+        let unlock = UNLOCK_VALUE.to_le_bytes();
+        let before_it = &packet[..place as usize];
+        let unlocked = before_it.windows(2).any(|bytes| bytes == unlock);
+        let huge = self.pointers.before()[..4].contains(&u32::MAX);
+        let tally = &mut self.tally;
+        tally.situation(STALE_UNLOCK, number == 10 && stale && !unlocked);
+        tally.situation(EEPROM_KEPT, number == 10 && unlocked);
+        tally.situation(TOO_LONG_BY_ONE, number == 2 && packet.len() == 1_473);
+        tally.situation(HUGE_POINTER, number == 1 && huge);
+        if (3..=12).contains(&number) {
+            tally.situation(LATER[number as usize - 3], place > 0);
+        }
+    }
+}
+
+fn unlock_cell() -> usize {
+    Space::Status.place(UNLOCK_ADDRESS)
+}
+
+/// A pointer that no rule turns away: aligned or not, in the space or at its end.
+fn good_pointer(rng: &mut Rng, space: Space) -> u32 {
+    let size = space.bytes();
+    let element = space.element();
+    match rng.below(8) {
+        0 => 0,
+        1 => size,
+        2 => size - element,
+        3 => size - 1,
+        4 => rng.pick(&[0x18, 0x1A, 0x1E, 0x20]),
+        5 => rng.below(size as usize + 1) as u32,
+        _ => element * rng.below((size / element) as usize) as u32,
+    }
+}

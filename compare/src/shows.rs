@@ -1,0 +1,110 @@
+//! Plays whole shows: a list compiled and run by the library, beside its records done one by one.
+
+use crate::cues;
+use crate::hex;
+use crate::lists::packets;
+use crate::rng::Rng;
+use crate::tally::Tally;
+use crate::Outcome;
+use model::cue::Records;
+use model::store::{Space, STORE_BYTES, UNLOCK_ADDRESS};
+use model::PACKET_BYTES;
+
+const SITUATIONS: [&str; 4] = [EMPTY, SEVERAL, READ, EEPROM];
+const EMPTY: &str = "show without a packet";
+const SEVERAL: &str = "show of several packets";
+const READ: &str = "show that reads more than one reply holds";
+const EEPROM: &str = "show that changes the EEPROM";
+
+pub fn compare(seed: u64, count: u64) -> Outcome {
+    let mut rng = Rng::new(seed);
+    let mut tally = Tally::new("shows", &[0], &SITUATIONS);
+    for case in 0..count {
+        let list = cues::good(&mut rng);
+        play(&mut rng, &mut tally, list.bytes())
+            .map_err(|what| format!("show {case}: {what}\nlist of {}", hex(list.bytes())))?;
+    }
+    Ok(vec![tally])
+}
+
+fn play(rng: &mut Rng, tally: &mut Tally, list: &[u8]) -> Result<(), String> {
+    let mut start = vec![0; STORE_BYTES];
+    rng.fill(&mut start);
+
+    let mut one_by_one = start.clone();
+    let mut values = Vec::new();
+    for record in Records::new(list) {
+        let record = record.map_err(|refusal| format!("a bad list was made: {refusal:?}"))?;
+        record.run(&mut one_by_one, &mut values);
+    }
+
+    let mut played = start.clone();
+    let output = compiled(list)?;
+    let packets = packets(&output)?;
+    let replies = run_all(rng, &packets, &mut played)?;
+
+    if replies != values {
+        return Err(format!(
+            "replies of {}\nexpected {}",
+            hex(&replies),
+            hex(&values)
+        ));
+    }
+    let ran = !packets.is_empty();
+    stores_agree(&played, one_by_one, ran)?;
+
+    let eeprom = Space::Eeprom.start()..Space::Status.start();
+    tally.ending(0);
+    tally.situation(EMPTY, !ran);
+    tally.situation(SEVERAL, packets.len() > 1);
+    tally.situation(READ, replies.len() > PACKET_BYTES);
+    tally.situation(EEPROM, played[eeprom.clone()] != start[eeprom]);
+    Ok(())
+}
+
+/// The library's output for a good list.
+fn compiled(list: &[u8]) -> Result<Vec<u8>, String> {
+    // No record takes more than 16 bytes: mark and length, unlock, command and its data.
+    let mut out = vec![0; 4 * list.len()];
+    let compiled = head::compile(list, &mut out).map_err(|refusal| refusal.to_string())?;
+    out.truncate(compiled.bytes);
+    let found = packets(&out)?.len() as u64;
+    if found != compiled.packets {
+        return Err(format!(
+            "{found} packets where {} are answered",
+            compiled.packets
+        ));
+    }
+    Ok(out)
+}
+
+/// Runs the packets from random pointers and joins the replies.
+fn run_all(rng: &mut Rng, packets: &[&[u8]], store: &mut [u8]) -> Result<Vec<u8>, String> {
+    let mut pointers = Space::ALL.map(|space| rng.below(space.bytes() as usize + 1) as u32);
+    let mut reply = [0; PACKET_BYTES];
+    let mut replies = Vec::new();
+    for (number, packet) in packets.iter().enumerate() {
+        rng.fill(&mut reply);
+        let length = head::run(packet, store, &mut pointers, &mut reply)
+            .map_err(|refusal| format!("packet {number} {refusal}"))?;
+        let answered = reply.get(..length).ok_or("a reply longer than its room")?;
+        replies.extend_from_slice(answered);
+    }
+    Ok(replies)
+}
+
+/// The stores must agree but for the unlock cell, which a packet leaves at 0.
+fn stores_agree(played: &[u8], mut expected: Vec<u8>, ran: bool) -> Result<(), String> {
+    if ran {
+        let unlock = Space::Status.place(UNLOCK_ADDRESS);
+        expected[unlock..unlock + 2].fill(0);
+    }
+    let mut pairs = played.iter().zip(&expected);
+    match pairs.position(|(played, expected)| played != expected) {
+        None => Ok(()),
+        Some(at) => Err(format!(
+            "store at {at}: played {:02X}, one by one {:02X}",
+            played[at], expected[at]
+        )),
+    }
+}
