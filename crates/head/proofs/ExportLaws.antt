@@ -1,0 +1,96 @@
+-- Laws of what the exports return and leave, over plain lists.
+use Prim.Native.Nat.{ℕ, _+_, _≤_}
+use mathlib.Core.Path.{_≡_, ap, sym, _∙_}
+use mathlib.Core.Bool.{true, false}
+use mathlib.Core.List.{List, [], append-nil}
+use native.Mathlib.Omega.{arith}
+use lib.ListN.{length, drop, drop-of-length-le}
+use lib.Seq.{sets, sets-eq}
+use borrow.Author.Tests.{eq-eqb, ne-eqb}
+use Rattle.lbp16.specs.Answer.{Answer, refused}
+use Rattle.lbp16.specs.Word.{fieldsOf, written, listed}
+use Rattle.lbp16.specs.declared.word.Fields.{Fields}
+use Rattle.lbp16.specs.declared.word.Written.{Written}
+use Rattle.lbp16.specs.declared.pointer.Pointers.{Pointers}
+use Rattle.card.specs.Run.{runPacket}
+use Rattle.head.specs.Exports.{numberOf, valueOf, pointerList, ofOutcome, pointersOf, exportRun, fieldBytes, fieldsFrom, exportFields, badFlags, exportWord}
+
+-- stores to every place of a list leave the values stored
+pub stored-whole : (vs l : List ℕ) → length l ≡ length vs → sets l 0 vs ≡ vs
+stored-whole vs l h =
+    let fits : 0 + length vs ≤ length l = omega arith in
+    let past : drop (0 + length vs) l ≡ [] = drop-of-length-le l {i = 0 + length vs} (omega arith) in
+    sets-eq vs l 0 fits ∙ (rw past (append-nil vs))
+
+module _ (packet store pointers reply : List ℕ) where
+  pub four : length pointers ≡ 4
+      → exportRun packet store pointers reply ≡ ofOutcome (runPacket packet store (pointersOf pointers) reply)
+  unfolding exportRun
+  four h = rw (eq-eqb _ _ h)
+
+  pub not-four : (length pointers ≡ 4 → ⊥)
+      → exportRun packet store pointers reply
+      ≡ record { number = 1; value = 0; store = store; pointers = pointers; reply = reply }
+  unfolding exportRun
+  not-four h = rw (ne-eqb _ _ h)
+
+  -- what the call leaves where there are four pointers, from what the run leaves
+  pub ran : (p after : Pointers) (a : Answer) (number value : ℕ) (store′ pointers′ reply′ : List ℕ)
+      → length pointers ≡ 4
+      → p ≡ pointersOf pointers
+      → a ≡ runPacket packet store p reply .answer
+      → after ≡ runPacket packet store p reply .pointers
+      → store′ ≡ runPacket packet store p reply .store
+      → reply′ ≡ runPacket packet store p reply .reply
+      → pointers′ ≡ pointerList after
+      → value ≡ valueOf a
+      → number ≡ numberOf a
+      → let x = exportRun packet store pointers reply in
+      (number ≡ x .number)
+      × ((value ≡ x .value) × ((store′ ≡ x .store) × ((pointers′ ≡ x .pointers) × (reply′ ≡ x .reply))))
+  unfolding ofOutcome
+  ran p after a number value store′ pointers′ reply′ count given said moved stored replied put v n =
+      let e : ofOutcome (runPacket packet store p reply) ≡ exportRun packet store pointers reply =
+      ap (λ q. ofOutcome (runPacket packet store q reply)) given ∙ sym (four count)
+      in (
+        n ∙ ap numberOf said ∙ ap (λ x. x .number) e,
+        (
+          v ∙ ap valueOf said ∙ ap (λ x. x .value) e,
+          (
+            stored ∙ ap (λ x. x .store) e,
+            (put ∙ ap pointerList moved ∙ ap (λ x. x .pointers) e, replied ∙ ap (λ x. x .reply) e),
+          ),
+        ),
+      )
+
+module _ (word : ℕ) (fields : List ℕ) where
+  pub seven : length fields ≡ 7
+      → exportFields word fields ≡ record { number = 0; fields = fieldBytes (fieldsOf word) }
+  unfolding exportFields
+  seven h = rw (eq-eqb _ _ h)
+
+  pub not-seven : (length fields ≡ 7 → ⊥) → exportFields word fields ≡ record { number = 13; fields = fields }
+  unfolding exportFields
+  not-seven h = rw (ne-eqb _ _ h)
+
+module _ (bytes : List ℕ) where
+  pub other-length : (length bytes ≡ 7 → ⊥) → exportWord bytes ≡ refused 13 0
+  unfolding exportWord
+  other-length h = rw (ne-eqb _ _ h)
+
+  pub flag-above : length bytes ≡ 7 → badFlags bytes ≡ true → exportWord bytes ≡ refused 13 0
+  unfolding exportWord
+  flag-above h e = rw (eq-eqb _ _ h, e)
+
+  pub flags-good : length bytes ≡ 7 → badFlags bytes ≡ false → exportWord bytes ≡ written (fieldsFrom bytes)
+  unfolding exportWord
+  flags-good h e = rw (eq-eqb _ _ h, e)
+
+  -- the answer where the flags are good, from the word written
+  pub answered : (f : Fields) (r : Written)
+      → length bytes ≡ 7
+      → badFlags bytes ≡ false
+      → f ≡ fieldsFrom bytes
+      → listed r ≡ written f
+      → exportWord bytes ≡ listed r
+  answered f r h e given w = flags-good h e ∙ sym (w ∙ ap written given)

@@ -1,0 +1,34 @@
+use borrow.Author.Needs.{needs}
+use Rattle.head.proofs.head_spi.Statement.{statement}
+use Rattle.head.proofs.head_spi.Tie as tie
+use mathlib.Core.Path.{ap, _∙_}
+use Rattle.head.specs.Exports.{numberOf, valueOf}
+
+burst-requires : tie.Need-burst-requires
+burst-requires c κs = search needs
+
+burst-value-requires : tie.Need-burst-value-requires
+burst-value-requires c κs = search needs
+
+burst-number-requires : tie.Need-burst-number-requires
+burst-number-requires c κs = search needs
+
+same-length : tie.Need-same-length
+same-length c = search needs
+
+same-length-2 : tie.Need-same-length-2
+same-length-2 c = search needs
+
+returns : tie.Need-returns
+returns c = let s = c .before .before .before .before .before .before .burst .ensures in (c .burst-number .ensures ∙ ap numberOf (s .0), (c .before .burst-value .ensures ∙ ap valueOf (s .0), s .1))
+
+pub head-spi-spec : {M : Type 1} → statement M
+head-spi-spec =
+    tie.close
+    (tie.spec
+    burst-requires
+    burst-value-requires
+    burst-number-requires
+    same-length
+    same-length-2
+    returns)

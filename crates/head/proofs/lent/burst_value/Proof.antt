@@ -1,0 +1,22 @@
+use borrow.Author.Needs.{needs}
+use Rattle.head.proofs.lent.burst_value.Statement.{statement}
+use Rattle.head.proofs.lent.burst_value.Tie as tie
+use Rattle.card.specs.Spi.{burstListed}
+use Rattle.head.specs.Exports.{valueOf}
+
+enum-told : tie.Need-enum-told
+enum-told c = search needs
+
+enum-known-answer : tie.Need-enum-known-answer
+enum-known-answer c = search needs
+
+returns : tie.Need-returns
+unfolding valueOf burstListed
+returns c = rw (c .enum-told .given .1)
+
+returns-2 : tie.Need-returns-2
+unfolding valueOf burstListed
+returns-2 c = rw (c .before .answer .given .1)
+
+pub burst-value-spec : {M : Type 1} → statement M
+burst-value-spec = tie.close (tie.spec enum-told enum-known-answer returns returns-2)

@@ -1,0 +1,125 @@
+-- What the C exports return and leave. The answers themselves are those of a packet, a burst and a command word.
+use Prim.Native.Nat.{ℕ}
+use mathlib.Core.List.{List, [], _∷_}
+use mathlib.Core.Bool.{Bool, true, false, not, _||_}
+use lib.ListN.{length, getD}
+use lib.Dec.{eqb, ltb}
+use Rattle.lbp16.specs.Answer.{Answer, accepted, refused}
+use Rattle.lbp16.specs.Word.{fieldsOf, bit, pickAnswer, written}
+use Rattle.lbp16.specs.Pointer.{pointer}
+use Rattle.lbp16.specs.declared.word.Fields.{Fields}
+use Rattle.lbp16.specs.declared.pointer.Pointers.{Pointers}
+use Rattle.card.specs.Run.{Outcome, runPacket}
+
+-- the number returned: the refusal's, 0 if accepted
+unfoldable pub numberOf : Answer → ℕ
+numberOf (accepted values) = 0
+numberOf (refused number place) = number
+
+-- the value answered beside it: the first that was given, 0 if none was, or the refusal's place
+unfoldable pub valueOf : Answer → ℕ
+valueOf (accepted []) = 0
+valueOf (accepted (v ∷ vs)) = v
+valueOf (refused number place) = place
+
+-- the second value answered: head_compile's packet count, 0 if refused
+unfoldable pub countOf : Answer → ℕ
+countOf (accepted []) = 0
+countOf (accepted (v ∷ [])) = 0
+countOf (accepted (v ∷ w ∷ ws)) = w
+countOf (refused number place) = 0
+
+-- The pointers of spaces 0, 2, 6 and 7, in this order, and back.
+unfoldable pub pointersOf : List ℕ → Pointers
+pointersOf ps =
+    record {
+      registers = pointer (getD ps 0 0);
+      eeprom = pointer (getD ps 1 0);
+      status = pointer (getD ps 2 0);
+      information = pointer (getD ps 3 0);
+    }
+
+unfoldable pub pointerList : Pointers → List ℕ
+pointerList p = p .registers .at ∷ p .eeprom .at ∷ p .status .at ∷ p .information .at ∷ []
+
+-- All that head_run returns and leaves.
+pub record RunExport : Type 0 where
+  pub number : ℕ
+  pub value : ℕ
+  pub store : List ℕ
+  pub pointers : List ℕ
+  pub reply : List ℕ
+
+unfoldable pub ofOutcome : Outcome → RunExport
+ofOutcome o =
+    record {
+      number = numberOf (o .answer);
+      value = valueOf (o .answer);
+      store = o .store;
+      pointers = pointerList (o .pointers);
+      reply = o .reply;
+    }
+
+abbrev pub pickRun : Bool → RunExport → RunExport → RunExport
+pickRun true a b = a
+pickRun false a b = b
+
+-- Refused with 1 where there are not four pointers.
+unfoldable pub exportRun : List ℕ → List ℕ → List ℕ → List ℕ → RunExport
+exportRun packet store pointers reply =
+    pickRun (eqb (length pointers) 4) (ofOutcome (runPacket packet store (pointersOf pointers) reply))
+    (record { number = 1; value = 0; store = store; pointers = pointers; reply = reply })
+
+-- A word's fields as seven bytes: write, address, info, space, size, increment, count. A flag is 0 or 1.
+unfoldable pub fieldBytes : Fields → List ℕ
+fieldBytes f =
+    bit (f .write)
+    ∷ bit (f .address)
+    ∷ bit (f .info)
+    ∷ f .space
+    ∷ f .size
+    ∷ bit (f .increment)
+    ∷ f .count
+    ∷ []
+
+unfoldable pub fieldsFrom : List ℕ → Fields
+fieldsFrom bytes =
+    record {
+      write = eqb (getD bytes 0 0) 1;
+      address = eqb (getD bytes 1 0) 1;
+      info = eqb (getD bytes 2 0) 1;
+      space = getD bytes 3 0;
+      size = getD bytes 4 0;
+      increment = eqb (getD bytes 5 0) 1;
+      count = getD bytes 6 0;
+    }
+
+-- All that head_fields returns and leaves. Refused with 13 where there is not room for exactly seven bytes.
+pub record FieldsExport : Type 0 where
+  pub number : ℕ
+  pub fields : List ℕ
+
+abbrev pub pickFieldsExport : Bool → FieldsExport → FieldsExport → FieldsExport
+pickFieldsExport true a b = a
+pickFieldsExport false a b = b
+
+unfoldable pub exportFields : ℕ → List ℕ → FieldsExport
+exportFields word fields =
+    pickFieldsExport (eqb (length fields) 7) (record { number = 0; fields = fieldBytes (fieldsOf word) })
+    (record { number = 13; fields = fields })
+
+-- a byte of a flag that is neither 0 nor 1
+unfoldable pub badFlags : List ℕ → Bool
+badFlags bytes =
+    ltb 1 (getD bytes 0 0) || ltb 1 (getD bytes 1 0) || ltb 1 (getD bytes 2 0) || ltb 1 (getD bytes 5 0)
+
+-- head_word's answer: the word of seven such bytes. Refused with 13 also for another length or a bad flag.
+unfoldable pub exportWord : List ℕ → Answer
+exportWord bytes =
+    pickAnswer (not (eqb (length bytes) 7) || badFlags bytes) (refused 13 0) (written (fieldsFrom bytes))
+
+-- what stands in the word lent: the word answered, or what stood there
+unfoldable pub wordLeft : Answer → ℕ → ℕ
+wordLeft (accepted []) word = word
+wordLeft (accepted (w ∷ ws)) word = w
+wordLeft (refused number place) word = word

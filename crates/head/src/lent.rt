@@ -1,0 +1,143 @@
+// What C lends as plain numbers: pointers and fields, there and back; and an answer as its number and its value.
+use card::run::RunAnswer;
+use card::spi::BurstAnswer;
+use cue::CompileAnswer;
+use lbp16::pointer::Pointer;
+use lbp16::pointer::Pointers;
+use lbp16::word::Fields;
+ghost use mathlib.Core.Path.{_≡_};
+ghost use lib.ListN.{length};
+ghost use Rattle.lbp16.specs.Word.{bit};
+ghost use Rattle.card.specs.Run.{runListed};
+ghost use Rattle.card.specs.Spi.{burstListed};
+ghost use Rattle.cue.specs.Compile.{compileListed};
+ghost use Rattle.head.specs.Exports.{numberOf, valueOf, countOf, pointersOf, pointerList, fieldBytes, fieldsFrom, badFlags};
+
+pub(crate) fn pointers_of(ps: &[u32]) -> Pointers
+    requires { ⌜ length (now ps) ≡ 4 ⌝ }
+    ensures { λ r. ⌜ r ≡ pointersOf (now (ps .entry)) ⌝ }
+{
+    Pointers {
+        registers: Pointer::new(ps[0]),
+        eeprom: Pointer::new(ps[1]),
+        status: Pointer::new(ps[2]),
+        information: Pointer::new(ps[3]),
+    }
+}
+
+pub(crate) fn put_pointers(p: Pointers, ps: &mut [u32])
+    requires { ⌜ length (now ps) ≡ 4 ⌝ }
+    ensures { λ r. ⌜ now (ps .exit) ≡ pointerList p ⌝ }
+{
+    ps[0] = p.registers.at;
+    ps[1] = p.eeprom.at;
+    ps[2] = p.status.at;
+    ps[3] = p.information.at;
+}
+
+fn flag(set: bool) -> u8
+    ensures { λ r. ⌜ r ≡ bit set ⌝ }
+{
+    if set { 1 } else { 0 }
+}
+
+pub(crate) fn put_fields(f: Fields, bytes: &mut [u8])
+    requires { ⌜ length (now bytes) ≡ 7 ⌝ }
+    ensures { λ r. ⌜ now (bytes .exit) ≡ fieldBytes f ⌝ }
+{
+    bytes[0] = flag(f.write);
+    bytes[1] = flag(f.address);
+    bytes[2] = flag(f.info);
+    bytes[3] = f.space;
+    bytes[4] = f.size;
+    bytes[5] = flag(f.increment);
+    bytes[6] = f.count;
+}
+
+pub(crate) fn bad_flags(bytes: &[u8]) -> bool
+    requires { ⌜ length (now bytes) ≡ 7 ⌝ }
+    ensures { λ r. ⌜ r ≡ badFlags (now (bytes .entry)) ⌝ }
+{
+    (1 < bytes[0]) | (1 < bytes[1]) | (1 < bytes[2]) | (1 < bytes[5])
+}
+
+pub(crate) fn fields_from(bytes: &[u8]) -> Fields
+    requires { ⌜ length (now bytes) ≡ 7 ⌝ }
+    ensures { λ r. ⌜ r ≡ fieldsFrom (now (bytes .entry)) ⌝ }
+{
+    Fields {
+        write: bytes[0] == 1,
+        address: bytes[1] == 1,
+        info: bytes[2] == 1,
+        space: bytes[3],
+        size: bytes[4],
+        increment: bytes[5] == 1,
+        count: bytes[6],
+    }
+}
+
+pub(crate) fn run_number(answer: RunAnswer) -> u32
+    ensures { λ r. ⌜ r ≡ numberOf (runListed answer) ⌝ }
+{
+    match answer {
+        RunAnswer::Accepted(_) => 0,
+        RunAnswer::Refused(r) => r.number,
+    }
+}
+
+pub(crate) fn run_value(answer: RunAnswer) -> u64
+    ensures { λ r. ⌜ r ≡ valueOf (runListed answer) ⌝ }
+{
+    match answer {
+        RunAnswer::Accepted(n) => n,
+        RunAnswer::Refused(r) => r.place,
+    }
+}
+
+pub(crate) fn burst_number(answer: BurstAnswer) -> u32
+    ensures { λ r. ⌜ r ≡ numberOf (burstListed answer) ⌝ }
+{
+    match answer {
+        BurstAnswer::Accepted => 0,
+        BurstAnswer::Refused(r) => r.number,
+    }
+}
+
+pub(crate) fn burst_value(answer: BurstAnswer) -> u64
+    ensures { λ r. ⌜ r ≡ valueOf (burstListed answer) ⌝ }
+{
+    match answer {
+        BurstAnswer::Accepted => 0,
+        BurstAnswer::Refused(r) => r.place,
+    }
+}
+
+pub(crate) fn compile_number(answer: CompileAnswer) -> u32
+    ensures { λ r. ⌜ r ≡ numberOf (compileListed answer) ⌝ }
+{
+    match answer {
+        CompileAnswer::Compiled {
+            bytes: _,
+            packets: _,
+        } => 0,
+        CompileAnswer::Refused(r) => r.number,
+    }
+}
+
+pub(crate) fn compile_bytes(answer: CompileAnswer) -> u64
+    ensures { λ r. ⌜ r ≡ valueOf (compileListed answer) ⌝ }
+{
+    match answer {
+        CompileAnswer::Compiled { bytes, packets: _ } => bytes as u64,
+        CompileAnswer::Refused(r) => r.place,
+    }
+}
+
+pub(crate) fn compile_packets(answer: CompileAnswer) -> u64
+    ensures { λ r. ⌜ r ≡ countOf (compileListed answer) ⌝ }
+{
+    match answer {
+        CompileAnswer::Compiled { bytes: _, packets } => packets as u64,
+        CompileAnswer::Refused(_) => 0,
+    }
+}

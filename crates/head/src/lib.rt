@@ -1,0 +1,113 @@
+// What C programs call; include/head.h declares it. Each function returns the refusal's number, 0 if accepted.
+mod lent;
+
+use card::run;
+use card::spi;
+use lbp16::word;
+use lbp16::word::Written;
+ghost use mathlib.Core.Path.{_≡_};
+ghost use Rattle.card.specs.Spi.{runBurst};
+ghost use Rattle.cue.specs.Compile.{compiled};
+ghost use Rattle.cue.specs.Demand3.{Demand3};
+ghost use Rattle.head.specs.Exports.{numberOf, valueOf, countOf, exportRun, exportFields, exportWord, wordLeft};
+
+// Runs one packet. `pointers` are those of spaces 0, 2, 6 and 7; `value` is the reply length, or the refusal's place.
+#[no_mangle]
+pub extern "C" fn head_run(
+    packet: &[u8],
+    store: &mut [u8],
+    pointers: &mut [u32],
+    reply: &mut [u8],
+    value: &mut u64,
+) -> u32
+    ensures numbered { λ r. ⌜ r ≡ exportRun (now (packet .entry)) (now (store .entry)) (now (pointers .entry)) (now (reply .entry)) .number ⌝ }
+    ensures valued { λ r. ⌜ now (value .exit) ≡ exportRun (now (packet .entry)) (now (store .entry)) (now (pointers .entry)) (now (reply .entry)) .value ⌝ }
+    ensures stored { λ r. ⌜ now (store .exit) ≡ exportRun (now (packet .entry)) (now (store .entry)) (now (pointers .entry)) (now (reply .entry)) .store ⌝ }
+    ensures pointed { λ r. ⌜ now (pointers .exit) ≡ exportRun (now (packet .entry)) (now (store .entry)) (now (pointers .entry)) (now (reply .entry)) .pointers ⌝ }
+    ensures replied { λ r. ⌜ now (reply .exit) ≡ exportRun (now (packet .entry)) (now (store .entry)) (now (pointers .entry)) (now (reply .entry)) .reply ⌝ }
+{
+    if pointers.len() != 4 {
+        *value = 0;
+        return 1;
+    }
+    let p = lent::pointers_of(pointers);
+    let ran = run::run(packet, store, p, reply);
+    let after = ran.pointers;
+    lent::put_pointers(after, pointers);
+    let answer = ran.answer;
+    *value = lent::run_value(answer);
+    lent::run_number(answer)
+}
+
+// Runs one SPI burst on space 0. `value` is 0, or the refusal's place.
+#[no_mangle]
+pub extern "C" fn head_spi(
+    words: &[u32],
+    store: &mut [u8],
+    answer: &mut [u32],
+    value: &mut u64,
+) -> u32
+    ensures numbered { λ r. ⌜ r ≡ numberOf (runBurst (now (words .entry)) (now (store .entry)) (now (answer .entry)) .answer) ⌝ }
+    ensures valued { λ r. ⌜ now (value .exit) ≡ valueOf (runBurst (now (words .entry)) (now (store .entry)) (now (answer .entry)) .answer) ⌝ }
+    ensures stored { λ r. ⌜ now (store .exit) ≡ runBurst (now (words .entry)) (now (store .entry)) (now (answer .entry)) .store ⌝ }
+    ensures worded { λ r. ⌜ now (answer .exit) ≡ runBurst (now (words .entry)) (now (store .entry)) (now (answer .entry)) .room ⌝ }
+{
+    let done = spi::burst(words, store, answer);
+    *value = lent::burst_value(done);
+    lent::burst_number(done)
+}
+
+// The fields of a command word, as seven bytes.
+#[no_mangle]
+pub extern "C" fn head_fields(word: u16, fields: &mut [u8]) -> u32
+    ensures numbered { λ r. ⌜ r ≡ exportFields word (now (fields .entry)) .number ⌝ }
+    ensures left { λ r. ⌜ now (fields .exit) ≡ exportFields word (now (fields .entry)) .fields ⌝ }
+{
+    if fields.len() != 7 {
+        return 13;
+    }
+    lent::put_fields(word::fields_of(word), fields);
+    0
+}
+
+// The command word of seven such bytes; `word` is written only if accepted.
+#[no_mangle]
+pub extern "C" fn head_word(fields: &[u8], word: &mut u16) -> u32
+    ensures numbered { λ r. ⌜ r ≡ numberOf (exportWord (now (fields .entry))) ⌝ }
+    ensures left { λ r. ⌜ now (word .exit) ≡ wordLeft (exportWord (now (fields .entry))) (now (word .entry)) ⌝ }
+{
+    if fields.len() != 7 {
+        return 13;
+    }
+    if lent::bad_flags(fields) {
+        return 13;
+    }
+    let written = word::word_of(lent::fields_from(fields));
+    match written {
+        Written::Word(w) => {
+            *word = w;
+            0
+        }
+        Written::Refused(r) => r.number,
+    }
+}
+
+// Compiles a cue list. `bytes` is the output's length, or the refusal's place; `packets` is 0 if refused.
+#[no_mangle]
+pub extern "C" fn head_compile(
+    list: &[u8],
+    out: &mut [u8],
+    bytes: &mut u64,
+    packets: &mut u64,
+) -> u32
+    ensures numbered { λ r. ⌜ r ≡ numberOf (compiled (now (list .entry)) (now (out .entry)) .answer) ⌝ }
+    ensures valued { λ r. ⌜ now (bytes .exit) ≡ valueOf (compiled (now (list .entry)) (now (out .entry)) .answer) ⌝ }
+    ensures counted { λ r. ⌜ now (packets .exit) ≡ countOf (compiled (now (list .entry)) (now (out .entry)) .answer) ⌝ }
+    ensures output { λ r. ⌜ now (out .exit) ≡ compiled (now (list .entry)) (now (out .entry)) .room ⌝ }
+    ensures demand3 { λ r. ⌜ Demand3 (now (list .entry)) (now (out .entry)) ⌝ }
+{
+    let answer = cue::compile(list, out);
+    *bytes = lent::compile_bytes(answer);
+    *packets = lent::compile_packets(answer);
+    lent::compile_number(answer)
+}

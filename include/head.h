@@ -1,0 +1,140 @@
+/* The head controller: LBP16 packets and SPI bursts on a card store, cue lists, and command words.
+ *
+ * Every function returns 0 if it accepts, else the number of the refusal. A refused call changes nothing that it was
+ * lent but the answers: *value (or *bytes) then holds the refusal's place, and *packets 0. If several refusals apply, 1
+ * comes first, then 2, then those of the earliest failing command or record, the lowest number first.
+ *
+ * What a caller owes:
+ *   - A buffer is given as a pointer and then its number of elements (bytes, or 32-bit words).
+ *   - No pointer may be null, not even that of a buffer with a length of 0.
+ *   - Pointers are aligned for their type, and all that is lent holds a value, also what is only written: clear
+ *     the rooms for reply, answer, output, fields, word and value before the first call.
+ *   - Nothing lent to a call may overlap anything else lent to it, *value included, and nobody else may
+ *     touch it before the call returns.
+ *
+ * The functions keep nothing between calls: the card's state is the store and the pointers, which the caller keeps.
+ */
+#ifndef HEAD_H
+#define HEAD_H
+
+#include <stddef.h>
+#include <stdint.h>
+
+#ifdef __cplusplus
+extern "C" {
+#endif
+
+/* The store: space 0 (registers) from byte 0, 65,536 bytes; space 2 (EEPROM) from 65,536, 128 bytes; space 6 (status)
+ * from 65,664, 32 bytes; space 7 (information) from 65,696, 32 bytes. Elements have 4 bytes in space 0 and 2 in the
+ * others, low byte first. */
+#define HEAD_STORE_BYTES 65728
+
+/* The most bytes that a packet or its reply may have: 1,500 less 28 of IP and UDP headers. */
+#define HEAD_REPLY_BYTES 1472
+
+/* The address pointers: those of spaces 0, 2, 6 and 7, in this order. */
+#define HEAD_POINTERS 4
+
+/* The bytes of a command word's fields. */
+#define HEAD_FIELDS 7
+
+/* Runs one packet on the store. The whole packet is checked before anything is done.
+ *
+ *   packet    the commands, packet_length bytes; may be empty
+ *   store     65,728 bytes
+ *   pointers  4 numbers, each at most its space's size; 0 in a fresh card
+ *   reply     room for 1,472 bytes
+ *   value     takes the reply length in bytes, or the refusal's place
+ *
+ * Accepted: returns 0. The elements read stand at the front of the reply, low byte first, and its other bytes are
+ * unchanged. Store and pointers are as the commands leave them, and the unlock cell (0x1A of space 6) is 0.
+ * Refused: the place is the offset of the command's first byte in the packet, but 0 for 1 and 2.
+ *
+ *    1  store not 65,728 bytes, reply not 1,472 bytes, not 4 pointers, or a pointer above its space's size
+ *    2  packet above 1,472 bytes
+ *    3  command word or its address cut off
+ *    4  info bit set
+ *    5  space 1, 3, 4 or 5
+ *    6  element size not the space's
+ *    7  count 0
+ *    8  address not a multiple of the element size, or an element past the space's end
+ *    9  write to space 7, or to space 2 below 0x20
+ *   10  write to space 2 while the unlock is closed
+ *   11  write data cut off
+ *   12  reply would pass 1,472 bytes
+ */
+uint32_t head_run(const uint8_t *packet, size_t packet_length,
+                  uint8_t *store, size_t store_length,
+                  uint32_t *pointers, size_t pointers_length,
+                  uint8_t *reply, size_t reply_length,
+                  uint64_t *value);
+
+/* Runs one SPI burst on space 0 of the store. The whole burst is checked before anything is done.
+ *
+ *   words   the words sent: a header, then as many words as it counts; a read ignores what these hold
+ *   store   65,728 bytes
+ *   answer  room for as many words as were sent
+ *   value   takes 0: every refusal here stands at place 0
+ *
+ * A header, high bit first: 16 bits of address, 4 of command (0xA read, 0xB write), 1 increment, 7 of count, 4 unused.
+ * Accepted: returns 0. The first word of the answer is 0; the others are the cells on a read, 0 on a write.
+ *
+ *    1  store not 65,728 bytes, or answer_length differs from words_length
+ *   31  no word
+ *   32  command neither 0xA nor 0xB
+ *   33  count 0
+ *   34  number of words is not 1 plus the count
+ *   35  address not a multiple of 4, or a cell past the end of space 0
+ */
+uint32_t head_spi(const uint32_t *words, size_t words_length,
+                  uint8_t *store, size_t store_length,
+                  uint32_t *answer, size_t answer_length,
+                  uint64_t *value);
+
+/* Reads a command word (in a packet its low byte comes first) into its fields.
+ *
+ *   fields  room for 7 bytes: write, address, info (each 0 or 1), space (0 to 7), size (0, 1, 2, 3 for elements of
+ *           1, 2, 4, 8 bytes), increment (0 or 1), count (0 to 127)
+ *
+ * Every word has fields.
+ *
+ *   13  fields_length is not 7; nothing is written
+ */
+uint32_t head_fields(uint16_t word, uint8_t *fields, size_t fields_length);
+
+/* Writes fields, the same 7 bytes, into a command word.
+ *
+ *   13  fields_length is not 7, or write, address, info or increment above 1, space above 7, size above 3 or count
+ *       above 127; *word keeps its value
+ */
+uint32_t head_word(const uint8_t *fields, size_t fields_length, uint16_t *word);
+
+/* Compiles a cue list into packets. The whole list is checked, and the output counted, before a byte is written.
+ *
+ *   list     the records, list_length bytes; may be empty
+ *   out      room for the output
+ *   bytes    takes the output's length, or the refusal's place
+ *   packets  takes the number of packets, 0 if refused
+ *
+ * A record: the mark "RD" (52 44), space, a spare byte 0 and a 16-bit address, low byte first; or the mark "WR" (57 52), the
+ * same, and a 32-bit value, low byte first, whose upper half is 0 in a space of 2-byte elements. At most 100,000 records.
+ * Accepted: returns 0. Before each packet stand the mark "LB" (4C 42) and its length, 2 bytes, low byte first; out beyond the
+ * output is unchanged. Running the packets in order with head_run reads the values and leaves the cells that doing the
+ * records one by one would, the unlock cell apart. Twice the list's length is always room enough.
+ * Refused: the place is the record's index from 0, but the bytes needed for 26.
+ *
+ *   21  100,000 records read and bytes remain
+ *   22  mark unknown, or record cut
+ *   23  space not 0, 2, 6 or 7; address misaligned or past the end; write to space 7 or to space 2 below 0x20; the unlock cell
+ *   24  spare byte not 0, or upper half of a value not 0 in a space of 2-byte elements
+ *   26  list good, out_length below the bytes needed
+ */
+uint32_t head_compile(const uint8_t *list, size_t list_length,
+                      uint8_t *out, size_t out_length,
+                      uint64_t *bytes, uint64_t *packets);
+
+#ifdef __cplusplus
+}
+#endif
+
+#endif
