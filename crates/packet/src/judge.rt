@@ -36,10 +36,11 @@ pub fn judge(packet: &[u8], p: Pointers) -> Verdict
         let which = found.which;
         let number = command::number_of(which);
         if number != 0 {
-            return Verdict::Refused(Refusal {
+            let refusal = Refusal {
                 number,
                 place: place as u64,
-            });
+            };
+            return Verdict::Refused(refusal);
         }
         let k = command::command_bytes(found.fields);
         at = c.next;

@@ -1,0 +1,42 @@
+-- What the compiling program writes for the bytes that it is given.
+use Prim.Native.Nat.{ℕ, _≤_}
+use mathlib.Core.Path.{_≡_}
+use mathlib.Core.List.{List, [], _∷_, _++_}
+use lib.ListN.{length, take, drop, getD, replicate}
+use lib.Dec.{ltb}
+use Rattle.lbp16.specs.Answer.{Answer}
+use Rattle.cue.specs.Compile.{Compiled, compiled}
+use Rattle.report.specs.Text.{ascii, decimal, pickBytes}
+
+-- the most bytes that a list may have, and the bytes of the output room
+abbrev pub mostBytes : ℕ
+mostBytes = 16384
+
+abbrev pub roomBytes : ℕ
+roomBytes = 32768
+
+unfoldable pub refusedLine : ℕ → ℕ → List ℕ
+refusedLine n k = ascii "refused " ++ decimal n ++ ascii " at " ++ decimal k ++ ascii "\n"
+
+unfoldable pub tooLongLine : List ℕ
+tooLongLine = ascii "too long\n"
+
+-- An acceptance's first value counts the output bytes at the front of the room.
+unfoldable pub answerBytes : Answer → List ℕ → List ℕ
+answerBytes (Answer.accepted values) room = take (getD values 0 0) room
+answerBytes (Answer.refused n k) room = refusedLine n k
+
+unfoldable pub compiledBytes : Compiled → List ℕ
+compiledBytes c = answerBytes (c .answer) (c .room)
+
+-- The list is compiled into a room of zeros.
+unfoldable pub said : List ℕ → List ℕ
+said list =
+    pickBytes (ltb mostBytes (length list)) tooLongLine (compiledBytes (compiled list (replicate roomBytes 0)))
+
+-- The room after it: the bytes said stand at the front, n of them, and all behind is as before.
+pub record Reported (list before after : List ℕ) (n : ℕ) : Type 0 where
+  pub count : n ≡ length (said list)
+  pub fits : n ≤ length after
+  pub front : take n after ≡ said list
+  pub beyond : drop n after ≡ drop n before

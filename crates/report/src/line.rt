@@ -1,0 +1,62 @@
+// The lines that stand in place of an output.
+use lbp16::Refusal;
+ghost use Prim.Native.Nat.{_+_, _≤_};
+ghost use mathlib.Core.List.{_++_};
+ghost use lib.ListN.{length};
+ghost use Rattle.report.specs.Text.{decimal};
+ghost use Rattle.report.specs.Report.{refusedLine, tooLongLine};
+ghost use Rattle.report.specs.Inside.{Put};
+
+// Each answers the place behind what it put.
+fn put_text(out: &mut [u8], at: usize, text: &[u8]) -> usize
+    requires { ⌜ at + length (now text) ≤ length (now out) ⌝ }
+    ensures { λ r. ⌜ Put (now (text .entry)) at (now (out .entry)) (now (out .exit)) r ⌝ }
+{
+    let mut i: usize = 0;
+    while i < text.len() {
+        out[at + i] = text[i];
+        i += 1;
+    }
+    at + i
+}
+
+fn put_decimal(out: &mut [u8], at: usize, n: u64) -> usize
+    requires { ⌜ at + length (decimal n) ≤ length (now out) ⌝ }
+    ensures { λ r. ⌜ Put (decimal n) at (now (out .entry)) (now (out .exit)) r ⌝ }
+{
+    if n < 10 {
+        out[at] = b'0' + n as u8;
+        return at + 1;
+    }
+    let last = put_decimal(out, at, n / 10);
+    out[last] = b'0' + (n % 10) as u8;
+    last + 1
+}
+
+// A text and behind it a number.
+fn put_numbered(out: &mut [u8], at: usize, text: &[u8], n: u64) -> usize
+    requires { ⌜ at + length (now text) + 20 ≤ length (now out) ⌝ }
+    ensures { λ r. ⌜ Put (now (text .entry) ++ decimal n) at (now (out .entry)) (now (out .exit)) r ⌝ }
+    ensures { λ r. ⌜ r ≤ at + length (now (text .entry)) + 20 ⌝ }
+{
+    let next = put_text(out, at, text);
+    put_decimal(out, next, n)
+}
+
+pub(crate) fn put_refusal(out: &mut [u8], r: Refusal) -> usize
+    requires { ⌜ 64 ≤ length (now out) ⌝ }
+    ensures { λ n. ⌜ Put (refusedLine (r .number) (r .place)) 0 (now (out .entry)) (now (out .exit)) n ⌝ }
+{
+    let number = r.number as u64;
+    let place = r.place;
+    let at = put_numbered(out, 0, b"refused ", number);
+    let at = put_numbered(out, at, b" at ", place);
+    put_text(out, at, b"\n")
+}
+
+pub(crate) fn put_too_long(out: &mut [u8]) -> usize
+    requires { ⌜ 64 ≤ length (now out) ⌝ }
+    ensures { λ n. ⌜ Put tooLongLine 0 (now (out .entry)) (now (out .exit)) n ⌝ }
+{
+    put_text(out, 0, b"too long\n")
+}
