@@ -12,15 +12,20 @@ use lib.Seq.{length-sets, getD-set-same, getD-set-other, drop-at}
 use borrow.Author.Tests.{eqb-true, ltb-true, ltb-false, not-false, le-ltb}
 use Rattle.lbp16.proofs.BoolLaws.{or-false}
 use Rattle.lbp16.specs.Answer.{Answer}
-use Rattle.lbp16.specs.Space.{storeBytes}
+use Rattle.lbp16.specs.Space.{storeBytes, row}
 use Rattle.lbp16.specs.Pointer.{aboveSize}
 use Rattle.lbp16.specs.declared.pointer.Pointers.{Pointers}
-use Rattle.packet.specs.Step.{storeAfter, valuesRead, replyBytes}
+use Rattle.packet.specs.Step.{at, statusWrite, storeAfter, valuesRead, replyBytes}
 use Rattle.packet.specs.Command.{limit}
 use Rattle.packet.specs.Judge.{Carried, Verdict, refused, accepted, judge}
 use Rattle.packet.proofs.StoreLaws.{Spared, getD-sets, spared-byte, length-values}
 use Rattle.packet.proofs.RefusalLaws.{RefusedAt, refused-in-table, accepted-within, accepted-inside}
 use Rattle.card.specs.Run.{unlockCell, cleared, badRoom, outcome, pickVerdict, checked, runPacket}
+
+-- the unlock cell is address 0x1A of space 6
+pub unlock-cell : unlockCell ≡ at (statusWrite 0x1A [])
+unfolding at row
+unlock-cell = refl
 
 pub length-cleared : (store : List ℕ) → length (cleared store) ≡ length store
 unfolding cleared
