@@ -1,6 +1,6 @@
 -- What a run answers and leaves, as the code puts it together.
 use Prim.Native.Nat.{ℕ, _≤_, _<_}
-use mathlib.Core.Path.{_≡_, refl, sym, ap, _∙_}
+use mathlib.Core.Path.{_≡_, refl}
 use mathlib.Core.List.{List, [], _∷_}
 use mathlib.Core.Bool.{true, false}
 use native.Mathlib.Omega.{arith}
@@ -9,14 +9,13 @@ use borrow.Author.Tests.{lt-ltb, le-ltb}
 use Rattle.lbp16.specs.Answer.{Answer, refusal}
 use Rattle.lbp16.specs.declared.Refusal.{Refusal}
 use Rattle.lbp16.specs.declared.pointer.Pointers.{Pointers}
-use Rattle.packet.specs.Step.{valuesRead, replyBytes}
 use Rattle.packet.specs.Command.{limit}
-use Rattle.packet.specs.Judge.{Carried, judge, accepted, refused}
+use Rattle.packet.specs.Judge.{judge, accepted, refused}
 use Rattle.packet.specs.Judge
 use Rattle.packet.specs.Verdict.{progressOf, verdictOf, verdict}
 use Rattle.packet.specs.declared.command.Progress.{Progress}
 use Rattle.packet.specs.declared.judge.Verdict.the-variants.{Accepted, Refused}
-use Rattle.card.specs.Run.{Outcome, cleared, badRoom, outcome, checked, runPacket}
+use Rattle.card.specs.Run.{cleared, badRoom, outcome, checked, runPacket}
 use Rattle.card.specs.Inside.{IsAccepted, storeLeft, replyLeft}
 use Rattle.card.proofs.RunLaws.{answered-length}
 

@@ -9,8 +9,6 @@ use native.Mathlib.Nat.{zero-add}
 use native.Mathlib.Numerals.{add-one}
 use lib.ListN.{length, take, drop, getD, set, replicate, length-set, replicate-append-replicate, drop-of-length-le}
 use lib.Seq.{sets, drop-cons, take-suc-set, take-all, take-at, drop-at, length-sets}
-use borrow.Author.Tests.{ltb-false}
-use Rattle.lbp16.proofs.BoolLaws.{or-false}
 use Rattle.lbp16.specs.Space.{registers, row, storeBytes}
 use Rattle.packet.specs.Bytes.{number, bytesOf}
 use Rattle.packet.specs.Step.{Kind, read, write, at, carried, answered, stored, after, seen, storeAfter, valuesRead}

@@ -2,7 +2,7 @@
 use Prim.Native.Nat.{ℕ, _+_, _*_, _≤_}
 use mathlib.Core.Path.{_≡_, refl, sym, ap, _∙_}
 use mathlib.Core.List.{List, [], _++_}
-use mathlib.Core.Bool.{Bool, true, false}
+use mathlib.Core.Bool.{Bool, true, false, cond}
 use native.Mathlib.Omega.{arith}
 use native.Mathlib.Nat.{le-trans}
 use lib.ListN.{length, drop}
@@ -12,8 +12,7 @@ use Rattle.lbp16.specs.declared.space.Row.{Row}
 use Rattle.lbp16.specs.declared.pointer.Pointers.{Pointers}
 use Rattle.lbp16.specs.declared.word.Fields.{Fields}
 use Rattle.lbp16.proofs.SpaceLaws.{row-end, element-le}
-use Rattle.packet.specs.Step.{Kind, read, write, carried, answered, storeAfter, valuesRead}
-use Rattle.packet.specs.Rules.{pickNumber}
+use Rattle.packet.specs.Step.{read, write, carried, answered, storeAfter, valuesRead}
 use Rattle.packet.specs.declared.command.Which.{Which}
 use Rattle.packet.proofs.ElementLaws.{which-writes}
 use Rattle.packet.specs.Command.{whichOf, writes, kindOf, headerBytes, commandBytes, addressUsed, stride, elements, stepsAt}
@@ -33,7 +32,7 @@ kind-write f e = rw e refl
 
 -- the bytes that a command's elements are moved in
 abbrev pub wideOf : Row → ℕ
-wideOf w = pickNumber (eqb (w .element) 4) 4 2
+wideOf w = cond (eqb (w .element) 4) 4 2
 
 -- What moving the elements asks of a list that holds them in the store, and of one that holds them in a row.
 pub record Asked (n w i d bytes j row : ℕ) (line : ℕ) : Type 0 where

@@ -1,10 +1,10 @@
 -- The run's loop: after each command the store and the reply are those of the steps so far.
 use Prim.Native.Nat.{ℕ, _+_, _-_, _*_, _≤_, _<_}
 use mathlib.Core.Path.{_≡_, refl, sym, ap, _∙_}
-use mathlib.Core.List.{List, [], _∷_, _++_, append-assoc, append-nil}
+use mathlib.Core.List.{List, [], _++_, append-assoc, append-nil}
 use native.Mathlib.Omega.{arith}
 use native.Mathlib.Nat.{le-refl}
-use lib.ListN.{length, take, drop, length-append, length-drop, length-take, drop-of-length-le}
+use lib.ListN.{length, take, drop, length-append, length-drop, drop-of-length-le}
 use lib.Seq.{take-at, drop-at, drop-drop}
 use Rattle.lbp16.specs.Space.{spaceOf, storeBytes}
 use Rattle.lbp16.specs.declared.pointer.Pointers.{Pointers}

@@ -2,7 +2,7 @@
 use Prim.Native.Nat.{ℕ, _+_, _≤_, _<_}
 use mathlib.Core.Path.{_≡_, refl, _∙_}
 use mathlib.Core.Logic.{_⊎_}
-use mathlib.Core.Bool.{Bool, true, false, not, _||_}
+use mathlib.Core.Bool.{Bool, true, false, not, _||_, cond}
 use mathlib.Core.List.{List, [], _∷_}
 use native.Mathlib.Omega.{arith}
 use native.Mathlib.Decide.{decLe}
@@ -20,7 +20,7 @@ use Rattle.packet.specs.Command.{limit}
 use Rattle.packet.specs.Judge.{Carried, Verdict, refused, accepted, judge}
 use Rattle.packet.proofs.StoreLaws.{Spared, getD-sets, spared-byte, length-values}
 use Rattle.packet.proofs.RefusalLaws.{RefusedAt, refused-in-table, accepted-within, accepted-inside}
-use Rattle.card.specs.Run.{unlockCell, cleared, badRoom, outcome, pickVerdict, checked, runPacket}
+use Rattle.card.specs.Run.{unlockCell, cleared, badRoom, outcome, checked, runPacket}
 
 -- the unlock cell is address 0x1A of space 6
 pub unlock-cell : unlockCell ≡ at (statusWrite 0x1A [])
@@ -117,7 +117,7 @@ module _ (packet store : List ℕ) (p : Pointers) (reply : List ℕ) where
   checked-cases P bad long good = go (badRoom store p reply) (ltb limit (length packet)) refl refl
     where
       go : (b l : Bool) → badRoom store p reply ≡ b → ltb limit (length packet) ≡ l
-          → P (pickVerdict b (refused 1 0) (pickVerdict l (refused 2 0) (judge p packet)))
+          → P (cond b (refused 1 0) (cond l (refused 2 0) (judge p packet)))
       go true l e f = bad e
       go false true e f = long e (ltb-true _ _ f)
       go false false e f = good e (ltb-false _ _ f)

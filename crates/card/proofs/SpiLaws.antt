@@ -3,7 +3,7 @@ use Prim.Native.Nat.{ℕ, zero, suc, _+_, _-_, _*_, _/_, _%_, _≤_, _<_}
 use mathlib.Core.Path.{_≡_, refl, ap, _∙_}
 use mathlib.Core.Logic.{_⊎_, inl, inr}
 use mathlib.Core.List.{List, [], _∷_}
-use mathlib.Core.Bool.{Bool, true, false, not, _||_, _&&_}
+use mathlib.Core.Bool.{Bool, true, false, not, _||_, _&&_, cond}
 use native.Mathlib.Omega.{arith}
 use native.Mathlib.Nat.{mul-zero}
 use lib.ListN.{length, drop, getD, replicate, length-drop, length-replicate}
@@ -15,7 +15,7 @@ use Rattle.lbp16.specs.Answer.{Answer}
 use Rattle.lbp16.specs.Space.{registers, row, storeBytes}
 use Rattle.lbp16.specs.Word.{bit}
 use Rattle.packet.specs.Step.{Kind, read, write, storeAfter, valuesRead}
-use Rattle.packet.specs.Rules.{Rule, first, any, misaligned, pastEnd, pickNumber}
+use Rattle.packet.specs.Rules.{Rule, first, any, misaligned, pastEnd}
 use Rattle.packet.specs.Command.{elements}
 use Rattle.packet.proofs.RuleLaws.{none-holds}
 use Rattle.packet.proofs.ElementLaws.{past-last}
@@ -98,8 +98,8 @@ command-le h r = go (r .command)
     go (inr e) = omega arith
 
 -- A header refused, and a header written, as the code answers them.
-pub header-number : (h : Header) (n m : ℕ) (other : Bool) → n ≡ pickNumber other 32 m → other ≡ otherCommand h
-    → m ≡ pickNumber (eqb (h .count) 0 || ltb 127 (h .count)) 33 0 → n ≡ first (headerRules h)
+pub header-number : (h : Header) (n m : ℕ) (other : Bool) → n ≡ cond other 32 m → other ≡ otherCommand h
+    → m ≡ cond (eqb (h .count) 0 || ltb 127 (h .count)) 33 0 → n ≡ first (headerRules h)
 unfolding first
 header-number h n m other e f g = rw (e, f, g)
 
@@ -139,7 +139,7 @@ word-first (w ∷ ws) h = refl
 -- Rule 35 as the code tests it.
 pub past-quick : (h : Header) (words : List ℕ)
     → any pastEnd (burstSteps h words)
-    ≡ (not (eqb (h .count) 0) && ltb 65536 (h .address + pickNumber (h .increment) (h .count * 4) 4))
+    ≡ (not (eqb (h .count) 0) && ltb 65536 (h .address + cond (h .increment) (h .count * 4) 4))
 unfolding burstSteps any elements row
 past-quick h words = go (h .count) (h .increment)
   where
@@ -147,8 +147,8 @@ past-quick h words = go (h .count) (h .increment)
     a = h .address
 
     go : (n : ℕ) (i : Bool)
-        → any pastEnd (elements (burstKind h) registers n a (pickNumber i 4 0) (bytesOfWords (drop 1 words)))
-        ≡ (not (eqb n 0) && ltb 65536 (a + pickNumber i (n * 4) 4))
+        → any pastEnd (elements (burstKind h) registers n a (cond i 4 0) (bytesOfWords (drop 1 words)))
+        ≡ (not (eqb n 0) && ltb 65536 (a + cond i (n * 4) 4))
     go zero i = refl
     go (suc n) true =
         let same : a + n * 4 + 4 ≡ a + suc n * 4 = omega arith in
@@ -193,7 +193,7 @@ module _ (words store room : List ℕ) where
 pub record Ready (words store room : List ℕ) (h : Header) (stride : ℕ) : Type 0 where
   pub passed : first (burstRefusals words store room) ≡ 0
   pub header : h ≡ headerIn words
-  pub apart : stride ≡ pickNumber (h .increment) 4 0
+  pub apart : stride ≡ cond (h .increment) 4 0
 
 module _ (words store room : List ℕ) (h : Header) (stride : ℕ) (ready : Ready words store room h stride) where
   ready-sound : Sound words store room
@@ -267,7 +267,7 @@ store-outside zero words store room s i h = go (burstKind (headerIn words)) (s r
     a = headerIn words .address
 
     d : ℕ
-    d = pickNumber (headerIn words .increment) 4 0
+    d = cond (headerIn words .increment) 4 0
 
     n : headerIn words .count ≡ length (drop 1 words)
     n = rw length-drop (omega (arith, s refl .sent))
@@ -309,7 +309,7 @@ unfolding first
 first-among P z [] a = z
 first-among P z (r ∷ rs) a = go (r .holds) (first-among P z rs (a .1))
   where
-    go : (b : Bool) → P (first rs) → P (pickNumber b (r .number) (first rs))
+    go : (b : Bool) → P (first rs) → P (cond b (r .number) (first rs))
     go true later = a .0
     go false later = later
 

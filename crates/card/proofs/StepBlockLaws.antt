@@ -1,23 +1,23 @@
 -- A block of elements moved is the command's steps done.
-use Prim.Native.Nat.{ℕ, zero, suc, _+_, _-_, _*_, _≤_, _<_}
+use Prim.Native.Nat.{ℕ, zero, suc, _+_, _*_, _≤_}
 use mathlib.Core.Path.{_≡_, refl, sym, ap, _∙_}
-use mathlib.Core.List.{List, [], _∷_, _++_, append-assoc}
-use mathlib.Core.Bool.{Bool, true, false}
+use mathlib.Core.List.{List, [], _++_, append-assoc}
+use mathlib.Core.Bool.{false, cond}
 use native.Mathlib.Omega.{arith}
 use native.Mathlib.Nat.{add-assoc, add-comm, suc-mul, zero-mul}
 use lib.Dec.{eqb}
 use lib.ListN.{length, take, drop, length-append, length-drop}
-use lib.Seq.{sets, sets-eq, take-at, drop-at, drop-drop, length-take-le, drop-append-add}
+use lib.Seq.{sets, sets-eq, take-at, drop-drop, length-take-le, drop-append-add}
 use borrow.Author.Tests.{ltb-false}
 use Rattle.lbp16.specs.Space.{Space, registers, eeprom, status, information, absent, row, isAbsent}
 use Rattle.lbp16.proofs.BoolLaws.{or-false}
-use Rattle.packet.specs.Step.{Kind, read, write, Step, carried, answered, at, after, seen, stored, storeAfter, valuesRead}
-use Rattle.packet.specs.Rules.{pastEnd, any, pickNumber}
+use Rattle.packet.specs.Step.{Kind, read, write, carried, answered, at, after, seen, stored, storeAfter, valuesRead}
+use Rattle.packet.specs.Rules.{pastEnd, any}
 use Rattle.packet.specs.Command.{elements}
 use Rattle.card.specs.Inside.{Within, moved}
 
 -- an element has 4 bytes or 2
-pub element-wide : (s : Space) → isAbsent s ≡ false → pickNumber (eqb (row s .element) 4) 4 2 ≡ row s .element
+pub element-wide : (s : Space) → isAbsent s ≡ false → cond (eqb (row s .element) 4) 4 2 ≡ row s .element
 unfolding row isAbsent
 element-wide registers e = refl
 element-wide eeprom e = refl

@@ -1,11 +1,10 @@
 -- Inside of private functions' contracts. A reader need not believe these: laws tie them to steps.
 use Prim.Native.Nat.{ℕ, zero, suc, _+_, _≤_}
-use mathlib.Core.List.{List, [], _∷_, _++_}
-use mathlib.Core.Bool.{Bool, true, false}
+use mathlib.Core.List.{List, _++_}
 use lib.ListN.{length, take, drop}
 use lib.Seq.{sets}
 use Rattle.packet.specs.Step.{storeAfter, valuesRead}
-use Rattle.packet.specs.Judge.{Carried, Verdict, refused, accepted}
+use Rattle.packet.specs.Judge.{Verdict, refused, accepted}
 
 -- n elements of w bytes, d apart from place i on, stand within a list of the given length
 abbrev pub Within : ℕ → ℕ → ℕ → ℕ → ℕ → Type 0

@@ -1,18 +1,17 @@
 -- One packet on a card store.
-use Prim.Native.Nat.{ℕ, _+_}
+use Prim.Native.Nat.{ℕ}
 use mathlib.Core.List.{List, [], _∷_, _++_}
-use mathlib.Core.Bool.{Bool, not, _||_}
+use mathlib.Core.Bool.{Bool, not, _||_, cond}
 use lib.ListN.{length, drop}
 use lib.Seq.{sets}
 use lib.Dec.{eqb, ltb}
 use Rattle.lbp16.specs.Answer.{Answer, refusal}
-use Rattle.lbp16.specs.Space.{row, status, storeBytes}
+use Rattle.lbp16.specs.Space.{storeBytes}
 use Rattle.lbp16.specs.Pointer.{aboveSize}
 use Rattle.lbp16.specs.declared.pointer.Pointers.{Pointers}
-use Rattle.packet.specs.Step.{Step, storeAfter, valuesRead}
-use Rattle.packet.specs.Rules.{Rule, first, pickNumber}
+use Rattle.packet.specs.Step.{storeAfter, valuesRead}
 use Rattle.packet.specs.Command.{limit}
-use Rattle.packet.specs.Judge.{Carried, Verdict, refused, accepted, judge}
+use Rattle.packet.specs.Judge.{Verdict, refused, accepted, judge}
 use Rattle.card.specs.declared.run.RunAnswer.{RunAnswer}
 use Rattle.card.specs.declared.run.RunAnswer.the-variants.{Accepted, Refused}
 
@@ -49,14 +48,10 @@ outcome (accepted c) store p reply =
       pointers = c .pointers;
     }
 
-abbrev pub pickVerdict : Bool → Verdict → Verdict → Verdict
-pickVerdict Bool.true a b = a
-pickVerdict Bool.false a b = b
-
 -- refusals 1 and 2, then the packet's commands
 unfoldable pub checked : List ℕ → List ℕ → Pointers → List ℕ → Verdict
 checked packet store p reply =
-    pickVerdict (badRoom store p reply) (refused 1 0) (pickVerdict (ltb limit (length packet)) (refused 2 0) (judge p packet))
+    cond (badRoom store p reply) (refused 1 0) (cond (ltb limit (length packet)) (refused 2 0) (judge p packet))
 
 unfoldable pub runPacket : List ℕ → List ℕ → Pointers → List ℕ → Outcome
 runPacket packet store p reply = outcome (checked packet store p reply) store p reply

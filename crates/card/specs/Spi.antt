@@ -2,15 +2,15 @@
 -- count, 4 unused.
 use Prim.Native.Nat.{ℕ, zero, suc, _+_, _*_, _/_, _%_}
 use mathlib.Core.List.{List, [], _∷_, _++_}
-use mathlib.Core.Bool.{Bool, true, false, not, _||_, _&&_}
+use mathlib.Core.Bool.{Bool, not, _||_, _&&_, cond}
 use lib.ListN.{length, take, drop, replicate}
 use lib.Dec.{eqb, ltb}
 use Rattle.lbp16.specs.Answer.{Answer, refusal}
-use Rattle.lbp16.specs.Space.{registers, row, storeBytes}
+use Rattle.lbp16.specs.Space.{registers, storeBytes}
 use Rattle.lbp16.specs.Word.{bit}
 use Rattle.packet.specs.Bytes.{number, bytesOf}
 use Rattle.packet.specs.Step.{Kind, read, write, Step, storeAfter, valuesRead}
-use Rattle.packet.specs.Rules.{Rule, first, misaligned, pastEnd, any, pickNumber}
+use Rattle.packet.specs.Rules.{Rule, first, misaligned, pastEnd, any}
 use Rattle.packet.specs.Command.{elements, pickKind}
 use Rattle.card.specs.declared.spi.Header.{Header}
 use Rattle.card.specs.declared.spi.HeaderWritten.{HeaderWritten}
@@ -78,7 +78,7 @@ burstKind h = pickKind (eqb (h .command) writeCommand)
 -- all promised elements
 unfoldable pub burstSteps : Header → List ℕ → List Step
 burstSteps h words =
-    elements (burstKind h) registers (h .count) (h .address) (pickNumber (h .increment) 4 0) (bytesOfWords (drop 1 words))
+    elements (burstKind h) registers (h .count) (h .address) (cond (h .increment) 4 0) (bytesOfWords (drop 1 words))
 
 unfoldable pub burstRefusals : List ℕ → List ℕ → List ℕ → List Rule
 burstRefusals words store room =

@@ -1,10 +1,10 @@
 // One element of the store, low byte first.
+ghost use mathlib.Core.Bool.{cond};
 ghost use mathlib.Core.Path.{_≡_};
 ghost use Prim.Native.Nat.{_+_, _≤_, _<_};
 ghost use lib.ListN.{length, take, drop};
 ghost use lib.Seq.{sets};
 ghost use Rattle.packet.specs.Bytes.{number, bytesOf};
-ghost use Rattle.packet.specs.Rules.{pickNumber};
 
 fn wide16(b: u8) -> u16
     ensures { λ r. ⌜ (r ≡ b) × (r < 256) ⌝ }
@@ -55,8 +55,8 @@ pub(crate) fn store4(d: &mut [u8], at: usize, value: u32)
 
 // One element of 4 bytes, or of 2, from one slice to another.
 pub(crate) fn move_element(src: &[u8], i: usize, dst: &mut [u8], j: usize, wide: bool)
-    requires { ⌜ (i + pickNumber wide 4 2 ≤ length (now src)) × (j + pickNumber wide 4 2 ≤ length (now dst)) ⌝ }
-    ensures { λ r. ⌜ now (dst .exit) ≡ sets (now (dst .entry)) j (take (pickNumber wide 4 2) (drop i (now (src .entry)))) ⌝ }
+    requires { ⌜ (i + cond wide 4 2 ≤ length (now src)) × (j + cond wide 4 2 ≤ length (now dst)) ⌝ }
+    ensures { λ r. ⌜ now (dst .exit) ≡ sets (now (dst .entry)) j (take (cond wide 4 2) (drop i (now (src .entry)))) ⌝ }
 {
     if wide {
         store4(dst, j, fetch4(src, i));

@@ -15,7 +15,7 @@ ghost use mathlib.Core.List.{_++_};
 ghost use Prim.Native.Nat.{_*_, _≤_};
 ghost use lib.ListN.{length, drop};
 ghost use Rattle.lbp16.specs.Space.{spaceOf, storeBytes};
-ghost use Rattle.packet.specs.Step.{Kind, answered, storeAfter, valuesRead};
+ghost use Rattle.packet.specs.Step.{answered, storeAfter, valuesRead};
 ghost use Rattle.packet.specs.Command.{limit, kindOf, stepsAt, whichOf};
 ghost use Rattle.packet.specs.Judge.{judge};
 ghost use Rattle.packet.proofs.CommandLaws.{Passed};

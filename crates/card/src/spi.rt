@@ -5,13 +5,13 @@ use lbp16::Refusal;
 use lbp16::pointer::Pointer;
 use packet::rule;
 ghost use mathlib.Core.Path.{_≡_};
-ghost use mathlib.Core.Bool.{_||_};
+ghost use mathlib.Core.Bool.{_||_, cond};
 ghost use mathlib.Core.List.{List, _∷_};
 ghost use Prim.Native.Nat.{ℕ, _+_, _-_, _*_, _≤_};
 ghost use lib.ListN.{length, drop, replicate};
 ghost use Rattle.lbp16.specs.Space.{registers, storeBytes};
 ghost use Rattle.lbp16.specs.Word.{bit};
-ghost use Rattle.packet.specs.Rules.{first, pickNumber, misaligned, pastEnd, any};
+ghost use Rattle.packet.specs.Rules.{first, misaligned, pastEnd, any};
 ghost use Rattle.card.specs.Spi.{headerOf, headerWritten, headerListed, otherCommand, firstWord, burstSteps, burstRefusals, runBurst, burstListed};
 ghost use Rattle.card.specs.Cells.{Cells, cells, filled};
 
@@ -86,14 +86,14 @@ fn first_word(words: &[u32]) -> u32
 
 // From one cell to the next.
 fn stride_of(h: Header) -> usize
-    ensures { λ r. ⌜ (r ≡ pickNumber (h .increment) 4 0) × (r ≤ 4) ⌝ }
+    ensures { λ r. ⌜ (r ≡ cond (h .increment) 4 0) × (r ≤ 4) ⌝ }
 {
     if h.increment { 4 } else { 0 }
 }
 
 // The bytes from the address to the end of the furthest cell.
 fn span_of(h: Header) -> u32
-    ensures { λ r. ⌜ (r ≡ pickNumber (h .increment) (h .count * 4) 4) × (r ≤ 1020) ⌝ }
+    ensures { λ r. ⌜ (r ≡ cond (h .increment) (h .count * 4) 4) × (r ≤ 1020) ⌝ }
 {
     if h.increment { h.count as u32 * 4 } else { 4 }
 }

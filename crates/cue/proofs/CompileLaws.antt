@@ -3,7 +3,7 @@ use Prim.Native.Nat.{ℕ, _≤_, _<_}
 use mathlib.Core.Path.{_≡_, refl, sym, _∙_}
 use mathlib.Core.Logic.{_≢_}
 use mathlib.Core.List.{List, [], _∷_, _++_}
-use mathlib.Core.Bool.{Bool, true, false}
+use mathlib.Core.Bool.{Bool, true, false, cond}
 use native.Mathlib.Omega.{arith}
 use lib.ListN.{length, take, drop, length-append, length-drop}
 use lib.Seq.{take-at, drop-at}
@@ -14,7 +14,7 @@ use Rattle.packet.specs.Step.{Step, replyBytes}
 use Rattle.packet.specs.Command.{limit}
 use Rattle.cue.specs.Records.{Listed, refused, records, recordsOf}
 use Rattle.cue.specs.Packing.{Command, packetBytes, packetSteps, packets}
-use Rattle.cue.specs.Compile.{Compiled, pickCompiled, compiledTo, compiled, packed, output}
+use Rattle.cue.specs.Compile.{Compiled, compiledTo, compiled, packed, output}
 use Rattle.cue.proofs.Relations.{Good}
 use Rattle.cue.proofs.RecordLaws.{RefusedRecord, refused-record}
 use Rattle.cue.proofs.PackingLaws.{Packed, packing-keeps}
@@ -43,7 +43,7 @@ unfolding compiled compiledTo
 compile-cases list room P bad small good = go (recordsOf list) refl
   where
     fit : (xs : List Step) (b : Bool) → recordsOf list ≡ records xs → ltb (length room) (length (output xs)) ≡ b
-        → P (pickCompiled b (turnedAway 26 (length (output xs)) room) (whole xs room))
+        → P (cond b (turnedAway 26 (length (output xs)) room) (whole xs room))
     fit xs true e f = small xs e (ltb-true _ _ f)
     fit xs false e f = good xs e (ltb-false _ _ f)
 
@@ -125,8 +125,8 @@ unfolding compiled compiledTo
 answers-alike list a b e = go (recordsOf list)
   where
     pick : (t : Bool) (xs : List Step)
-        → pickCompiled t (turnedAway 26 (length (output xs)) a) (whole xs a) .answer
-        ≡ pickCompiled t (turnedAway 26 (length (output xs)) b) (whole xs b) .answer
+        → cond t (turnedAway 26 (length (output xs)) a) (whole xs a) .answer
+        ≡ cond t (turnedAway 26 (length (output xs)) b) (whole xs b) .answer
     pick true xs = refl
     pick false xs = refl
 

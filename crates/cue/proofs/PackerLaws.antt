@@ -2,7 +2,7 @@
 use Prim.Native.Nat.{ℕ, _+_, _*_, _≤_, _<_}
 use mathlib.Core.Path.{_≡_, refl, sym, ap, _∙_}
 use mathlib.Core.List.{List, [], _∷_, _++_, append-assoc, append-nil}
-use mathlib.Core.Bool.{Bool, Bool·beq, true, false, _||_, _&&_}
+use mathlib.Core.Bool.{Bool, Bool·beq, true, false, _||_, _&&_, cond}
 use native.Mathlib.Omega.{arith}
 use lib.Dec.{eqb, ltb, leb}
 use lib.ListN.{length, length-append}
@@ -12,16 +12,16 @@ use Rattle.lbp16.proofs.BoolLaws.{or-false, and-true}
 use Rattle.packet.specs.Step.{Kind, read, write, Step, carried, answered, isWrite, isStatus, namesUnlock, replyBytes}
 use Rattle.packet.specs.Step.{turned, unlocked}
 use Rattle.packet.specs.Bytes.{number}
-use Rattle.packet.specs.Rules.{pickNumber, misaligned, pastEnd, barred}
+use Rattle.packet.specs.Rules.{misaligned, pastEnd, barred}
 use Rattle.packet.specs.Command.{pickKind, limit}
 use Rattle.packet.proofs.StepLaws.{unlocked-append, reply-append, carried-le, answered-le}
 use Rattle.cue.specs.Records.{badElement}
 use Rattle.cue.specs.Packing.{Command, spaceNumber, joinAll, packetBytes, elementSteps, commandSteps, packetSteps}
 use Rattle.cue.specs.Packing.{unlockCommand, keepsLimits, Open, commandsOf, sameKind, joined, joins, needsUnlock}
-use Rattle.cue.specs.Packing.{pickCommands, started, turnBy, turn}
+use Rattle.cue.specs.Packing.{started, turnBy, turn}
 use Rattle.cue.specs.Output.{outputOf}
 use Rattle.cue.specs.Inside.{brief, carriedBy, answeredBy, Progress, none, some, advance, outputBytes, summary, agrees, fits}
-use Rattle.cue.specs.Inside.{joinedBy, unlockFor, startedBy, closedBy, pickPacker, turnedBy}
+use Rattle.cue.specs.Inside.{joinedBy, unlockFor, startedBy, closedBy, turnedBy}
 use Rattle.cue.specs.declared.records.Record.{Record}
 use Rattle.cue.specs.declared.packer.Packer.{Packer}
 use Rattle.cue.proofs.PacketLaws.{packet-bytes-append, packet-steps-append, command-length}
@@ -102,7 +102,7 @@ unfolding turned
 stays b x e = go (isWrite (x .kind)) (namesUnlock x) e
   where
     go : (w n : Bool) → n ≡ false
-        → Rattle.packet.specs.Step.pickBool (w && n) (eqb (number (x .bytes)) 0x5A02) b ≡ b
+        → cond (w && n) (eqb (number (x .bytes)) 0x5A02) b ≡ b
     go true n h = rw h refl
     go false n h = refl
 
@@ -191,24 +191,24 @@ module _ (css : List (List Command)) (o : Open) (u : Bool) (x : Step) (f : Fine 
 
 -- (b): the new command, where needed behind the unlock
 module _ (cs : List Command) (x : Step) (f : Fine x) where
-  pub unlock-length : (need : Bool) → length (packetBytes (pickCommands need (unlockCommand ∷ []) [])) ≡ pickNumber need 6 0
+  pub unlock-length : (need : Bool) → length (packetBytes (cond need (unlockCommand ∷ []) [])) ≡ cond need 6 0
   unfolding packetBytes unlockCommand joinAll
   unlock-length true = simp (length-append, command-length) refl
   unlock-length false = refl
 
-  pub started-before : length (packetBytes (started cs x .before)) ≡ length (packetBytes cs) + pickNumber (needsUnlock cs x) 6 0
+  pub started-before : length (packetBytes (started cs x .before)) ≡ length (packetBytes cs) + cond (needsUnlock cs x) 6 0
   unfolding started
   started-before = rw (packet-bytes-append, length-append, unlock-length) refl
 
   pub started-length : length (packetBytes (commandsOf (started cs x)))
-      ≡ length (packetBytes cs) + pickNumber (needsUnlock cs x) 6 0 + 4 + length (x .bytes)
+      ≡ length (packetBytes cs) + cond (needsUnlock cs x) 6 0 + 4 + length (x .bytes)
   unfolding commandsOf started packetBytes joinAll
   started-length =
       let u = unlock-length (needsUnlock cs x) in
       simp (packet-bytes-append, length-append, command-length) (omega arith)
 
   started-packet : packetSteps (commandsOf (started cs x))
-      ≡ packetSteps cs ++ packetSteps (pickCommands (needsUnlock cs x) (unlockCommand ∷ []) []) ++ (x ∷ [])
+      ≡ packetSteps cs ++ packetSteps (cond (needsUnlock cs x) (unlockCommand ∷ []) []) ++ (x ∷ [])
   unfolding commandsOf started commandSteps elementSteps
   started-packet = rw (last-steps, packet-steps-append) refl
 
@@ -218,7 +218,7 @@ module _ (cs : List Command) (x : Step) (f : Fine x) where
   started-reply = rw (started-packet, reply-append, reply-append, unlock-reply) (omega arith)
 
   -- the unlock is open after its command
-  opened : (b need : Bool) → unlocked b (packetSteps (pickCommands need (unlockCommand ∷ []) [])) ≡ (b || need)
+  opened : (b need : Bool) → unlocked b (packetSteps (cond need (unlockCommand ∷ []) [])) ≡ (b || need)
   unfolding unlocked packetSteps commandSteps elementSteps unlockCommand turned namesUnlock isStatus isWrite number
   opened true true = refl
   opened true false = refl
@@ -250,17 +250,17 @@ module _ (cs : List Command) (x : Step) (f : Fine x) where
     started-summary =
         let o = started cs x in
         let need = unlock-same in
-        let u : pickNumber (unlockFor p (brief x)) 6 0 ≡ pickNumber (needsUnlock cs x) 6 0 = rw need refl in
+        let u : _≡_ {A = ℕ} (cond (unlockFor p (brief x)) 6 0) (cond (needsUnlock cs x) 6 0) = rw need refl in
         let more : carriedBy (brief x) ≡ length (x .bytes) = rw (carried-brief, f .wide) refl in
-        let bytes : p .packet + pickNumber (unlockFor p (brief x)) 6 0 + 4 + carriedBy (brief x) ≡ length (packetBytes (commandsOf o)) =
+        let bytes : p .packet + cond (unlockFor p (brief x)) 6 0 + 4 + carriedBy (brief x) ≡ length (packetBytes (commandsOf o)) =
         rw (started-length, u, more, n .packet) refl in
         let reply : p .reply + answeredBy (brief x) ≡ replyBytes (packetSteps (commandsOf o)) =
         rw (started-reply, answered-brief, n .reply) refl in
         let open? : (p .unlocked || unlockFor p (brief x)) ≡ unlocked false (packetSteps (commandsOf o)) =
         rw (started-unlocked, need, n .unlocked) refl in
-        let word : p .end + pickNumber (unlockFor p (brief x)) 6 0 ≡ length (outputBytes css) + 4 + length (packetBytes (o .before)) =
+        let word : p .end + cond (unlockFor p (brief x)) 6 0 ≡ length (outputBytes css) + 4 + length (packetBytes (o .before)) =
         rw (started-before, u, n .end) (omega arith) in
-        let end : p .end + pickNumber (unlockFor p (brief x)) 6 0 + 4 + carriedBy (brief x)
+        let end : p .end + cond (unlockFor p (brief x)) 6 0 + 4 + carriedBy (brief x)
         ≡ length (outputBytes css) + 4 + length (packetBytes (commandsOf o)) =
         rw (started-length, u, more, n .end) (omega arith) in
         λ k.
@@ -327,7 +327,7 @@ none-turned u x =
     let a : agrees (summary none u) b ≡ false =
     and-false (Bool·beq false (b .write) && eqb 0 (b .space) && eqb (b .address) (0 + 127 * row (spaceOf 0) .element)) in
     let n : fits (startedBy (summary none u) b) ≡ false =
-    rw (lt-leb (1473 + pickNumber (unlockFor (summary none u) b) 6 0 + 4 + carriedBy b) 1472 (omega arith)) refl in
+    rw (lt-leb (1473 + cond (unlockFor (summary none u) b) 6 0 + 4 + carriedBy b) 1472 (omega arith)) refl in
     rw (a, n) refl
 
 -- (b) has the same limits
@@ -354,7 +354,7 @@ turned-cases css o u x f P a b c =
     fits-same = started-fits css o u x f
 
     go : (j l : Bool) → joins o x ≡ j
-        → P (pickPacker j (joinedBy q (brief x)) (pickPacker l (startedBy q (brief x)) (startedBy (closedBy q) (brief x))))
+        → P (cond j (joinedBy q (brief x)) (cond l (startedBy q (brief x)) (startedBy (closedBy q) (brief x))))
         (some (css ++ turnBy j l o x .closed) (turnBy j l o x .open?))
     go true l e = rw append-nil (a e)
     go false true e = rw append-nil b
@@ -425,11 +425,11 @@ module _ (p : Packer) (r : Record) where
   unfolding carriedBy answeredBy
   more = (carried-le _ _, answered-le _ _)
 
-  unlock-le : (b : Bool) → pickNumber b 6 0 ≤ 6
+  unlock-le : (b : Bool) → cond b 6 0 ≤ 6
   unlock-le true = omega arith
   unlock-le false = omega arith
 
-  unlock-behind : (n : ℕ) (b : Bool) → b ≡ true → 6 ≤ n + pickNumber b 6 0
+  unlock-behind : (n : ℕ) (b : Bool) → b ≡ true → 6 ≤ n + cond b 6 0
   unlock-behind n b e = rw e (omega arith)
 
   grown-joined : agrees p r ≡ true → fits (joinedBy p r) ≡ true → Grown p (joinedBy p r)
@@ -481,7 +481,7 @@ module _ (p : Packer) (r : Record) where
   grown = go (agrees p r) (fits (joinedBy p r)) (fits (startedBy p r)) refl refl refl
     where
       go : (a f s : Bool) → agrees p r ≡ a → fits (joinedBy p r) ≡ f → fits (startedBy p r) ≡ s
-          → Grown p (pickPacker (a && f) (joinedBy p r) (pickPacker s (startedBy p r) (startedBy (closedBy p) r)))
+          → Grown p (cond (a && f) (joinedBy p r) (cond s (startedBy p r) (startedBy (closedBy p) r)))
       go true true s e g h = grown-joined e g
       go true false true e g h = grown-started h
       go true false false e g h = grown-closed

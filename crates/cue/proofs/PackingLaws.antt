@@ -2,13 +2,13 @@
 use Prim.Native.Nat.{ℕ, _+_, _*_, _≤_, _<_}
 use mathlib.Core.Path.{_≡_, refl, sym, ap, _∙_}
 use mathlib.Core.List.{List, [], _∷_, _++_, append-assoc, append-nil}
-use mathlib.Core.Bool.{Bool, true, false, not, _||_, _&&_}
+use mathlib.Core.Bool.{Bool, true, false, not, _&&_, cond}
 use native.Mathlib.Omega.{arith}
 use lib.Dec.{eqb, ltb, leb}
 use lib.ListN.{length, length-append}
 use lib.Seq.{append-snoc}
 use borrow.Author.Tests.{eqb-true, ltb-true, ltb-false, leb-true, le-leb}
-use Rattle.lbp16.proofs.BoolLaws.{or-false, and-true}
+use Rattle.lbp16.proofs.BoolLaws.{and-true}
 use Rattle.lbp16.proofs.SpaceLaws.{bytes-le, element-pos}
 use Rattle.lbp16.specs.Space.{Space, registers, eeprom, status, information, absent, spaceOf, isAbsent, row}
 use Rattle.packet.specs.Step.{Kind, read, write, Step, carried, answered, isWrite, isStatus, namesUnlock, replyBytes}
@@ -20,7 +20,7 @@ use Rattle.packet.proofs.StepLaws.{unlocked-append, reply-append, any-append, a
 use Rattle.cue.specs.Records.{badElement, recordBytes}
 use Rattle.cue.specs.Packing.{Command, spaceNumber, joinAll, packetBytes, elementSteps, commandSteps, packetSteps}
 use Rattle.cue.specs.Packing.{unlockCommand, keepsLimits, Open, commandsOf, sameKind, joined, joins, needsUnlock}
-use Rattle.cue.specs.Packing.{pickCommands, started, Turn, turnBy, turn, packFrom, packets}
+use Rattle.cue.specs.Packing.{started, Turn, turnBy, turn, packFrom, packets}
 use Rattle.cue.proofs.RecordLaws.{good-element}
 use Rattle.cue.proofs.Relations.{Wide, Sound, SoundAll, Mixed, Good}
 use Rattle.cue.proofs.PacketLaws.{packet-bytes-append, packet-steps-append, command-length, element-steps-append}
@@ -179,7 +179,7 @@ unlock-sound open? =
     }
 
 readied : (open? need : Bool) (x : Step) → (isWrite (x .kind) && row (x .space) .locked && not open?) ≡ need
-    → Readied open? (pickCommands need (unlockCommand ∷ []) []) x
+    → Readied open? (cond need (unlockCommand ∷ []) []) x
 unfolding packetSteps commandSteps elementSteps unlockCommand unlocked turned namesUnlock isStatus isWrite number
 readied open? false x e = record { sound = SoundAll.none; mixed = Mixed.none; unlocks = e }
 readied open? true x e =
@@ -223,13 +223,13 @@ started-holds cs x xs s m e l =
     }
 
 -- the bytes of an unlock command, and of it with a new command and a packet's frame
-unlock-bytes : (need : Bool) → length (packetBytes (pickCommands need (unlockCommand ∷ []) [])) ≤ 6
+unlock-bytes : (need : Bool) → length (packetBytes (cond need (unlockCommand ∷ []) [])) ≤ 6
 unfolding packetBytes unlockCommand joinAll
 unlock-bytes true = simp (length-append, command-length) (omega arith)
 unlock-bytes false = omega arith
 
 new-bytes : (k : Kind) (s : Space) (a b : Bool) (n : ℕ) → n ≡ carried k s
-    → length (packetBytes (pickCommands (isWrite k && a && b) (unlockCommand ∷ []) [])) + (4 + n) + 4 ≤ 2 * recordBytes k
+    → length (packetBytes (cond (isWrite k && a && b) (unlockCommand ∷ []) [])) + (4 + n) + 4 ≤ 2 * recordBytes k
 unfolding isWrite carried recordBytes packetBytes
 new-bytes read s a b n e = omega arith
 new-bytes write s a b n e = omega (arith, unlock-bytes (a && b), carried-le write s)
@@ -243,7 +243,7 @@ started-bytes cs x w =
     simp (packet-bytes-append, length-append, command-length) (omega arith)
 
 -- the reply of a packet of one record
-pub unlock-reply : (need : Bool) → replyBytes (packetSteps (pickCommands need (unlockCommand ∷ []) [])) ≡ 0
+pub unlock-reply : (need : Bool) → replyBytes (packetSteps (cond need (unlockCommand ∷ []) [])) ≡ 0
 unfolding replyBytes packetSteps commandSteps elementSteps unlockCommand answered
 unlock-reply true = refl
 unlock-reply false = refl

@@ -2,7 +2,7 @@
 use Prim.Native.Nat.{ℕ, _+_, _%_, _≤_}
 use mathlib.Core.Path.{_≡_, refl, sym, ap}
 use mathlib.Core.List.{List, [], _∷_}
-use mathlib.Core.Bool.{Bool, true, false, not, _||_, _&&_}
+use mathlib.Core.Bool.{Bool, true, false, not, _||_, _&&_, cond}
 use native.Mathlib.Omega.{arith}
 use lib.Dec.{eqb, ltb}
 use lib.ListN.{length, take, drop, getD, drop-of-length-le, length-take}
@@ -12,7 +12,7 @@ use Rattle.lbp16.specs.Space.{Space, registers, eeprom, status, information, ab
 use Rattle.lbp16.proofs.BoolLaws.{or-false}
 use Rattle.packet.specs.Bytes.{number}
 use Rattle.packet.specs.Step.{carried, isWrite, isStatus, namesUnlock}
-use Rattle.packet.specs.Rules.{first, pickNumber, misaligned, pastEnd, barred}
+use Rattle.packet.specs.Rules.{first, misaligned, pastEnd, barred}
 use Rattle.packet.specs.Command.{pickKind}
 use Rattle.packet.proofs.RuleLaws.{none-holds}
 use Rattle.cue.specs.Records.{recordStep, recordSpace, recordKind, recordBytes, recordRefusals, badElement, upperHalf}
@@ -27,11 +27,8 @@ pub space-cases : (n : ℕ) (P : ℕ → Space → Type 0) → P 0 registers →
 unfolding spaceOf
 space-cases n P a b c d e = go (eqb n 0) (eqb n 2) (eqb n 6) (eqb n 7) refl refl refl refl
   where
-    pick : Bool → Space → Space → Space
-    pick = Rattle.lbp16.specs.Space.pickSpace
-
     go : (t u v w : Bool) → eqb n 0 ≡ t → eqb n 2 ≡ u → eqb n 6 ≡ v → eqb n 7 ≡ w
-        → P n (pick t registers (pick u eeprom (pick v status (pick w information absent))))
+        → P n (cond t registers (cond u eeprom (cond v status (cond w information absent))))
     go true u v w p q r s = rw (eqb-true n 0 p) a
     go false true v w p q r s = rw (eqb-true n 2 q) b
     go false false true w p q r s = rw (eqb-true n 6 r) c
@@ -104,19 +101,19 @@ present rest e =
 -- The chain of tests, where that of rule 24 is the definition's wherever rule 23 does not hold.
 pub chain-is : (index : ℕ) (rest : List ℕ) (w : Bool) → (isAbsent (recordSpace rest) ≡ false → w ≡ not (eqb (upperHalf rest) 0))
     → first (recordRefusals index rest)
-    ≡ pickNumber (eqb index mostRecords) 21
-    (pickNumber
+    ≡ cond (eqb index mostRecords) 21
+    (cond
     ((not (eqb (markAt rest) readMark) && not (eqb (markAt rest) writeMark))
     || ltb (length rest) (recordBytes (pickKind (eqb (markAt rest) writeMark))))
     22
-    (pickNumber (badElement (recordStep rest)) 23
-    (pickNumber (not (eqb (getD rest 3 0) 0) || (eqb (markAt rest) writeMark && w)) 24 0)))
+    (cond (badElement (recordStep rest)) 23
+    (cond (not (eqb (getD rest 3 0) 0) || (eqb (markAt rest) writeMark && w)) 24 0)))
 unfolding recordRefusals first recordKind
 chain-is index rest w h =
     rw (write-of)
     (ap
-    (λ (n : ℕ). pickNumber (eqb index mostRecords) 21
-    (pickNumber
+    (λ (n : ℕ). cond (eqb index mostRecords) 21
+    (cond
     ((not (eqb (markAt rest) readMark) && not (eqb (markAt rest) writeMark))
     || ltb (length rest) (recordBytes (pickKind (eqb (markAt rest) writeMark))))
     22
@@ -124,10 +121,10 @@ chain-is index rest w h =
     (go (badElement (recordStep rest)) refl))
   where
     test : Bool → ℕ
-    test u = pickNumber (not (eqb (getD rest 3 0) 0) || (eqb (markAt rest) writeMark && u)) 24 0
+    test u = cond (not (eqb (getD rest 3 0) 0) || (eqb (markAt rest) writeMark && u)) 24 0
 
     go : (b : Bool) → badElement (recordStep rest) ≡ b
-        → pickNumber b 23 (test (not (eqb (upperHalf rest) 0))) ≡ pickNumber b 23 (test w)
+        → cond b 23 (test (not (eqb (upperHalf rest) 0))) ≡ cond b 23 (test w)
     go true e = refl
     go false e = ap test (sym (h (present rest e)))
 

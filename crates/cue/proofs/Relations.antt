@@ -1,16 +1,16 @@
 -- What ties packets to records: sound commands, steps with unlock writes put in, and packets that hold records.
-use Prim.Native.Nat.{ℕ, _+_, _≤_, _<_}
+use Prim.Native.Nat.{ℕ, _≤_, _<_}
 use mathlib.Core.Path.{_≡_}
 use mathlib.Core.List.{List, [], _∷_, _++_}
-use mathlib.Core.Bool.{Bool, true, false, not, _&&_}
+use mathlib.Core.Bool.{Bool, false, not, _&&_}
 use lib.ListN.{length}
-use Rattle.lbp16.specs.Space.{Space, status, isAbsent, row}
+use Rattle.lbp16.specs.Space.{status, isAbsent, row}
 use Rattle.lbp16.specs.Pointer.{aboveSize}
 use Rattle.lbp16.specs.declared.pointer.Pointers.{Pointers}
-use Rattle.packet.specs.Step.{Kind, write, Step, carried, isWrite, unlocked}
+use Rattle.packet.specs.Step.{write, Step, carried, isWrite, unlocked}
 use Rattle.packet.specs.Rules.{misaligned, pastEnd, barred, any}
 use Rattle.packet.specs.Command.{limit}
-use Rattle.packet.specs.Judge.{Carried, Verdict, accepted, judge}
+use Rattle.packet.specs.Judge.{Carried, accepted, judge}
 use Rattle.cue.specs.Records.{badElement}
 use Rattle.cue.specs.Packing.{Command, commandSteps}
 

@@ -2,7 +2,7 @@
 use Prim.Native.Nat.{ℕ, _+_, _-_, _≤_}
 use mathlib.Core.Path.{_≡_, refl, sym, ap, _∙_}
 use mathlib.Core.List.{List, [], _∷_, _++_, append-assoc, append-nil}
-use mathlib.Core.Bool.{Bool, true, false}
+use mathlib.Core.Bool.{Bool, true, false, cond}
 use native.Mathlib.Omega.{arith}
 use lib.ListN.{length, drop, length-append, length-drop}
 use lib.Seq.{sets, sets-eq, take-at, drop-drop, drop-append-add, drop-append-seam}
@@ -10,12 +10,11 @@ use Rattle.lbp16.specs.Space.{row}
 use Rattle.lbp16.specs.Word.{wordOf, bit}
 use Rattle.packet.specs.Bytes.{bytesOf}
 use Rattle.packet.specs.Step.{Step, isWrite}
-use Rattle.packet.specs.Rules.{pickNumber}
-use Rattle.cue.specs.Packing.{Command, Open, commandsOf, joined, started, needsUnlock, pickCommands, unlockCommand}
+use Rattle.cue.specs.Packing.{Command, Open, commandsOf, joined, started, needsUnlock, unlockCommand}
 use Rattle.cue.specs.Packing.{spaceNumber, joinAll, commandBytes, commandFields, packetBytes}
 use Rattle.cue.specs.Output.{framed, outputOf}
 use Rattle.cue.specs.Inside.{Progress, none, some, advance, finished, outputBytes, summary, roomAfter, Planned, brief}
-use Rattle.cue.specs.Inside.{frameBytes, lastFields, headBytes, unlockBytes, pickBytes, framedAt, unlockedAt, headedAt, wrote}
+use Rattle.cue.specs.Inside.{frameBytes, lastFields, headBytes, unlockBytes, framedAt, unlockedAt, headedAt, wrote}
 use Rattle.cue.specs.Inside.{turnedBy}
 use Rattle.cue.specs.declared.packer.Packer.{Packer}
 use Rattle.cue.proofs.PacketLaws.{packet-bytes-append, join-append}
@@ -103,8 +102,8 @@ start-list P F B U H x T a w e b c d g h k =
     one ∙ simp (append-assoc, all) at two ∙ simp append-assoc
 
 -- the unlock command's bytes, where it is put in
-unlock-put : (need : Bool) (l : List ℕ) (a w : ℕ) → w ≡ a + pickNumber need 6 0
-    → pickBytes need (sets l (w - 6) unlockBytes) l ≡ sets l a (packetBytes (pickCommands need (unlockCommand ∷ []) []))
+unlock-put : (need : Bool) (l : List ℕ) (a w : ℕ) → w ≡ a + cond need 6 0
+    → cond need (sets l (w - 6) unlockBytes) l ≡ sets l a (packetBytes (cond need (unlockCommand ∷ []) []))
 unfolding packetBytes commandBytes commandFields unlockCommand joinAll bytesOf wordOf bit isWrite spaceNumber row
 unlock-put true l a w e = let z : w - 6 ≡ a = omega arith in rw z refl
 unlock-put false l a w e = refl
@@ -118,7 +117,7 @@ module _ (cs : List Command) (x : Step) (f : Fine x) (css : List (List Command))
   q = summary (some css o) (needsUnlock cs x)
 
   started-bytes : packetBytes (commandsOf o)
-      ≡ packetBytes cs ++ (packetBytes (pickCommands (needsUnlock cs x) (unlockCommand ∷ []) []) ++ (headOf (o .last) ++ x .bytes))
+      ≡ packetBytes cs ++ (packetBytes (cond (needsUnlock cs x) (unlockCommand ∷ []) []) ++ (headOf (o .last) ++ x .bytes))
   unfolding commandsOf started joinAll
   started-bytes = rw (last-apart, packet-bytes-append, append-assoc, append-nil) refl
 
@@ -128,24 +127,24 @@ module _ (cs : List Command) (x : Step) (f : Fine x) (css : List (List Command))
 
   started-room : (room T : List ℕ)
       → framedAt q room ≡ outputBytes css ++ (frameBytes (length (packetBytes (commandsOf o))) ++ (packetBytes cs ++ T))
-      → pickNumber (needsUnlock cs x) 6 0 + 4 + length (x .bytes) ≤ length T
+      → cond (needsUnlock cs x) 6 0 + 4 + length (x .bytes) ≤ length T
       → wrote q (x .bytes) room
       ≡ outputBytes css ++ (frameBytes (length (packetBytes (commandsOf o)))
-      ++ (packetBytes (commandsOf o) ++ drop (pickNumber (needsUnlock cs x) 6 0 + 4 + length (x .bytes)) T))
+      ++ (packetBytes (commandsOf o) ++ drop (cond (needsUnlock cs x) 6 0 + 4 + length (x .bytes)) T))
   unfolding wrote headedAt unlockedAt summary
   started-room room T e h =
       let P = outputBytes css in
       let F = frameBytes (length (packetBytes (commandsOf o))) in
-      let U = packetBytes (pickCommands (needsUnlock cs x) (unlockCommand ∷ []) []) in
+      let U = packetBytes (cond (needsUnlock cs x) (unlockCommand ∷ []) []) in
       let H = headOf (o .last) in
       let a = length P + 4 + length (packetBytes cs) in
-      let u : length U ≡ pickNumber (needsUnlock cs x) 6 0 = unlock-length cs x f (needsUnlock cs x) in
-      let w : length P + 4 + length (packetBytes (o .before)) ≡ a + pickNumber (needsUnlock cs x) 6 0 =
+      let u : length U ≡ cond (needsUnlock cs x) 6 0 = unlock-length cs x f (needsUnlock cs x) in
+      let w : length P + 4 + length (packetBytes (o .before)) ≡ a + cond (needsUnlock cs x) 6 0 =
       rw (started-before cs x f) (omega arith) in
       let d : a + length U + 4 ≡ length P + 4 + length (packetBytes (commandsOf o)) - length (x .bytes) =
       rw (started-length cs x f) (omega arith) in
       let L = P ++ (F ++ (packetBytes cs ++ T)) in
-      let put : pickBytes (needsUnlock cs x) (sets L (length P + 4 + length (packetBytes (o .before)) - 6) unlockBytes) L ≡ sets L a U =
+      let put : cond (needsUnlock cs x) (sets L (length P + 4 + length (packetBytes (o .before)) - 6) unlockBytes) L ≡ sets L a U =
       unlock-put (needsUnlock cs x) L a _ w in
       rw (e, put, head-same css o (needsUnlock cs x) rising)
       (start-list P F (packetBytes cs) U H (x .bytes) T a (length P + 4 + length (packetBytes (o .before))) _ (frame-length _) (head-length _) refl
@@ -173,7 +172,7 @@ started-behind css o x f room h =
     let o₂ = started cs x in
     let P = outputBytes css in
     let K = packetBytes cs in
-    let n = pickNumber (needsUnlock cs x) 6 0 + 4 + length (x .bytes) in
+    let n = cond (needsUnlock cs x) 6 0 + 4 + length (x .bytes) in
     let T = tail css o room in
     let F = frameBytes (length (packetBytes (commandsOf o₂))) in
     let q = summary (some css o₂) (needsUnlock cs x) in
@@ -194,7 +193,7 @@ unfolding framedAt summary tail roomAfter packetBytes
 fresh-behind css x f room h =
     let o = started [] x in
     let P = outputBytes css in
-    let n = pickNumber (needsUnlock [] x) 6 0 + 4 + length (x .bytes) in
+    let n = cond (needsUnlock [] x) 6 0 + 4 + length (x .bytes) in
     let T = drop (length P) room in
     let F = frameBytes (length (packetBytes (commandsOf o))) in
     let q = summary (some css o) (needsUnlock [] x) in

@@ -2,7 +2,7 @@
 use Prim.Native.Nat.{ℕ, suc, _+_, _%_, _≤_}
 use mathlib.Core.Path.{_≡_, refl, sym, _∙_}
 use mathlib.Core.Logic.{inl, inr, _≢_}
-use mathlib.Core.Bool.{true, false, _||_, _&&_}
+use mathlib.Core.Bool.{true, false, _&&_}
 use mathlib.Core.List.{List, [], _∷_, _++_}
 use native.Mathlib.Omega.{arith}
 use native.Mathlib.Decide.{decLe}
@@ -10,12 +10,11 @@ use lib.Dec.{eqb}
 use lib.ListN.{length, take, drop}
 use lib.Seq.{take-append-seam}
 use borrow.Author.Tests.{eqb-true, ltb-false, not-false}
-use Rattle.lbp16.proofs.BoolLaws.{or-false}
-use Rattle.lbp16.specs.Space.{Space, registers, eeprom, status, information, absent, isAbsent, row}
+use Rattle.lbp16.specs.Space.{Space, registers, eeprom, status, information, absent, row}
 use Rattle.lbp16.specs.declared.pointer.Pointers.{Pointers}
 use Rattle.packet.specs.Step.{Kind, read, write, Step, at, carried, answered, stored, after, seen, storeAfter, valuesRead}
 use Rattle.packet.specs.Step.{isStatus, namesUnlock}
-use Rattle.packet.specs.Rules.{misaligned, pastEnd, barred}
+use Rattle.packet.specs.Rules.{misaligned, pastEnd}
 use Rattle.packet.specs.Judge.{accepted}
 use Rattle.packet.proofs.StoreLaws.{Apart, sets-sets, sets-twice, slice-sets, length-after, store-after-append}
 use Rattle.packet.proofs.StoreLaws.{values-read-append}

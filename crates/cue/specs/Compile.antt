@@ -1,7 +1,7 @@
 -- Compiling a cue list into lent output room.
 use Prim.Native.Nat.{ℕ}
 use mathlib.Core.List.{List, [], _∷_, _++_, map}
-use mathlib.Core.Bool.{Bool, true, false}
+use mathlib.Core.Bool.{cond}
 use lib.ListN.{length, drop}
 use lib.Dec.{ltb}
 use Rattle.lbp16.specs.Answer.{Answer, refusal}
@@ -23,16 +23,12 @@ pub record Compiled : Type 0 where
   pub answer : Answer
   pub room : List ℕ
 
-abbrev pub pickCompiled : Bool → Compiled → Compiled → Compiled
-pickCompiled true a b = a
-pickCompiled false a b = b
-
 -- refusal 26, or the output at the front of the room
 unfoldable pub compiledTo : Listed → List ℕ → Compiled
 compiledTo (refused n i) room = record { answer = Answer.refused n i; room = room }
 compiledTo (records xs) room =
     let bytes = length (output xs) in
-    pickCompiled (ltb (length room) bytes)
+    cond (ltb (length room) bytes)
     (record { answer = Answer.refused 26 bytes; room = room })
     (record { answer = Answer.accepted (bytes ∷ length (packed xs) ∷ []); room = output xs ++ drop bytes room })
 

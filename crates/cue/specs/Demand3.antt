@@ -4,16 +4,15 @@ use Prim.Native.Nat.{ℕ, _+_, _≤_, _<_}
 use mathlib.Core.Path.{_≡_}
 use mathlib.Core.Logic.{_⊎_}
 use mathlib.Core.List.{List, [], _∷_}
-use mathlib.Core.Bool.{Bool, true, false}
+use mathlib.Core.Bool.{true, false}
 use lib.ListN.{length, take, getD}
 use Rattle.lbp16.specs.Answer.{Answer}
 use Rattle.lbp16.specs.declared.pointer.Pointers.{Pointers}
 use Rattle.packet.specs.Step.{Step, storeAfter, valuesRead}
-use Rattle.packet.specs.Command.{limit}
 use Rattle.card.specs.Run.{badRoom, unlockCell}
-use Rattle.cue.specs.Records.{Listed, records, recordsOf}
-use Rattle.cue.specs.Output.{Apart, parts, apart}
-use Rattle.cue.specs.Compile.{Compiled, compiled, packed}
+use Rattle.cue.specs.Records.{records, recordsOf}
+use Rattle.cue.specs.Output.{parts, apart}
+use Rattle.cue.specs.Compile.{compiled, packed}
 use Rattle.cue.specs.Play.{Played, play}
 
 -- the unlock cell's two bytes after the packets: 0 if one ran, else as they were

@@ -1,8 +1,7 @@
 -- Document 01's examples P1 to P10: what the definitions give, beside what the paper says.
 use Prim.Native.Nat.{ℕ}
 use mathlib.Core.List.{List, [], _∷_, _++_}
-use mathlib.Core.Bool.{Bool, true, false}
-use lib.ListN.{length, take, replicate}
+use lib.ListN.{replicate}
 use Rattle.lbp16.specs.Answer.{Answer}
 use Rattle.lbp16.specs.Pointer.{fresh}
 use Rattle.lbp16.specs.Space.{storeBytes}
@@ -13,7 +12,7 @@ use Rattle.packet.specs.Command.{limit}
 use Rattle.card.specs.Run.{runPacket}
 use Rattle.card.specs.Spi.{headerOf}
 use Rattle.card.specs.declared.spi.Header.{Header}
-use Rattle.cue.specs.Compile.{Compiled, compiled}
+use Rattle.cue.specs.Compile.{compiled}
 
 pub record Example : Type 0 where
   pub gives : List ℕ

@@ -3,7 +3,7 @@
 use Prim.Native.Nat.{ℕ, _+_, _-_, _*_, _≤_}
 use mathlib.Core.Path.{_≡_}
 use mathlib.Core.List.{List, [], _∷_, _++_, map}
-use mathlib.Core.Bool.{Bool, Bool·beq, true, false, not, _||_, _&&_}
+use mathlib.Core.Bool.{Bool, Bool·beq, true, false, not, _||_, _&&_, cond}
 use lib.ListN.{length, take, drop, getD}
 use lib.Seq.{sets}
 use lib.Dec.{eqb, ltb, leb}
@@ -12,7 +12,6 @@ use Rattle.lbp16.specs.Word.{wordOf}
 use Rattle.lbp16.specs.declared.word.Fields.{Fields}
 use Rattle.packet.specs.Bytes.{number, bytesOf}
 use Rattle.packet.specs.Step.{Step, isWrite, carried, answered, replyBytes, unlocked}
-use Rattle.packet.specs.Rules.{pickNumber}
 use Rattle.packet.specs.Command.{pickKind, limit}
 use Rattle.cue.specs.Records.{Listed, recordsOf, markAt, writeMark}
 use Rattle.cue.specs.Records as list
@@ -144,7 +143,7 @@ unlockFor p r = r .write && row (spaceOf (r .space)) .locked && not (p .unlocked
 unfoldable pub startedBy : Packer → Record → Packer
 startedBy p r =
     let need = unlockFor p r in
-    let unlock = pickNumber need 6 0 in
+    let unlock : ℕ = cond need 6 0 in
     record {
       write = r .write;
       space = r .space;
@@ -178,14 +177,10 @@ closedBy p =
       packets = p .packets + 1;
     }
 
-abbrev pub pickPacker : Bool → Packer → Packer → Packer
-pickPacker true a b = a
-pickPacker false a b = b
-
 unfoldable pub turnedBy : Packer → Record → Packer
 turnedBy p r =
-    pickPacker (agrees p r && fits (joinedBy p r)) (joinedBy p r)
-    (pickPacker (fits (startedBy p r)) (startedBy p r) (startedBy (closedBy p) r))
+    cond (agrees p r && fits (joinedBy p r)) (joinedBy p r)
+    (cond (fits (startedBy p r)) (startedBy p r) (startedBy (closedBy p) r))
 
 -- what keeps the packer's sums small
 pub record Roomy (p : Packer) : Type 0 where
@@ -218,15 +213,11 @@ headBytes q = bytesOf 2 (wordOf (lastFields q)) ++ bytesOf 2 (q .address)
 abbrev pub unlockBytes : List ℕ
 unlockBytes = 0x01 ∷ 0xD9 ∷ 0x1A ∷ 0x00 ∷ 0x02 ∷ 0x5A ∷ []
 
-abbrev pub pickBytes : Bool → List ℕ → List ℕ → List ℕ
-pickBytes true a b = a
-pickBytes false a b = b
-
 unfoldable pub framedAt : Packer → List ℕ → List ℕ
 framedAt q room = sets room (q .frame) (frameBytes (q .packet))
 
 unfoldable pub unlockedAt : Packer → List ℕ → List ℕ
-unlockedAt q room = pickBytes (q .unlock) (sets room (q .word - 6) unlockBytes) room
+unlockedAt q room = cond (q .unlock) (sets room (q .word - 6) unlockBytes) room
 
 unfoldable pub headedAt : Packer → List ℕ → List ℕ
 headedAt q room = sets room (q .word) (headBytes q)

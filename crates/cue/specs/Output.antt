@@ -1,7 +1,7 @@
 -- The output: each packet behind the mark "LB" and its length. Taking an output apart again.
 use Prim.Native.Nat.{ℕ, zero, suc, _+_}
-use mathlib.Core.List.{List, [], _∷_, _++_, map}
-use mathlib.Core.Bool.{Bool, true, false, not, _||_}
+use mathlib.Core.List.{List, [], _∷_, _++_}
+use mathlib.Core.Bool.{Bool, not, _||_, cond}
 use lib.ListN.{length, take, drop}
 use lib.Dec.{eqb, ltb}
 use Rattle.packet.specs.Bytes.{number, bytesOf}
@@ -32,16 +32,12 @@ lengthAt rest = number (take 2 (drop 2 rest))
 unfoldable pub unsoundAt : List ℕ → Bool
 unsoundAt rest = not (eqb (number (take 2 rest)) packetMark) || ltb (length rest) (4 + lengthAt rest)
 
-abbrev pub pickApart : Bool → Apart → Apart → Apart
-pickApart true a b = a
-pickApart false a b = b
-
 unfoldable pub apartFrom : ℕ → List ℕ → Apart
 apartFrom zero rest = parts []
 apartFrom (suc fuel) [] = parts []
 apartFrom (suc fuel) (b ∷ bs) =
     let rest = b ∷ bs in
-    pickApart (unsoundAt rest) unsound
+    cond (unsoundAt rest) unsound
     (withPart (take (lengthAt rest) (drop 4 rest)) (apartFrom fuel (drop (4 + lengthAt rest) rest)))
 
 unfoldable pub apart : List ℕ → Apart

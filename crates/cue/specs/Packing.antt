@@ -1,7 +1,7 @@
 -- The packing rule: which commands in which packets a list's records make. A packet is its commands in order.
-use Prim.Native.Nat.{ℕ, zero, suc, _+_, _*_}
+use Prim.Native.Nat.{ℕ, _+_, _*_}
 use mathlib.Core.List.{List, [], _∷_, _++_}
-use mathlib.Core.Bool.{Bool, true, false, not, _||_, _&&_}
+use mathlib.Core.Bool.{Bool, true, false, not, _&&_, cond}
 use lib.ListN.{length}
 use lib.Dec.{eqb, ltb, leb}
 use Rattle.lbp16.specs.Space.{Space, registers, eeprom, status, information, absent, row}
@@ -9,7 +9,6 @@ use Rattle.lbp16.specs.Word.{wordOf}
 use Rattle.lbp16.specs.declared.word.Fields.{Fields}
 use Rattle.packet.specs.Bytes.{bytesOf}
 use Rattle.packet.specs.Step.{Kind, read, write, Step, isWrite, replyBytes, unlocked}
-use Rattle.packet.specs.Rules.{pickNumber}
 use Rattle.packet.specs.Command.{limit}
 
 -- A command with its address; `elements` holds the bytes of each element, none for a read.
@@ -58,7 +57,7 @@ elementSteps k s a d (e ∷ es) = record { kind = k; space = s; address = a; byt
 
 unfoldable pub commandSteps : Command → List Step
 commandSteps c =
-    elementSteps (c .kind) (c .space) (c .address) (pickNumber (c .increment) (row (c .space) .element) 0) (c .elements)
+    elementSteps (c .kind) (c .space) (c .address) (cond (c .increment) (row (c .space) .element) 0) (c .elements)
 
 unfoldable pub packetSteps : List Command → List Step
 packetSteps [] = []
@@ -117,15 +116,11 @@ joins o x =
 unfoldable pub needsUnlock : List Command → Step → Bool
 needsUnlock cs x = isWrite (x .kind) && row (x .space) .locked && not (unlocked false (packetSteps cs))
 
-abbrev pub pickCommands : Bool → List Command → List Command → List Command
-pickCommands true a b = a
-pickCommands false a b = b
-
 -- (b) a new command in a packet of these commands, with address, increment and count 1; where needed the unlock first
 unfoldable pub started : List Command → Step → Open
 started cs x =
     record {
-      before = cs ++ pickCommands (needsUnlock cs x) (unlockCommand ∷ []) [];
+      before = cs ++ cond (needsUnlock cs x) (unlockCommand ∷ []) [];
       last =
           record { kind = x .kind; space = x .space; address = x .address; increment = true; elements = x .bytes ∷ [] };
     }

@@ -2,10 +2,10 @@
 use Prim.Native.Nat.{ℕ, suc}
 use mathlib.Core.List.{List, [], _∷_, _++_}
 use mathlib.Core.Bool.{Bool, true, false, _&&_}
-use lib.ListN.{length, take}
+use lib.ListN.{take}
 use Rattle.lbp16.specs.Answer.{Answer}
 use Rattle.lbp16.specs.declared.pointer.Pointers.{Pointers}
-use Rattle.card.specs.Run.{Outcome, runPacket}
+use Rattle.card.specs.Run.{runPacket}
 
 -- `replies`: the replies, each up to its answered length, joined in packet order
 pub record Played : Type 0 where

@@ -1,7 +1,7 @@
 -- A cue list's records. A record is a step: doing a record alone is doing that step.
 use Prim.Native.Nat.{ℕ, zero, suc, _+_}
 use mathlib.Core.List.{List, [], _∷_}
-use mathlib.Core.Bool.{Bool, true, false, not, _||_, _&&_}
+use mathlib.Core.Bool.{Bool, not, _||_, _&&_}
 use lib.ListN.{length, take, drop, getD}
 use lib.Dec.{eqb, ltb}
 use Rattle.lbp16.specs.Space.{Space, spaceOf, isAbsent, row}

@@ -3,9 +3,8 @@ use crate::records::Record;
 use lbp16::space;
 use packet::command::LIMIT;
 ghost use mathlib.Core.Path.{_≡_};
-ghost use mathlib.Core.Bool.{false};
+ghost use mathlib.Core.Bool.{false, cond};
 ghost use Prim.Native.Nat.{_≤_};
-ghost use Rattle.packet.specs.Rules.{pickNumber};
 ghost use Rattle.cue.specs.Inside.{Progress, summary, carriedBy, answeredBy, agrees, fits, joinedBy, startedBy, closedBy, turnedBy, Roomy};
 
 // The unlock where a packet begins.
@@ -110,7 +109,7 @@ fn joined(p: Packer, r: Record) -> Packer
 }
 
 fn unlock_bytes(need: bool) -> usize
-    ensures { λ n. ⌜ (n ≡ pickNumber need 6 0) × (n ≤ 6) ⌝ }
+    ensures { λ n. ⌜ (n ≡ cond need 6 0) × (n ≤ 6) ⌝ }
 {
     if need { 6 } else { 0 }
 }

@@ -5,12 +5,11 @@ use packet::rule;
 ghost use mathlib.Core.Path.{_≡_};
 ghost use mathlib.Core.Bool.{not, false};
 ghost use Prim.Native.Nat.{_<_, _≤_};
-ghost use lib.ListN.{take, drop, getD};
+ghost use lib.ListN.{getD};
 ghost use lib.Dec.{eqb};
 ghost use Rattle.lbp16.specs.Space.{isAbsent};
-ghost use Rattle.packet.specs.Bytes.{number};
 ghost use Rattle.packet.specs.Command.{pickKind};
-ghost use Rattle.packet.specs.Rules.{first, pickNumber};
+ghost use Rattle.packet.specs.Rules.{first};
 ghost use Rattle.cue.specs.Records.{recordStep, recordSpace, recordBytes, badElement, upperHalf, recordRefusals};
 ghost use Rattle.cue.specs.Inside.{recordAt};
 

@@ -1,11 +1,11 @@
 -- What the C exports return and leave. The answers themselves are those of a packet, a burst and a command word.
 use Prim.Native.Nat.{ℕ}
 use mathlib.Core.List.{List, [], _∷_}
-use mathlib.Core.Bool.{Bool, true, false, not, _||_}
+use mathlib.Core.Bool.{Bool, not, _||_, cond}
 use lib.ListN.{length, getD}
 use lib.Dec.{eqb, ltb}
 use Rattle.lbp16.specs.Answer.{Answer, accepted, refused}
-use Rattle.lbp16.specs.Word.{fieldsOf, bit, pickAnswer, written}
+use Rattle.lbp16.specs.Word.{fieldsOf, bit, written}
 use Rattle.lbp16.specs.Pointer.{pointer}
 use Rattle.lbp16.specs.declared.word.Fields.{Fields}
 use Rattle.lbp16.specs.declared.pointer.Pointers.{Pointers}
@@ -60,14 +60,10 @@ ofOutcome o =
       reply = o .reply;
     }
 
-abbrev pub pickRun : Bool → RunExport → RunExport → RunExport
-pickRun true a b = a
-pickRun false a b = b
-
 -- Refused with 1 where there are not four pointers.
 unfoldable pub exportRun : List ℕ → List ℕ → List ℕ → List ℕ → RunExport
 exportRun packet store pointers reply =
-    pickRun (eqb (length pointers) 4) (ofOutcome (runPacket packet store (pointersOf pointers) reply))
+    cond (eqb (length pointers) 4) (ofOutcome (runPacket packet store (pointersOf pointers) reply))
     (record { number = 1; value = 0; store = store; pointers = pointers; reply = reply })
 
 -- A word's fields as seven bytes: write, address, info, space, size, increment, count. A flag is 0 or 1.
@@ -99,13 +95,9 @@ pub record FieldsExport : Type 0 where
   pub number : ℕ
   pub fields : List ℕ
 
-abbrev pub pickFieldsExport : Bool → FieldsExport → FieldsExport → FieldsExport
-pickFieldsExport true a b = a
-pickFieldsExport false a b = b
-
 unfoldable pub exportFields : ℕ → List ℕ → FieldsExport
 exportFields word fields =
-    pickFieldsExport (eqb (length fields) 7) (record { number = 0; fields = fieldBytes (fieldsOf word) })
+    cond (eqb (length fields) 7) (record { number = 0; fields = fieldBytes (fieldsOf word) })
     (record { number = 13; fields = fields })
 
 -- a byte of a flag that is neither 0 nor 1
@@ -116,7 +108,7 @@ badFlags bytes =
 -- head_word's answer: the word of seven such bytes. Refused with 13 also for another length or a bad flag.
 unfoldable pub exportWord : List ℕ → Answer
 exportWord bytes =
-    pickAnswer (not (eqb (length bytes) 7) || badFlags bytes) (refused 13 0) (written (fieldsFrom bytes))
+    cond (not (eqb (length bytes) 7) || badFlags bytes) (refused 13 0) (written (fieldsFrom bytes))
 
 -- what stands in the word lent: the word answered, or what stood there
 unfoldable pub wordLeft : Answer → ℕ → ℕ

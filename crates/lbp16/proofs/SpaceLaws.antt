@@ -1,7 +1,7 @@
 -- The spaces that the card has: none overlaps another, and together they are the store.
 use Prim.Native.Nat.{ℕ, _+_, _≤_, _<_}
 use mathlib.Core.Path.{_≡_, refl}
-use mathlib.Core.Bool.{Bool, true, false}
+use mathlib.Core.Bool.{false}
 use native.Mathlib.Omega.{arith}
 use lib.Dec.{eqb}
 use Rattle.lbp16.specs.Space.{Space, registers, eeprom, status, information, absent, row, isAbsent, storeBytes}

@@ -1,20 +1,16 @@
 -- The spaces of the card store. Spaces 1, 3, 4 and 5 are absent.
 use Prim.Native.Nat.{ℕ}
-use mathlib.Core.Bool.{Bool, true, false}
+use mathlib.Core.Bool.{Bool, true, false, cond}
 use lib.Dec.{eqb}
 use Rattle.lbp16.specs.declared.space.Row.{Row}
 
 pub data Space : Type 0 where
   registers eeprom status information absent : Space
 
-abbrev pub pickSpace : Bool → Space → Space → Space
-pickSpace true a b = a
-pickSpace false a b = b
-
 unfoldable pub spaceOf : ℕ → Space
 spaceOf n =
-    pickSpace (eqb n 0) registers
-    (pickSpace (eqb n 2) eeprom (pickSpace (eqb n 6) status (pickSpace (eqb n 7) information absent)))
+    cond (eqb n 0) registers
+    (cond (eqb n 2) eeprom (cond (eqb n 6) status (cond (eqb n 7) information absent)))
 
 unfoldable pub isAbsent : Space → Bool
 isAbsent registers = false

@@ -1,7 +1,7 @@
 -- The command word, low bit first: count 7 bits, increment, size 2 bits, space 3 bits, info, address, write.
 use Prim.Native.Nat.{ℕ, _+_, _*_, _/_, _%_}
-use mathlib.Core.List.{List, [], _∷_}
-use mathlib.Core.Bool.{Bool, true, false, _||_}
+use mathlib.Core.List.{[], _∷_}
+use mathlib.Core.Bool.{Bool, true, false, _||_, cond}
 use lib.Dec.{eqb, ltb}
 use Rattle.lbp16.specs.Answer.{Answer, accepted, refused, refusal}
 use Rattle.lbp16.specs.declared.word.Fields.{Fields}
@@ -36,12 +36,8 @@ wordOf f =
 unfoldable pub outOfRange : Fields → Bool
 outOfRange f = ltb 7 (f .space) || ltb 3 (f .size) || ltb 127 (f .count)
 
-abbrev pub pickAnswer : Bool → Answer → Answer → Answer
-pickAnswer true a b = a
-pickAnswer false a b = b
-
 unfoldable pub written : Fields → Answer
-written f = pickAnswer (outOfRange f) (refused 13 0) (accepted (wordOf f ∷ []))
+written f = cond (outOfRange f) (refused 13 0) (accepted (wordOf f ∷ []))
 
 unfoldable pub listed : Written → Answer
 listed (Word w) = accepted (w ∷ [])

@@ -1,11 +1,10 @@
 -- Laws of one command: what it means that no rule refuses it, and where its elements end.
 use Prim.Native.Nat.{ℕ, zero, suc, _+_, _*_, _≤_, _<_}
-use mathlib.Core.Path.{_≡_, ap, sym, _∙_}
+use mathlib.Core.Path.{_≡_, sym, _∙_}
 use mathlib.Core.List.{List, _++_}
-use mathlib.Core.Bool.{Bool, true, false, not, _&&_}
+use mathlib.Core.Bool.{Bool, true, false, not, _&&_, cond}
 use lib.ListN.{length, drop, length-append}
 use lib.Seq.{take-at, drop-at}
-use lib.Dec.{ltb}
 use native.Mathlib.Omega.{arith}
 use native.Mathlib.Nat.{zero-mul, suc-mul}
 use borrow.Author.Tests.{ltb-false, le-ltb, eqb-true, eqb-false, eq-eqb, ne-eqb, not-false}
@@ -19,7 +18,7 @@ use Rattle.lbp16.proofs.PointerLaws.{with-pointer-kept, advanced-exact}
 use Rattle.lbp16.proofs.SpaceLaws.{bytes-le}
 use Rattle.packet.specs.Bytes.{bytesOf}
 use Rattle.packet.specs.Step.{Kind, carried, answered, replyBytes}
-use Rattle.packet.specs.Rules.{first, misaligned, pastEnd, barred, any, pickNumber}
+use Rattle.packet.specs.Rules.{first, misaligned, pastEnd, barred, any}
 use Rattle.packet.specs.Command.{limit, fieldsAt, kindOf, headerBytes, commandBytes, addressUsed, stride}
 use Rattle.packet.specs.Command.{elements, stepsAt, outOfPlace, refusals, pointersAfter}
 use Rattle.packet.proofs.ByteLaws.{length-bytes, number-of-bytes}
@@ -115,7 +114,7 @@ pub stride-le : (f : Fields) → stride f ≤ row (spaceOf (f .space)) .element
 unfolding stride
 stride-le f = go (f .increment) (row (spaceOf (f .space)) .element)
   where
-    go : (b : Bool) (e : ℕ) → pickNumber b e 0 ≤ e
+    go : (b : Bool) (e : ℕ) → cond b e 0 ≤ e
     go true e = omega arith
     go false e = omega arith
 

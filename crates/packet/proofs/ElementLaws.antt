@@ -1,18 +1,18 @@
 -- A command's elements: how many bytes they have, and rules 8 and 9 without a walk over them.
 use Prim.Native.Nat.{ℕ, zero, suc, _+_, _*_, _≤_, _<_}
 use mathlib.Core.Path.{_≡_, refl, ap, sym, _∙_}
-use mathlib.Core.List.{List, [], _∷_}
-use mathlib.Core.Bool.{Bool, true, false, not, _||_, _&&_}
+use mathlib.Core.List.{List}
+use mathlib.Core.Bool.{Bool, true, false, not, _||_, _&&_, cond}
 use native.Mathlib.Omega.{arith}
 use native.Mathlib.Nat.{suc-mul, zero-mul, mul-zero, mul-le-mul}
-use lib.ListN.{take, drop}
+use lib.ListN.{drop}
 use lib.Dec.{eqb, ltb, eqb·suc-zero}
 use borrow.Author.Tests.{ltb-true, lt-ltb}
 use Rattle.lbp16.specs.Space.{Space, spaceOf, row}
 use Rattle.lbp16.specs.declared.word.Fields.{Fields}
 use Rattle.lbp16.specs.declared.pointer.Pointers.{Pointers}
 use Rattle.packet.specs.Step.{Kind, read, write, isWrite}
-use Rattle.packet.specs.Rules.{pastEnd, barred, any, pickNumber}
+use Rattle.packet.specs.Rules.{pastEnd, barred, any}
 use Rattle.packet.specs.declared.command.Progress.{Progress}
 use Rattle.packet.specs.declared.command.Which.the-variants.{Refused}
 use Rattle.packet.specs.Command.{elements, pickKind, kindOf, whichOf, writes, nextBy, stepsAt, addressUsed, stride, headerBytes}
@@ -75,7 +75,7 @@ pub past-quick : (p : Pointers) (f : Fields) (rest : List ℕ)
     ≡ (not (eqb (f .count) 0)
     && ltb (row (spaceOf (f .space)) .bytes)
     (addressUsed p f rest
-    + pickNumber (f .increment) (f .count * row (spaceOf (f .space)) .element) (row (spaceOf (f .space)) .element)))
+    + cond (f .increment) (f .count * row (spaceOf (f .space)) .element) (row (spaceOf (f .space)) .element)))
 unfolding stepsAt stride any elements
 past-quick p f rest = go (f .count) (f .increment)
   where
@@ -89,8 +89,8 @@ past-quick p f rest = go (f .count) (f .increment)
     w = row s .element
 
     go : (n : ℕ) (i : Bool)
-        → any pastEnd (elements (kindOf f) s n a (pickNumber i w 0) (drop (headerBytes f) rest))
-        ≡ (not (eqb n 0) && ltb (row s .bytes) (a + pickNumber i (n * w) w))
+        → any pastEnd (elements (kindOf f) s n a (cond i w 0) (drop (headerBytes f) rest))
+        ≡ (not (eqb n 0) && ltb (row s .bytes) (a + cond i (n * w) w))
     go zero i = refl
     go (suc n) true = past-last _ s n a w _ ∙ rw (eqb·suc-zero n) (ap (ltb (row s .bytes)) (rw suc-mul (omega arith)))
     go (suc n) false = past-last _ s n a 0 _ ∙ rw (eqb·suc-zero n) (ap (ltb (row s .bytes)) (rw mul-zero (omega arith)))

@@ -1,17 +1,17 @@
 -- The check's loop: where it stands between two commands of a packet.
 use Prim.Native.Nat.{ℕ, zero, suc, _+_, _-_, _≤_, _<_}
 use mathlib.Core.Path.{_≡_, refl, sym, ap, _∙_}
-use mathlib.Core.List.{List, [], _∷_, _++_}
-use mathlib.Core.Bool.{Bool, true, false}
+use mathlib.Core.List.{List, [], _∷_}
+use mathlib.Core.Bool.{Bool, true, false, cond}
 use native.Mathlib.Omega.{arith}
 use native.Mathlib.Nat.{le-refl}
 use lib.ListN.{length, take, drop, length-drop}
 use Rattle.lbp16.specs.declared.word.Fields.{Fields}
 use Rattle.lbp16.specs.declared.pointer.Pointers.{Pointers}
 use Rattle.packet.specs.Step.{unlocked, replyBytes}
-use Rattle.packet.specs.Rules.{first, pickNumber}
-use Rattle.packet.specs.Command.{fieldsAt, kindOf, headerBytes, commandBytes, refusals, whichOf, numberOf, found, nextBy}
-use Rattle.packet.specs.Command.{progressAfter, commandAt, pickKind}
+use Rattle.packet.specs.Rules.{first}
+use Rattle.packet.specs.Command.{fieldsAt, headerBytes, commandBytes, refusals, whichOf, numberOf, found}
+use Rattle.packet.specs.Command.{progressAfter, commandAt}
 use Rattle.packet.specs.Judge.{Carried, begin, carry, judgeFrom, judge, foundNext, verdictAt, accepted, refused}
 use Rattle.packet.specs.Judge
 use Rattle.packet.specs.Step.{Kind, read, write}
@@ -88,7 +88,7 @@ two-bytes : (f : Fields) → 2 ≤ commandBytes f
 unfolding commandBytes headerBytes
 two-bytes f = go (f .address) _
   where
-    go : (b : Bool) (n : ℕ) → 2 ≤ pickNumber b 4 2 + n
+    go : (b : Bool) (n : ℕ) → 2 ≤ cond b 4 2 + n
     go true n = omega arith
     go false n = omega arith
 

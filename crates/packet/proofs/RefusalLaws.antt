@@ -3,7 +3,7 @@ use Prim.Native.Nat.{ℕ, zero, suc, _+_, _≤_}
 use mathlib.Core.Path.{_≡_, refl, _∙_}
 use mathlib.Core.Logic.{_≢_}
 use mathlib.Core.List.{List, [], _∷_, _++_}
-use mathlib.Core.Bool.{Bool, true, false}
+use mathlib.Core.Bool.{Bool, true, false, cond}
 use lib.ListN.{length, drop, length-drop}
 use lib.Seq.{drop-drop}
 use native.Mathlib.Omega.{arith}
@@ -13,7 +13,7 @@ use Rattle.lbp16.specs.declared.word.Fields.{Fields}
 use Rattle.lbp16.specs.declared.pointer.Pointers.{Pointers}
 use Rattle.lbp16.proofs.PointerLaws.{with-pointer-other}
 use Rattle.packet.specs.Step.{Kind, read, write, Step, unlocked, replyBytes}
-use Rattle.packet.specs.Rules.{Rule, first, any, pastEnd, pickNumber}
+use Rattle.packet.specs.Rules.{Rule, first, any, pastEnd}
 use Rattle.packet.specs.Command.{limit, fieldsAt, kindOf, headerBytes, commandBytes, elements, stepsAt}
 use Rattle.packet.specs.Command.{refusals, whichOf, found, pointersAfter}
 use Rattle.packet.specs.Judge.{Carried, Verdict, refused, accepted, begin, foundNext, carry, verdictAt, judgeFrom, judge}
@@ -51,7 +51,7 @@ command-some : (f : Fields) → 2 ≤ commandBytes f
 unfolding commandBytes headerBytes
 command-some f = go (f .address) _
   where
-    go : (b : Bool) (n : ℕ) → 2 ≤ pickNumber b 4 2 + n
+    go : (b : Bool) (n : ℕ) → 2 ≤ cond b 4 2 + n
     go true n = omega arith
     go false n = omega arith
 

@@ -3,9 +3,9 @@ use Prim.Native.Nat.{ℕ, _≤_, _<_}
 use mathlib.Core.Path.{_≡_, refl}
 use mathlib.Core.Logic.{_≢_}
 use mathlib.Core.List.{List, [], _∷_}
-use mathlib.Core.Bool.{Bool, true, false}
+use mathlib.Core.Bool.{Bool, true, false, cond}
 use native.Mathlib.Omega.{arith}
-use Rattle.packet.specs.Rules.{Rule, first, pickNumber}
+use Rattle.packet.specs.Rules.{Rule, first}
 
 -- no rule of the list holds
 abbrev pub NoneHolds : List Rule → Type 0
@@ -43,7 +43,7 @@ unfolding first
 first-holds n [] e h = absurd (omega arith)
 first-holds n (r ∷ rs) e h = go (r .holds) refl e (λ q. first-holds n rs q h)
   where
-    go : (b : Bool) → r .holds ≡ b → pickNumber b (r .number) (first rs) ≡ n → (first rs ≡ n → FirstHolds n rs)
+    go : (b : Bool) → r .holds ≡ b → cond b (r .number) (first rs) ≡ n → (first rs ≡ n → FirstHolds n rs)
         → FirstHolds n (r ∷ rs)
     go true p q more = FirstHolds.here q p
     go false p q more = FirstHolds.later p (more q)

@@ -1,16 +1,16 @@
 -- The unlock over a command's elements.
-use Prim.Native.Nat.{ℕ, zero, suc, _+_, _-_, _*_, _≤_, _<_}
-use mathlib.Core.Path.{_≡_, refl, sym, _∙_, ap}
-use mathlib.Core.List.{List, [], _∷_}
-use mathlib.Core.Bool.{Bool, true, false, not, _||_, _&&_}
+use Prim.Native.Nat.{ℕ, zero, suc, _+_, _-_, _*_, _<_}
+use mathlib.Core.Path.{_≡_, refl, _∙_, ap}
+use mathlib.Core.List.{List}
+use mathlib.Core.Bool.{Bool, true, false, _&&_, cond}
 use native.Mathlib.Omega.{arith}
 use lib.ListN.{length, take, drop}
 use lib.Dec.{eqb}
 use lib.Seq.{drop-drop}
 use borrow.Author.Tests.{eqb-true}
-use Rattle.lbp16.specs.Space.{Space, registers, eeprom, status, information, absent, row, spaceOf, pickSpace}
+use Rattle.lbp16.specs.Space.{Space, registers, eeprom, status, information, absent, row, spaceOf}
 use Rattle.lbp16.specs.declared.word.Fields.{Fields}
-use Rattle.packet.specs.Step.{Kind, read, write, Step, carried, isWrite, isStatus, namesUnlock, statusWrite, turned, unlocked, pickBool}
+use Rattle.packet.specs.Step.{Kind, write, carried, isWrite, isStatus, namesUnlock, statusWrite, turned, unlocked}
 use Rattle.packet.specs.Bytes.{number}
 use Rattle.packet.specs.Command.{elements, kindOf, headerBytes, stride}
 use Rattle.packet.proofs.SliceLaws.{tail-whole}
@@ -44,7 +44,7 @@ unlock-kept o k s (suc n) a d bs e =
     ∙ unlock-kept o k s n (a + d) d _ e
   where
     go : (w t u : Bool) → (w && t) ≡ false
-        → pickBool (w && (u && t)) (eqb (number (take (carried k s) bs)) 0x5A02) o ≡ o
+        → cond (w && (u && t)) (eqb (number (take (carried k s) bs)) 0x5A02) o ≡ o
     go false t u e = refl
     go true false true e = refl
     go true false false e = refl
@@ -56,7 +56,7 @@ unfolding spaceOf isStatus
 status-number n = go (eqb n 0) (eqb n 2) (eqb n 6) (eqb n 7) refl refl refl
   where
     go : (a b t d : Bool) → eqb n 0 ≡ a → eqb n 2 ≡ b → eqb n 6 ≡ t
-        → isStatus (pickSpace a registers (pickSpace b eeprom (pickSpace t status (pickSpace d information absent)))) ≡ t
+        → isStatus (cond a registers (cond b eeprom (cond t status (cond d information absent)))) ≡ t
     go true b t d e f g = rw (eqb-true n 0 e) at g
     go false true t d e f g = rw (eqb-true n 2 f) at g
     go false false true d e f g = refl

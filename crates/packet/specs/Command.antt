@@ -1,7 +1,7 @@
 -- One command of a packet: what is found at it, from the packet's bytes from that command on.
 use Prim.Native.Nat.{ℕ, zero, suc, _+_, _*_}
 use mathlib.Core.List.{List, [], _∷_}
-use mathlib.Core.Bool.{Bool, true, false, not, _||_, _&&_}
+use mathlib.Core.Bool.{Bool, true, false, not, _||_, _&&_, cond}
 use lib.ListN.{length, take, drop}
 use lib.Dec.{eqb, ltb}
 use Rattle.lbp16.specs.Space.{Space, spaceOf, isAbsent, row}
@@ -10,8 +10,8 @@ use Rattle.lbp16.specs.Pointer.{pointerOf, withPointer}
 use Rattle.lbp16.specs.declared.word.Fields.{Fields}
 use Rattle.lbp16.specs.declared.pointer.Pointers.{Pointers}
 use Rattle.packet.specs.Bytes.{number}
-use Rattle.packet.specs.Step.{Kind, read, write, Step, carried, answered, isWrite, unlocked, replyBytes}
-use Rattle.packet.specs.Rules.{Rule, first, misaligned, pastEnd, barred, any, pickNumber}
+use Rattle.packet.specs.Step.{Kind, read, write, Step, carried, answered, unlocked, replyBytes}
+use Rattle.packet.specs.Rules.{Rule, first, misaligned, pastEnd, barred, any}
 use Rattle.packet.specs.declared.command.Found.{Found}
 use Rattle.packet.specs.declared.command.Progress.{Progress}
 use Rattle.packet.specs.declared.command.Command.{Command}
@@ -22,13 +22,9 @@ use Rattle.packet.specs.declared.command.Which.the-variants.{Read, Write
 abbrev pub limit : ℕ
 limit = 1472
 
-abbrev pub pickFields : Bool → Fields → Fields → Fields
-pickFields true a b = a
-pickFields false a b = b
-
 -- the fields of the word at the front; all 0 where it is cut off
 unfoldable pub fieldsAt : List ℕ → Fields
-fieldsAt rest = pickFields (ltb (length rest) 2) (fieldsOf 0) (fieldsOf (number (take 2 rest)))
+fieldsAt rest = cond (ltb (length rest) 2) (fieldsOf 0) (fieldsOf (number (take 2 rest)))
 
 abbrev pub pickKind : Bool → Kind
 pickKind true = write
@@ -39,18 +35,18 @@ kindOf f = pickKind (f .write)
 
 -- the bytes of word and address, and those of the whole command
 unfoldable pub headerBytes : Fields → ℕ
-headerBytes f = pickNumber (f .address) 4 2
+headerBytes f = cond (f .address) 4 2
 
 unfoldable pub commandBytes : Fields → ℕ
 commandBytes f = headerBytes f + f .count * carried (kindOf f) (spaceOf (f .space))
 
 -- the address used: the one given, or the pointer's
 unfoldable pub addressUsed : Pointers → Fields → List ℕ → ℕ
-addressUsed p f rest = pickNumber (f .address) (number (take 2 (drop 2 rest))) (pointerOf p (spaceOf (f .space)))
+addressUsed p f rest = cond (f .address) (number (take 2 (drop 2 rest))) (pointerOf p (spaceOf (f .space)))
 
 -- from one element to the next
 unfoldable pub stride : Fields → ℕ
-stride f = pickNumber (f .increment) (row (spaceOf (f .space)) .element) 0
+stride f = cond (f .increment) (row (spaceOf (f .space)) .element) 0
 
 -- n elements from address a on, d apart; `bytes` are those that follow the header
 unfoldable pub elements : Kind → Space → ℕ → ℕ → ℕ → List ℕ → List Step

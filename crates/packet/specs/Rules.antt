@@ -1,7 +1,7 @@
 -- Rules of the refusal table: each a number and its condition, lowest number first.
 use Prim.Native.Nat.{ℕ, _+_, _%_}
 use mathlib.Core.List.{List, [], _∷_}
-use mathlib.Core.Bool.{Bool, true, false, not, _||_, _&&_}
+use mathlib.Core.Bool.{Bool, false, not, _||_, _&&_, cond}
 use lib.Dec.{eqb, ltb}
 use Rattle.lbp16.specs.Space.{Space, row}
 use Rattle.packet.specs.Step.{Step, isWrite}
@@ -10,14 +10,10 @@ pub record Rule : Type 0 where
   pub number : ℕ
   pub holds : Bool
 
-abbrev pub pickNumber : Bool → ℕ → ℕ → ℕ
-pickNumber true a b = a
-pickNumber false a b = b
-
 -- the number of the first rule whose condition holds, 0 if none does
 unfoldable pub first : List Rule → ℕ
 first [] = 0
-first (r ∷ rs) = pickNumber (r .holds) (r .number) (first rs)
+first (r ∷ rs) = cond (r .holds) (r .number) (first rs)
 
 -- an address that is not a multiple of the element size
 unfoldable pub misaligned : Space → ℕ → Bool

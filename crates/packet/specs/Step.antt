@@ -1,7 +1,7 @@
 -- A step: one element of the store read or written. What a packet, a burst and a cue list do is a list of steps.
-use Prim.Native.Nat.{ℕ, zero, suc, _+_}
+use Prim.Native.Nat.{ℕ, _+_}
 use mathlib.Core.List.{List, [], _∷_, _++_}
-use mathlib.Core.Bool.{Bool, true, false, _&&_}
+use mathlib.Core.Bool.{Bool, true, false, _&&_, cond}
 use lib.ListN.{take, drop}
 use lib.Seq.{sets}
 use lib.Dec.{eqb}
@@ -72,12 +72,8 @@ isWrite write = true
 unfoldable pub namesUnlock : Step → Bool
 namesUnlock s = eqb (s .address) 0x1A && isStatus (s .space)
 
-abbrev pub pickBool : Bool → Bool → Bool → Bool
-pickBool true a b = a
-pickBool false a b = b
-
 unfoldable pub turned : Bool → Step → Bool
-turned open? s = pickBool (isWrite (s .kind) && namesUnlock s) (eqb (number (s .bytes)) 0x5A02) open?
+turned open? s = cond (isWrite (s .kind) && namesUnlock s) (eqb (number (s .bytes)) 0x5A02) open?
 
 -- an element written to space 6
 abbrev pub statusWrite : ℕ → List ℕ → Step

@@ -2,7 +2,6 @@
 use Prim.Native.Nat.{ℕ}
 use mathlib.Core.List.{List}
 use mathlib.Core.Bool.{false}
-use Rattle.lbp16.specs.Answer.{Answer, refusal}
 use Rattle.lbp16.specs.declared.pointer.Pointers.{Pointers}
 use Rattle.packet.specs.Step.{unlocked, replyBytes}
 use Rattle.packet.specs.Judge.{Carried, refused, accepted, judge}

@@ -6,6 +6,7 @@ use lbp16::pointer::Pointers;
 use lbp16::space;
 use lbp16::word;
 use lbp16::word::Fields;
+ghost use mathlib.Core.Bool.{cond};
 ghost use mathlib.Core.Path.{_≡_};
 ghost use Prim.Native.Nat.{_*_, _+_, _≤_, _<_};
 ghost use lib.ListN.{length, take, drop};
@@ -13,8 +14,8 @@ ghost use lib.Dec.{ltb};
 ghost use Rattle.lbp16.specs.Space.{spaceOf, row, status};
 ghost use Rattle.packet.specs.Bytes.{number};
 ghost use Rattle.packet.specs.Step.{Kind, carried, answered, statusWrite, turned, unlocked};
-ghost use Rattle.packet.specs.Rules.{first, pickNumber, any, barred};
-ghost use Rattle.packet.specs.Command.{fieldsAt, pickKind, kindOf, outOfPlace, headerBytes, commandBytes, addressUsed, stride, elements, stepsAt, refusals, whichOf, numberOf, writes, found, pointersAfter, progressAfter, commandAt, limit};
+ghost use Rattle.packet.specs.Rules.{first, any, barred};
+ghost use Rattle.packet.specs.Command.{fieldsAt, pickKind, kindOf, outOfPlace, headerBytes, commandBytes, addressUsed, stride, elements, stepsAt, refusals, whichOf, numberOf, writes, found, progressAfter, commandAt, limit};
 
 // The most bytes that a packet or its reply may have: 1,500 less 28 of IP and UDP headers.
 pub const LIMIT: usize = 1472;
@@ -110,7 +111,7 @@ pub fn stride_of(f: Fields) -> u32
 
 // The bytes from the address used to the end of the furthest element.
 fn span_of(f: Fields) -> usize
-    ensures { λ r. ⌜ (r ≡ pickNumber (f .increment) (f .count * row (spaceOf (f .space)) .element) (row (spaceOf (f .space)) .element)) × (r ≤ 1020) ⌝ }
+    ensures { λ r. ⌜ (r ≡ cond (f .increment) (f .count * row (spaceOf (f .space)) .element) (row (spaceOf (f .space)) .element)) × (r ≤ 1020) ⌝ }
 {
     if f.increment {
         element_bytes(f)

@@ -1,7 +1,6 @@
 -- What the program writes for document 01's examples and at the limit.
-use Prim.Native.Nat.{ℕ}
 use mathlib.Core.Path.{_≡_, refl}
-use mathlib.Core.List.{List, [], _∷_}
+use mathlib.Core.List.{[], _∷_}
 use mathlib.Core.Bool.{Bool, true}
 use lib.ListN.{replicate}
 use Rattle.lbp16.specs.Space

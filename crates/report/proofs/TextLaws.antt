@@ -2,13 +2,13 @@
 use Prim.Native.Nat.{ℕ, zero, suc, _+_, _-_, _*_, _/_, _%_, _^_, _≤_, _<_}
 use mathlib.Core.Path.{_≡_, refl, ap}
 use mathlib.Core.List.{List, [], _∷_, _++_}
-use mathlib.Core.Bool.{Bool, true, false}
+use mathlib.Core.Bool.{Bool, true, false, cond}
 use native.Mathlib.Omega.{arith}
 use native.Mathlib.Nat.{pow-succ'}
 use lib.ListN.{length, getD, length-append}
 use lib.Dec.{ltb}
 use borrow.Author.Tests.{ltb-true, ltb-false, lt-ltb, le-ltb}
-use Rattle.report.specs.Text.{digit, decimal, decimalFrom, pickBytes}
+use Rattle.report.specs.Text.{digit, decimal, decimalFrom}
 
 -- more fuel changes nothing
 fuel-enough : (f g n : ℕ) → n ≤ f → n ≤ g → decimalFrom f n ≡ decimalFrom g n
@@ -24,8 +24,8 @@ fuel-enough (suc f) (suc g) n h k = go (ltb n 10) refl (fuel-enough f g (n / 10)
     last = digit (n % 10) ∷ []
 
     go : (b : Bool) → ltb n 10 ≡ b → (n / 10 ≤ f → n / 10 ≤ g → decimalFrom f (n / 10) ≡ decimalFrom g (n / 10))
-        → pickBytes b (digit n ∷ []) (decimalFrom f (n / 10) ++ last)
-        ≡ pickBytes b (digit n ∷ []) (decimalFrom g (n / 10) ++ last)
+        → cond b (digit n ∷ []) (decimalFrom f (n / 10) ++ last)
+        ≡ cond b (digit n ∷ []) (decimalFrom g (n / 10) ++ last)
     go true e more = refl
     go false e more = let l = ltb-false n 10 e in ap (λ (ds : List ℕ). ds ++ last) (more (omega arith) (omega arith))
 

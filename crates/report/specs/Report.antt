@@ -1,12 +1,13 @@
 -- What the compiling program writes for the bytes that it is given.
+use mathlib.Core.Bool.{cond}
 use Prim.Native.Nat.{ℕ, _≤_}
 use mathlib.Core.Path.{_≡_}
-use mathlib.Core.List.{List, [], _∷_, _++_}
+use mathlib.Core.List.{List, _++_}
 use lib.ListN.{length, take, drop, getD, replicate}
 use lib.Dec.{ltb}
 use Rattle.lbp16.specs.Answer.{Answer}
 use Rattle.cue.specs.Compile.{Compiled, compiled}
-use Rattle.report.specs.Text.{ascii, decimal, pickBytes}
+use Rattle.report.specs.Text.{ascii, decimal}
 
 -- the most bytes that a list may have, and the bytes of the output room
 abbrev pub mostBytes : ℕ
@@ -32,7 +33,7 @@ compiledBytes c = answerBytes (c .answer) (c .room)
 -- The list is compiled into a room of zeros.
 unfoldable pub said : List ℕ → List ℕ
 said list =
-    pickBytes (ltb mostBytes (length list)) tooLongLine (compiledBytes (compiled list (replicate roomBytes 0)))
+    cond (ltb mostBytes (length list)) tooLongLine (compiledBytes (compiled list (replicate roomBytes 0)))
 
 -- The room after it: the bytes said stand at the front, n of them, and all behind is as before.
 pub record Reported (list before after : List ℕ) (n : ℕ) : Type 0 where

@@ -1,9 +1,9 @@
 -- Texts and decimal numbers in ASCII.
 use Prim.Native.Nat.{ℕ, zero, suc, _+_, _/_, _%_}
-use Prim.Native.Char.{Char, code}
+use Prim.Native.Char.{code}
 use Prim.Native.String as string
 use mathlib.Core.List.{List, [], _∷_, _++_}
-use mathlib.Core.Bool.{Bool, true, false}
+use mathlib.Core.Bool.{cond}
 use lib.Dec.{ltb}
 
 -- the codes of a text's characters
@@ -11,17 +11,13 @@ unfoldable pub ascii : string.String → List ℕ
 ascii string.[] = []
 ascii (string._∷_ c s) = code c ∷ ascii s
 
-abbrev pub pickBytes : Bool → List ℕ → List ℕ → List ℕ
-pickBytes true a b = a
-pickBytes false a b = b
-
 unfoldable pub digit : ℕ → ℕ
 digit d = 48 + d
 
 -- `fuel` bounds the digits before the last; the number itself is enough.
 unfoldable pub decimalFrom : ℕ → ℕ → List ℕ
 decimalFrom zero n = digit (n % 10) ∷ []
-decimalFrom (suc fuel) n = pickBytes (ltb n 10) (digit n ∷ []) (decimalFrom fuel (n / 10) ++ (digit (n % 10) ∷ []))
+decimalFrom (suc fuel) n = cond (ltb n 10) (digit n ∷ []) (decimalFrom fuel (n / 10) ++ (digit (n % 10) ∷ []))
 
 -- a number's decimal digits, the highest first; 0 is one digit
 unfoldable pub decimal : ℕ → List ℕ

@@ -1,13 +1,13 @@
+use mathlib.Core.Bool.{cond}
 use Rattle.card.proofs.block.move_elements.Statement.{statement}
 use Rattle.card.proofs.block.move_elements.Tie as tie
 use native.Mathlib.Omega.{arith}
 use mathlib.Core.Path.{refl}
-use Rattle.packet.specs.Rules.{pickNumber}
 use Rattle.card.proofs.BlockLaws.{Moving, moving-now, moving-next, moving-end}
 
 abbrev Inv-loop : tie.InvT-loop
 Inv-loop src from from-step dst₀ to to-step count wide n₀ i₀ j₀ dst n i j =
-    Moving count (pickNumber wide 4 2) src from from-step dst₀ to to-step dst n i j
+    Moving count (cond wide 4 2) src from from-step dst₀ to to-step dst n i j
 
 abbrev μ-loop : tie.MeasureT-loop
 μ-loop src from from-step dst₀ to to-step count wide n₀ i₀ j₀ dst n i j = n

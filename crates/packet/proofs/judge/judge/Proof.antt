@@ -9,7 +9,6 @@ use Rattle.packet.specs.Judge.{Carried}
 use Rattle.packet.specs.Verdict.{start, verdict}
 use Rattle.packet.specs.declared.command.Command.{Command}
 use Rattle.packet.proofs.LoopLaws.{At, at-begin, verdict-end, at-refused, Turn, at-step}
-use Prim.Native.Nat.{_-_}
 use lib.ListN.{length-take, length-drop}
 
 abbrev Inv-loop : tie.InvT-loop
