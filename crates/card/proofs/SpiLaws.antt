@@ -5,9 +5,8 @@ use mathlib.Core.Logic.{_⊎_, inl, inr}
 use mathlib.Core.List.{List, [], _∷_}
 use mathlib.Core.Bool.{Bool, true, false, not, _||_, _&&_, cond}
 use native.Mathlib.Omega.{arith}
-use native.Mathlib.Nat.{mul-zero}
 use lib.ListN.{length, drop, getD, replicate, length-drop, length-replicate}
-use lib.Dec.{eqb, ltb, eqb·suc-zero}
+use lib.Dec.{eqb, ltb}
 use borrow.Author.Tests.{eqb-true, eqb-false, eq-eqb, ne-eqb, ltb-false, not-false}
 use Rattle.lbp16.proofs.BoolLaws.{or-false}
 use Rattle.lbp16.proofs.WordLaws.{bit-le, bit-read, bit-written}
@@ -18,7 +17,7 @@ use Rattle.packet.specs.Step.{Kind, read, write, storeAfter, valuesRead}
 use Rattle.packet.specs.Rules.{Rule, first, any, misaligned, pastEnd}
 use Rattle.packet.specs.Command.{elements}
 use Rattle.packet.proofs.RuleLaws.{none-holds}
-use Rattle.packet.proofs.ElementLaws.{past-last}
+use Rattle.packet.proofs.ElementLaws.{past-span}
 use Rattle.packet.proofs.StoreLaws.{length-after}
 use Rattle.card.specs.declared.spi.Header.{Header}
 use Rattle.card.specs.Spi.{readCommand, writeCommand, headerOf, headerWord, otherCommand, answerOf, headerWritten}
@@ -140,22 +139,8 @@ word-first (w ∷ ws) h = refl
 pub past-quick : (h : Header) (words : List ℕ)
     → any pastEnd (burstSteps h words)
     ≡ (not (eqb (h .count) 0) && ltb 65536 (h .address + cond (h .increment) (h .count * 4) 4))
-unfolding burstSteps any elements row
-past-quick h words = go (h .count) (h .increment)
-  where
-    a : ℕ
-    a = h .address
-
-    go : (n : ℕ) (i : Bool)
-        → any pastEnd (elements (burstKind h) registers n a (cond i 4 0) (bytesOfWords (drop 1 words)))
-        ≡ (not (eqb n 0) && ltb 65536 (a + cond i (n * 4) 4))
-    go zero i = refl
-    go (suc n) true =
-        let same : a + n * 4 + 4 ≡ a + suc n * 4 = omega arith in
-        past-last _ registers n a 4 _ ∙ rw (eqb·suc-zero n) (ap (ltb 65536) same)
-    go (suc n) false =
-        let same : a + n * 0 + 4 ≡ a + 4 = rw mul-zero (omega arith) in
-        past-last _ registers n a 0 _ ∙ rw (eqb·suc-zero n) (ap (ltb 65536) same)
+unfolding burstSteps row
+past-quick h words = past-span _ registers _ _ (h .increment) _
 
 -- the header of the words sent
 abbrev pub headerIn : List ℕ → Header

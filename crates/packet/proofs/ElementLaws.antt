@@ -69,6 +69,17 @@ barred-first k s (suc n) a d bs =
     go false true w e = let z : _≡_ {A = ℕ} 0 1 = cc (e refl) in absurd (omega arith)
     go false false w e = refl
 
+-- Rules 8 and 35 without a walk: with increment or without, the furthest element against the space's end.
+pub past-span : (k : Kind) (s : Space) (n a : ℕ) (i : Bool) (bs : List ℕ)
+    → any pastEnd (elements k s n a (cond i (row s .element) 0) bs)
+    ≡ (not (eqb n 0) && ltb (row s .bytes) (a + cond i (n * row s .element) (row s .element)))
+unfolding any elements
+past-span k s zero a i bs = refl
+past-span k s (suc n) a true bs =
+    past-last k s n a _ bs ∙ rw (eqb·suc-zero n) (ap (ltb (row s .bytes)) (rw suc-mul (omega arith)))
+past-span k s (suc n) a false bs =
+    past-last k s n a 0 bs ∙ rw (eqb·suc-zero n) (ap (ltb (row s .bytes)) (rw mul-zero (omega arith)))
+
 -- Rules 8 and 9 as the code tests them.
 pub past-quick : (p : Pointers) (f : Fields) (rest : List ℕ)
     → any pastEnd (stepsAt p f rest)
@@ -76,24 +87,8 @@ pub past-quick : (p : Pointers) (f : Fields) (rest : List ℕ)
     && ltb (row (spaceOf (f .space)) .bytes)
     (addressUsed p f rest
     + cond (f .increment) (f .count * row (spaceOf (f .space)) .element) (row (spaceOf (f .space)) .element)))
-unfolding stepsAt stride any elements
-past-quick p f rest = go (f .count) (f .increment)
-  where
-    s : Space
-    s = spaceOf (f .space)
-
-    a : ℕ
-    a = addressUsed p f rest
-
-    w : ℕ
-    w = row s .element
-
-    go : (n : ℕ) (i : Bool)
-        → any pastEnd (elements (kindOf f) s n a (cond i w 0) (drop (headerBytes f) rest))
-        ≡ (not (eqb n 0) && ltb (row s .bytes) (a + cond i (n * w) w))
-    go zero i = refl
-    go (suc n) true = past-last _ s n a w _ ∙ rw (eqb·suc-zero n) (ap (ltb (row s .bytes)) (rw suc-mul (omega arith)))
-    go (suc n) false = past-last _ s n a 0 _ ∙ rw (eqb·suc-zero n) (ap (ltb (row s .bytes)) (rw mul-zero (omega arith)))
+unfolding stepsAt stride
+past-quick p f rest = past-span _ _ _ _ (f .increment) _
 
 pub barred-quick : (p : Pointers) (f : Fields) (rest : List ℕ)
     → any barred (stepsAt p f rest)
