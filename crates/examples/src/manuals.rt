@@ -1,300 +1,165 @@
 // The examples of the manuals: 001 and 002 for LBP16, 003 for SPI. Where a manual's card holds something of its own, a
 // packet or a burst of ours sets it first. NN, LLHH and DDDD are the manuals' names for count, address and data.
-use crate::show;
-use crate::text;
-use lbp16::pointer::Pointers;
+use crate::script;
 
 // "SPACE 0: HOSTMOT2 REGISTERS". The data of the GPIO write is printed a digit too long in 001, and rightly in 002.
-pub(crate) fn registers() {
-    let mut cells = [0u8; 65728];
-    let card: &mut [u8] = &mut cells;
-    let p = Pointers::fresh();
-    text::say(b"\nDocuments 001 and 002: space 0, IDROM and GPIO\n");
-    let p = show::packet(
-        b"IDROM set",
-        b"\x85\xC2\x00\x04\x01\x02\x03\x04\x05\x06\x07\x08\x09\x0A\x0B\x0C\x0D\x0E\x0F\x10\x11\x12\x13\x14",
-        card,
-        p,
+fn registers() {
+    script::play(
+        b"\
+        # Documents 001 and 002: space 0, IDROM and GPIO\n\
+        p IDROM set: 85 C2 00 04 01 02 03 04 05 06 07 08 09 0A 0B 0C 0D 0E 0F 10 11 12 13 14\n\
+        p first 5 entries of the IDROM: 85 42 00 04\n\
+        p 4 GPIO ports written: 84 C2 00 10 AA AA AA AA BB BB BB BB CC CC CC CC DD DD DD DD\n\
+        p read back: 84 42 00 10\n\
+        # Documents 001 and 002: space 0, its four commands\n\
+        p NNC2LLHH: 81 C2 00 10 11 11 11 11\n\
+        p NN82: 81 82 22 22 22 22\n\
+        p NN42LLHH: 81 42 00 10\n\
+        p NN02: 81 02\n\
+        ",
     );
-    let p = show::packet(
-        b"first 5 entries of the IDROM",
-        b"\x85\x42\x00\x04",
-        card,
-        p,
-    );
-    let p = show::packet(
-        b"4 GPIO ports written",
-        b"\x84\xC2\x00\x10\xAA\xAA\xAA\xAA\xBB\xBB\xBB\xBB\xCC\xCC\xCC\xCC\xDD\xDD\xDD\xDD",
-        card,
-        p,
-    );
-    show::packet(b"read back", b"\x84\x42\x00\x10", card, p);
-}
-
-pub(crate) fn register_commands() {
-    let mut cells = [0u8; 65728];
-    let card: &mut [u8] = &mut cells;
-    let p = Pointers::fresh();
-    text::say(b"\nDocuments 001 and 002: space 0, its four commands\n");
-    let p = show::packet(b"NNC2LLHH", b"\x81\xC2\x00\x10\x11\x11\x11\x11", card, p);
-    let p = show::packet(b"NN82", b"\x81\x82\x22\x22\x22\x22", card, p);
-    let p = show::packet(b"NN42LLHH", b"\x81\x42\x00\x10", card, p);
-    show::packet(b"NN02", b"\x81\x02", card, p);
 }
 
 // "SPACE 2: ETHERNET EEPROM CHIP ACCESS".
-pub(crate) fn eeprom_enable() {
-    let mut cells = [0u8; 65728];
-    let card: &mut [u8] = &mut cells;
-    let p = Pointers::fresh();
-    text::say(b"\nDocuments 001 and 002: space 2, EEPROMWEna\n");
-    let p = show::packet(b"EEPROMWEna alone", b"\x01\xD9\x1A\x00\x02\x5A", card, p);
-    let p = show::packet(b"cleared at the packet's end", b"\x01\x59\x1A\x00", card, p);
-    let p = show::packet(
-        b"IP address in the next packet",
-        b"\x82\xC9\x20\x00\x20\x00\xA8\xC0",
-        card,
-        p,
+fn eeprom() {
+    script::play(
+        b"\
+        # Documents 001 and 002: space 2, EEPROMWEna\n\
+        p EEPROMWEna alone: 01 D9 1A 00 02 5A\n\
+        p cleared at the packet's end: 01 59 1A 00\n\
+        p IP address in the next packet: 82 C9 20 00 20 00 A8 C0\n\
+        p EEPROMWEna for flash: 01 D9 1A 00 03 5A 82 C9 20 00 20 00 A8 C0\n\
+        # Documents 001 and 002: space 2, EEPROM IP address\n\
+        p IP address 192.168.0.32: 01 D9 1A 00 02 5A 82 C9 20 00 20 00 A8 C0\n\
+        p read back: 82 49 20 00\n\
+        p read after the write: 01 D9 1A 00 02 5A 82 C9 20 00 21 00 A8 C0 82 49 20 00\n\
+        p first 0x20 bytes read only: 01 D9 1A 00 02 5A 82 C9 1E 00 20 00 A8 C0\n\
+        # Documents 001 and 002: space 2, its four commands\n\
+        p NNC9LLHH: 01 D9 1A 00 02 5A 81 C9 24 00 FE FF\n\
+        p NN89: 01 D9 1A 00 02 5A 81 89 FF 00\n\
+        p NN49LLHH: 81 49 24 00\n\
+        p NN09: 81 09\n\
+        ",
     );
-    show::packet(
-        b"EEPROMWEna for flash",
-        b"\x01\xD9\x1A\x00\x03\x5A\x82\xC9\x20\x00\x20\x00\xA8\xC0",
-        card,
-        p,
-    );
-}
-
-pub(crate) fn eeprom_address() {
-    let mut cells = [0u8; 65728];
-    let card: &mut [u8] = &mut cells;
-    let p = Pointers::fresh();
-    text::say(b"\nDocuments 001 and 002: space 2, EEPROM IP address\n");
-    let p = show::packet(
-        b"IP address 192.168.0.32",
-        b"\x01\xD9\x1A\x00\x02\x5A\x82\xC9\x20\x00\x20\x00\xA8\xC0",
-        card,
-        p,
-    );
-    let p = show::packet(b"read back", b"\x82\x49\x20\x00", card, p);
-    let p = show::packet(
-        b"read after the write",
-        b"\x01\xD9\x1A\x00\x02\x5A\x82\xC9\x20\x00\x21\x00\xA8\xC0\x82\x49\x20\x00",
-        card,
-        p,
-    );
-    show::packet(
-        b"first 0x20 bytes read only",
-        b"\x01\xD9\x1A\x00\x02\x5A\x82\xC9\x1E\x00\x20\x00\xA8\xC0",
-        card,
-        p,
-    );
-}
-
-pub(crate) fn eeprom_commands() {
-    let mut cells = [0u8; 65728];
-    let card: &mut [u8] = &mut cells;
-    let p = Pointers::fresh();
-    text::say(b"\nDocuments 001 and 002: space 2, its four commands\n");
-    let p = show::packet(
-        b"NNC9LLHH",
-        b"\x01\xD9\x1A\x00\x02\x5A\x81\xC9\x24\x00\xFE\xFF",
-        card,
-        p,
-    );
-    let p = show::packet(
-        b"NN89",
-        b"\x01\xD9\x1A\x00\x02\x5A\x81\x89\xFF\x00",
-        card,
-        p,
-    );
-    let p = show::packet(b"NN49LLHH", b"\x81\x49\x24\x00", card, p);
-    show::packet(b"NN09", b"\x81\x09", card, p);
 }
 
 // "ELBPCOM".
-pub(crate) fn sample_cookie() {
-    let mut cells = [0u8; 65728];
-    let card: &mut [u8] = &mut cells;
-    let p = Pointers::fresh();
-    text::say(b"\nDocuments 001 and 002: sample run, cookie\n");
-    let p = show::packet(b"cookie set", b"\x01\xC2\x00\x01\xFE\xCA\xAA\x55", card, p);
-    show::packet(b"hostmot2 cookie", b"\x01\x42\x00\x01", card, p);
-}
-
-pub(crate) fn sample_address() {
-    let mut cells = [0u8; 65728];
-    let card: &mut [u8] = &mut cells;
-    let p = Pointers::fresh();
-    text::say(b"\nDocuments 001 and 002: sample run, EEPROM IP address\n");
-    let p = show::packet(
-        b"IP address 99.88.10.69 set",
-        b"\x01\xD9\x1A\x00\x02\x5A\x82\xC9\x20\x00\x45\x0A\x58\x63",
-        card,
-        p,
+fn sample_run() {
+    script::play(
+        b"\
+        # Documents 001 and 002: sample run, cookie\n\
+        p cookie set: 01 C2 00 01 FE CA AA 55\n\
+        p hostmot2 cookie: 01 42 00 01\n\
+        # Documents 001 and 002: sample run, EEPROM IP address\n\
+        p IP address 99.88.10.69 set: 01 D9 1A 00 02 5A 82 C9 20 00 45 0A 58 63\n\
+        p EEPROM IP address: 82 49 20 00\n\
+        p IP address 192.168.0.1: 01 D9 1A 00 02 5A 82 C9 20 00 01 00 A8 C0\n\
+        p read back: 82 49 20 00\n\
+        ",
     );
-    let p = show::packet(b"EEPROM IP address", b"\x82\x49\x20\x00", card, p);
-    let p = show::packet(
-        b"IP address 192.168.0.1",
-        b"\x01\xD9\x1A\x00\x02\x5A\x82\xC9\x20\x00\x01\x00\xA8\xC0",
-        card,
-        p,
+}
+
+// "SPACE 6 LBP STATUS/CONTROL AREA" and "SPACE 7: LBP READ ONLY AREA".
+fn status_and_information() {
+    script::play(
+        b"\
+        # Documents 001 and 002: space 6, its four commands\n\
+        p NND9LLHHDDDD: 81 D9 16 00 08 00\n\
+        p NN99DDDD: 81 99 34 12\n\
+        p NN59LLHH: 81 59 16 00\n\
+        p NN19: 81 19\n\
+        # Documents 001 and 002: space 7, on a card with the name 7I95T there\n\
+        i name: 37 49 39 35 54\n\
+        p NN5DLLHH: 82 5D 00 00\n\
+        p NN1D: 81 1D\n\
+        p write to space 7: 81 DD 00 00 37 49\n\
+        ",
     );
-    show::packet(b"read back", b"\x82\x49\x20\x00", card, p);
-}
-
-// "SPACE 6 LBP STATUS/CONTROL AREA".
-pub(crate) fn status_commands() {
-    let mut cells = [0u8; 65728];
-    let card: &mut [u8] = &mut cells;
-    let p = Pointers::fresh();
-    text::say(b"\nDocuments 001 and 002: space 6, its four commands\n");
-    let p = show::packet(b"NND9LLHHDDDD", b"\x81\xD9\x16\x00\x08\x00", card, p);
-    let p = show::packet(b"NN99DDDD", b"\x81\x99\x34\x12", card, p);
-    let p = show::packet(b"NN59LLHH", b"\x81\x59\x16\x00", card, p);
-    show::packet(b"NN19", b"\x81\x19", card, p);
-}
-
-// "SPACE 7: LBP READ ONLY AREA". No packet can set the card's name.
-pub(crate) fn information_commands() {
-    let mut cells = [0u8; 65728];
-    cells[65696] = b'7';
-    cells[65697] = b'I';
-    cells[65698] = b'9';
-    cells[65699] = b'5';
-    cells[65700] = b'T';
-    let card: &mut [u8] = &mut cells;
-    let p = Pointers::fresh();
-    text::say(b"\nDocuments 001 and 002: space 7, on a card with the name 7I95T there\n");
-    let p = show::packet(b"NN5DLLHH", b"\x82\x5D\x00\x00", card, p);
-    let p = show::packet(b"NN1D", b"\x81\x1D", card, p);
-    show::packet(b"write to space 7", b"\x81\xDD\x00\x00\x37\x49", card, p);
 }
 
 // "INFO_AREA ACCESS".
-pub(crate) fn info_low() {
-    let mut cells = [0u8; 65728];
-    let card: &mut [u8] = &mut cells;
-    let p = Pointers::fresh();
-    text::say(b"\nDocuments 001 and 002: info areas of spaces 0 and 2\n");
-    let p = show::packet(b"info 0, NN61LLHH", b"\x01\x61\x00\x00", card, p);
-    let p = show::packet(b"info 0, NN21", b"\x01\x21", card, p);
-    let p = show::packet(b"info 2, NN69LLHH", b"\x01\x69\x00\x00", card, p);
-    show::packet(b"info 2, NN29", b"\x01\x29", card, p);
-}
-
-pub(crate) fn info_high() {
-    let mut cells = [0u8; 65728];
-    let card: &mut [u8] = &mut cells;
-    let p = Pointers::fresh();
-    text::say(b"\nDocuments 001 and 002: info areas of spaces 6 and 7\n");
-    let p = show::packet(b"info 6, NN79LLHH", b"\x01\x79\x00\x00", card, p);
-    let p = show::packet(b"info 6, NN39", b"\x01\x39", card, p);
-    let p = show::packet(b"info 7, NN7DLLHH", b"\x01\x7D\x00\x00", card, p);
-    show::packet(b"info 7, NN3D", b"\x01\x3D", card, p);
+fn info_areas() {
+    script::play(
+        b"\
+        # Documents 001 and 002: info areas of spaces 0 and 2\n\
+        p info 0, NN61LLHH: 01 61 00 00\n\
+        p info 0, NN21: 01 21\n\
+        p info 2, NN69LLHH: 01 69 00 00\n\
+        p info 2, NN29: 01 29\n\
+        # Documents 001 and 002: info areas of spaces 6 and 7\n\
+        p info 6, NN79LLHH: 01 79 00 00\n\
+        p info 6, NN39: 01 39\n\
+        p info 7, NN7DLLHH: 01 7D 00 00\n\
+        p info 7, NN3D: 01 3D\n\
+        ",
+    );
 }
 
 // "SPACE 1: ETHERNET CHIP ACCESS" and "SPACE 4 LBP TIMER/UTILITY AREA".
-pub(crate) fn absent_spaces() {
-    let mut cells = [0u8; 65728];
-    let card: &mut [u8] = &mut cells;
-    let p = Pointers::fresh();
-    text::say(b"\nDocuments 001 and 002: spaces 1 and 4, which this card lacks\n");
-    let p = show::packet(b"CIDER register", b"\x01\x45\xC0\x00", card, p);
-    show::packet(b"NN51LLHH", b"\x01\x51\x00\x00", card, p);
+fn absent_spaces() {
+    script::play(
+        b"\
+        # Documents 001 and 002: spaces 1 and 4, which this card lacks\n\
+        p CIDER register: 01 45 C0 00\n\
+        p NN51LLHH: 01 51 00 00\n\
+        ",
+    );
 }
 
 // "SPACE 3: FPGA FLASH EEPROM CHIP ACCESS". Of the page write, whose data the manuals leave out, its first two commands.
-pub(crate) fn flash() {
-    let mut cells = [0u8; 65728];
-    let card: &mut [u8] = &mut cells;
-    let p = Pointers::fresh();
-    text::say(b"\nDocuments 001 and 002: space 3, flash, which this card lacks\n");
-    let p = show::packet(
-        b"flash read",
-        b"\x01\xCE\x00\x00\x56\x34\x12\x00\x40\x4E\x04\x00\x40\x0E\x40\x0E\x40\x0E",
-        card,
-        p,
-    );
-    let p = show::packet(
-        b"flash page write",
-        b"\x01\xD9\x1A\x00\x03\x5A\x01\xCE\x00\x00\x00\xC0\x00\x00",
-        card,
-        p,
-    );
-    show::packet(
-        b"flash sector erase",
-        b"\x01\xD9\x1A\x00\x03\x5A\x01\xCE\x00\x00\x00\x00\x01\x00\x01\xCE\x0C\x00\x00\x00\x00\x00\x01\x4E\x00\x00",
-        card,
-        p,
+fn flash() {
+    script::play(
+        b"\
+        # Documents 001 and 002: space 3, flash, which this card lacks\n\
+        p flash read: 01 CE 00 00 56 34 12 00 40 4E 04 00 40 0E 40 0E 40 0E\n\
+        p flash page write: 01 D9 1A 00 03 5A 01 CE 00 00 00 C0 00 00\n\
+        p flash sector erase: 01 D9 1A 00 03 5A 01 CE 00 00 00 00 01 00 01 CE 0C 00 00 00 00 00 01 4E 00 00\n\
+        ",
     );
 }
 
 // "DATA TRANSFER SEQUENCE" of document 003.
-pub(crate) fn burst_read() {
-    let mut cells = [0u8; 65728];
-    let card: &mut [u8] = &mut cells;
-    let p = Pointers::fresh();
-    text::say(b"\nDocument 003: example 1\n");
-    show::burst(
-        b"registers set",
-        &[0x1000B830, 0x11223344, 0x55667788, 0x99AABBCC],
-        card,
-        &mut [0; 4],
+fn bursts() {
+    script::play(
+        b"\
+        # Document 003: example 1\n\
+        b registers set: 1000B830 11223344 55667788 99AABBCC\n\
+        b example 1: 1000A830 00000000 00000000 00000000\n\
+        p the same cells: 83 42 00 10\n\
+        # Document 003: example 2\n\
+        b example 2: 600CB040 0000000A 0000000B 0000000C 0000000D\n\
+        b 600C and 6010 read back: 600CA820 00000000 00000000\n\
+        p the same cells: 82 42 0C 60\n\
+        ",
     );
-    show::burst(b"example 1", &[0x1000A830, 0, 0, 0], card, &mut [0; 4]);
-    show::packet(b"the same cells", b"\x83\x42\x00\x10", card, p);
-}
-
-pub(crate) fn burst_write() {
-    let mut cells = [0u8; 65728];
-    let card: &mut [u8] = &mut cells;
-    let p = Pointers::fresh();
-    text::say(b"\nDocument 003: example 2\n");
-    show::burst(
-        b"example 2",
-        &[0x600CB040, 0xA, 0xB, 0xC, 0xD],
-        card,
-        &mut [0; 5],
-    );
-    show::burst(
-        b"600C and 6010 read back",
-        &[0x600CA820, 0, 0],
-        card,
-        &mut [0; 3],
-    );
-    show::packet(b"the same cells", b"\x82\x42\x0C\x60", card, p);
 }
 
 // "SPI HEADER" of document 003: two commands, counts 1 to 127, and unused bits.
-pub(crate) fn headers() {
-    text::say(b"\nDocument 003: headers\n");
-    show::header(b"unused bits set", 0x1000A83F);
-    show::header(b"another command", 0x1000C830);
-    show::header(b"count 0", 0x1000A800);
+fn headers() {
+    script::play(
+        b"\
+        # Document 003: headers\n\
+        h unused bits set: 1000A83F\n\
+        h another command: 1000C830\n\
+        h count 0: 1000A800\n\
+        # Document 003: bursts refused\n\
+        b another command: 1000C830 00000000 00000000 00000000\n\
+        b count 0: 1000A800\n\
+        b a frame missing: 1000A830 00000000 00000000\n\
+        b address not a multiple of 4: 1002A810 00000000\n\
+        b two cells from the last on: FFFCA820 00000000 00000000\n\
+        ",
+    );
 }
 
-pub(crate) fn refused_bursts() {
-    let mut cells = [0u8; 65728];
-    let card: &mut [u8] = &mut cells;
-    text::say(b"\nDocument 003: bursts refused\n");
-    show::burst(
-        b"another command",
-        &[0x1000C830, 0, 0, 0],
-        card,
-        &mut [0; 4],
-    );
-    show::burst(b"count 0", &[0x1000A800], card, &mut [0; 1]);
-    show::burst(b"a frame missing", &[0x1000A830, 0, 0], card, &mut [0; 3]);
-    show::burst(
-        b"address not a multiple of 4",
-        &[0x1002A810, 0],
-        card,
-        &mut [0; 2],
-    );
-    show::burst(
-        b"two cells from the last on",
-        &[0xFFFCA820, 0, 0],
-        card,
-        &mut [0; 3],
-    );
+pub(crate) fn all() {
+    registers();
+    eeprom();
+    sample_run();
+    status_and_information();
+    info_areas();
+    absent_spaces();
+    flash();
+    bursts();
+    headers();
 }

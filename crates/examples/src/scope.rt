@@ -1,75 +1,54 @@
 // The worked examples of document 01, but for those of cue lists.
-use crate::show;
-use crate::text;
-use lbp16::pointer::Pointers;
+use crate::script;
 
-pub(crate) fn words() {
-    text::say(b"\nDocument 01: words and headers\n");
-    show::word(b"P1", 0x4285);
-    show::word(b"P2", 0xC284);
-    show::word(b"P3", 0x4501);
-    show::word(b"P4", 0x6901);
-    show::header(b"P5", 0x1000A830);
-    show::header(b"P6", 0x600CB040);
+fn words() {
+    script::play(
+        b"\
+        # Document 01: words and headers\n\
+        w P1: 85 42\n\
+        w P2: 84 C2\n\
+        w P3: 01 45\n\
+        w P4: 01 69\n\
+        h P5: 1000A830\n\
+        h P6: 600CB040\n\
+        ",
+    );
 }
 
-pub(crate) fn refused_packets() {
-    let mut cells = [0u8; 65728];
-    let card: &mut [u8] = &mut cells;
-    let p = Pointers::fresh();
-    text::say(b"\nDocument 01: packets refused\n");
-    let p = show::packet(b"P9", b"\x82\xC9\x20\x00\x20\x00\xA8\xC0", card, p);
-    let p = show::packet(b"nothing was written", b"\x82\x49\x20\x00", card, p);
-    let p = show::packet(b"P10", b"\x00\x42", card, p);
-    let p = show::packet(b"P10", b"\x00\x42\x00\x10", card, p);
-    let p = show::packet(
-        b"last cell and the next",
-        b"\x81\x42\xFC\xFF\x81\x02",
-        card,
-        p,
+fn packets() {
+    script::play(
+        b"\
+        # Document 01: packets refused\n\
+        p P9: 82 C9 20 00 20 00 A8 C0\n\
+        p nothing was written: 82 49 20 00\n\
+        p P10: 00 42\n\
+        p P10: 00 42 00 10\n\
+        p last cell and the next: 81 42 FC FF 81 02\n\
+        p two cells from the last on: 82 42 FC FF\n\
+        # Document 01: the last cell of space 0\n\
+        p last cell set: 01 C2 FC FF 78 56 34 12\n\
+        p the same word twice: 02 42 FC FF\n\
+        p the pointer stayed there: 81 02\n\
+        p it stands past the end: 81 02\n\
+        ",
     );
-    show::packet(b"two cells from the last on", b"\x82\x42\xFC\xFF", card, p);
-}
-
-pub(crate) fn last_cell() {
-    let mut cells = [0u8; 65728];
-    let card: &mut [u8] = &mut cells;
-    let p = Pointers::fresh();
-    text::say(b"\nDocument 01: the last cell of space 0\n");
-    let p = show::packet(
-        b"last cell set",
-        b"\x01\xC2\xFC\xFF\x78\x56\x34\x12",
-        card,
-        p,
-    );
-    let p = show::packet(b"the same word twice", b"\x02\x42\xFC\xFF", card, p);
-    let p = show::packet(b"the pointer stayed there", b"\x81\x02", card, p);
-    show::packet(b"it stands past the end", b"\x81\x02", card, p);
 }
 
 // The packets that 369 rising reads compile to, and one that asks for all of them.
-pub(crate) fn longest_reply() {
-    let mut cells = [0u8; 65728];
-    let card: &mut [u8] = &mut cells;
-    let p = Pointers::fresh();
-    text::say(b"\nDocument 01: the longest reply\n");
-    let p = show::packet(
-        b"cells 368 and 369 set",
-        b"\x82\xC2\xBC\x05\xEF\xBE\xAD\xDE\x0D\xF0\xAD\x8B",
-        card,
-        p,
+fn longest_reply() {
+    script::play(
+        b"\
+        # Document 01: the longest reply\n\
+        p cells 368 and 369 set: 82 C2 BC 05 EF BE AD DE 0D F0 AD 8B\n\
+        p 368 reads: FF 42 00 00 FF 42 FC 01 F2 42 F8 03\n\
+        p the 369th: 81 42 C0 05\n\
+        p 369 reads: FF 42 00 00 FF 42 FC 01 F3 42 F8 03\n\
+        ",
     );
-    let p = show::packet(
-        b"368 reads",
-        b"\xFF\x42\x00\x00\xFF\x42\xFC\x01\xF2\x42\xF8\x03",
-        card,
-        p,
-    );
-    let p = show::packet(b"the 369th", b"\x81\x42\xC0\x05", card, p);
-    show::packet(
-        b"369 reads",
-        b"\xFF\x42\x00\x00\xFF\x42\xFC\x01\xF3\x42\xF8\x03",
-        card,
-        p,
-    );
+}
+
+pub(crate) fn all() {
+    words();
+    packets();
+    longest_reply();
 }

@@ -20,6 +20,18 @@ pub(crate) fn decimal(n: u64) {
     io::print_decimal(STDOUT_FILENO, n);
 }
 
+// A name and what it is a name of.
+pub(crate) fn named(name: &[u8], what: &[u8]) {
+    say(name);
+    say(what);
+}
+
+// A number after some words.
+pub(crate) fn number(words: &[u8], n: u64) {
+    say(words);
+    decimal(n);
+}
+
 // The hexadecimal digit of the lowest four bits.
 fn digit(n: u8) -> u8
     ensures { λ r. ⌜ r ≡ glyph (n % 16) ⌝ }

@@ -1,5 +1,5 @@
-use Rattle.examples.proofs.show.within.Statement.{statement}
-use Rattle.examples.proofs.show.within.Tie as tie
+use Rattle.examples.proofs.parts.within.Statement.{statement}
+use Rattle.examples.proofs.parts.within.Tie as tie
 use native.Mathlib.Omega.{arith}
 use lib.ListN.{length-take}
 

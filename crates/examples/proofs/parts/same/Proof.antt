@@ -1,8 +1,8 @@
 use Prim.Native.Nat.{_≤_, _-_}
 use borrow.Author.Needs.{needs}
 use lib.ListN.{length}
-use Rattle.examples.proofs.cues.same.Statement.{statement}
-use Rattle.examples.proofs.cues.same.Tie as tie
+use Rattle.examples.proofs.parts.same.Statement.{statement}
+use Rattle.examples.proofs.parts.same.Tie as tie
 
 abbrev Inv-loop : tie.InvT-loop
 Inv-loop a b i₀ i = i ≤ length a

@@ -2,8 +2,8 @@ use Prim.Native.Nat.{_≤_}
 use native.Mathlib.Omega.{arith}
 use borrow.Author.Needs.{needs}
 use lib.ListN.{length, length-take, length-drop}
-use Rattle.examples.proofs.cues.lengths.Statement.{statement}
-use Rattle.examples.proofs.cues.lengths.Tie as tie
+use Rattle.examples.proofs.list.lengths.Statement.{statement}
+use Rattle.examples.proofs.list.lengths.Tie as tie
 
 abbrev Inv-loop : tie.InvT-loop
 Inv-loop out rest₀ t5 rest = length rest ≤ length out
@@ -23,17 +23,14 @@ loop-holds c = search needs
 frame-bytes-requires : tie.Need-frame-bytes-requires Inv-loop μ-loop
 frame-bytes-requires c κs = search needs
 
-slice-aggregate-say-2 : tie.Need-slice-aggregate-say-2 Inv-loop μ-loop
-slice-aggregate-say-2 c = search needs
+slice-aggregate-number : tie.Need-slice-aggregate-number Inv-loop μ-loop
+slice-aggregate-number c = search needs
 
-say-requires-2 : tie.Need-say-requires-2 Inv-loop μ-loop
-say-requires-2 c κs = search needs
+sub-number : tie.Need-sub-number Inv-loop μ-loop
+sub-number c = search needs
 
-sub-decimal : tie.Need-sub-decimal Inv-loop μ-loop
-sub-decimal c = search needs
-
-decimal-requires : tie.Need-decimal-requires Inv-loop μ-loop
-decimal-requires c κs = search needs
+number-requires : tie.Need-number-requires Inv-loop μ-loop
+number-requires c κs = search needs
 
 sub-rest : tie.Need-sub-rest Inv-loop μ-loop
 sub-rest c = search needs
@@ -63,10 +60,9 @@ lengths-spec =
     say-requires
     loop-holds
     frame-bytes-requires
-    slice-aggregate-say-2
-    say-requires-2
-    sub-decimal
-    decimal-requires
+    slice-aggregate-number
+    sub-number
+    number-requires
     sub-rest
     part-rest-start
     part-rest-end

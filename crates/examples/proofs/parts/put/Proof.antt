@@ -3,8 +3,8 @@ use mathlib.Core.Path.{_≡_}
 use native.Mathlib.Omega.{arith}
 use borrow.Author.Needs.{needs}
 use lib.ListN.{length, length-set}
-use Rattle.examples.proofs.cues.put.Statement.{statement}
-use Rattle.examples.proofs.cues.put.Tie as tie
+use Rattle.examples.proofs.parts.put.Statement.{statement}
+use Rattle.examples.proofs.parts.put.Tie as tie
 
 abbrev Inv-loop : tie.InvT-loop
 Inv-loop room₀ place s at₀ i₀ room at i = (i ≤ length s) × (length room ≡ length room₀)
