@@ -71,20 +71,21 @@ uint32_t head_run(const uint8_t *packet, size_t packet_length,
 
 /* Runs one SPI burst on space 0 of the store. The whole burst is checked before anything is done.
  *
- *   words   the words sent: a header, then as many words as it counts; a read ignores what these hold
+ *   words   the words sent: a header, then at most as many words as it counts; a read ignores what these hold
  *   store   65,728 bytes
  *   answer  room for as many words as were sent
  *   value   takes 0: every refusal here stands at place 0
  *
  * A header, high bit first: 16 bits of address, 4 of command (0xA read, 0xB write), 1 increment, 7 of count, 4 unused.
- * Accepted: returns 0. The first word of the answer is 0; the others are the cells on a read, 0 on a write.
+ * Accepted: returns 0. As many elements are done as words follow the header, none if it stands alone. The first word of
+ * the answer is 0; the others are the cells on a read, 0 on a write.
  *
  *    1  store not 65,728 bytes, or answer_length differs from words_length
  *   31  no word
  *   32  command neither 0xA nor 0xB
  *   33  count 0
- *   34  number of words is not 1 plus the count
- *   35  address not a multiple of 4, or a cell past the end of space 0
+ *   34  more words than 1 plus the count
+ *   35  address not a multiple of 4, or a cell that the header counts past the end of space 0, whether its word came or not
  */
 uint32_t head_spi(const uint32_t *words, size_t words_length,
                   uint8_t *store, size_t store_length,

@@ -9,7 +9,7 @@ use native.Mathlib.Nat.{zero-add}
 use native.Mathlib.Numerals.{add-one}
 use lib.ListN.{length, take, drop, getD, set, replicate, length-set, replicate-append-replicate, drop-of-length-le}
 use lib.Seq.{sets, drop-cons, take-suc-set, take-all, take-at, drop-at, length-sets}
-use Rattle.lbp16.specs.Space.{registers, row, storeBytes}
+use Rattle.lbp16.specs.Space.{Space, registers, row, storeBytes}
 use Rattle.packet.specs.Bytes.{number, bytesOf}
 use Rattle.packet.specs.Step.{Kind, read, write, at, carried, answered, stored, after, seen, storeAfter, valuesRead}
 use Rattle.packet.specs.Rules.{any, pastEnd}
@@ -21,10 +21,21 @@ use Rattle.card.specs.Cells.{Cells, cells, filled}
 use Rattle.card.proofs.ElementLaws.{length-part}
 use Rattle.card.proofs.StepBlockLaws.{within-store}
 
+pub length-elements : (k : Kind) (s : Space) (n a d : ℕ) (bs : List ℕ) → length (elements k s n a d bs) ≡ n
+unfolding elements
+length-elements k s zero a d bs = refl
+length-elements k s (suc n) a d bs = ap suc (length-elements k s n (a + d) d _)
+
 -- The cells are the burst's steps.
 pub steps-within : (k : Kind) (n a d : ℕ) (bs : List ℕ) → any pastEnd (elements k registers n a d bs) ≡ false → Cells n a d
 unfolding row
 steps-within k n a d bs e = rw zero-add at (within-store k registers n a d 65536 bs e (omega arith))
+
+-- and so do fewer of them
+pub cells-fewer : (n m a d : ℕ) → n ≤ m → Cells m a d → Cells n a d
+cells-fewer zero m a d h w = tt
+cells-fewer (suc n) zero a d h w = absurd (omega arith)
+cells-fewer (suc n) (suc m) a d h w = (w .0, cells-fewer n m (a + d) d (omega arith) (w .1))
 
 pub reads-cells : (n a d : ℕ) (bs store : List ℕ) → length store ≡ storeBytes → Cells n a d
     → wordsOfBytes n (valuesRead (elements read registers n a d bs) store) ≡ cells n a d store

@@ -8,3 +8,5 @@ pub mod PerformLaws
 pub mod AnswerLaws
 pub mod CellLaws
 pub mod SpiLaws
+pub mod ShortBurstLaws
+pub mod Examples

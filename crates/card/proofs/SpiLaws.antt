@@ -1,13 +1,13 @@
 -- Laws of SPI headers and bursts.
 use Prim.Native.Nat.{ℕ, zero, suc, _+_, _-_, _*_, _/_, _%_, _≤_, _<_}
-use mathlib.Core.Path.{_≡_, refl, ap, _∙_}
+use mathlib.Core.Path.{_≡_, refl, ap, sym, _∙_}
 use mathlib.Core.Logic.{_⊎_, inl, inr}
 use mathlib.Core.List.{List, [], _∷_}
 use mathlib.Core.Bool.{Bool, true, false, not, _||_, _&&_, cond}
 use native.Mathlib.Omega.{arith}
 use lib.ListN.{length, drop, getD, replicate, length-drop, length-replicate}
 use lib.Dec.{eqb, ltb}
-use borrow.Author.Tests.{eqb-true, eqb-false, eq-eqb, ne-eqb, ltb-false, not-false}
+use borrow.Author.Tests.{eqb-true, eqb-false, eq-eqb, ne-eqb, ltb-false, le-ltb, not-false}
 use Rattle.lbp16.proofs.BoolLaws.{or-false}
 use Rattle.lbp16.proofs.WordLaws.{bit-le, bit-read, bit-written}
 use Rattle.lbp16.specs.Answer.{Answer}
@@ -16,18 +16,18 @@ use Rattle.lbp16.specs.Word.{bit}
 use Rattle.packet.specs.Step.{Kind, read, write, storeAfter, valuesRead}
 use Rattle.packet.specs.Rules.{Rule, first, any, misaligned, pastEnd}
 use Rattle.packet.specs.Command.{elements}
-use Rattle.packet.proofs.RuleLaws.{none-holds}
+use Rattle.packet.proofs.RuleLaws.{none-holds, first-of-none}
 use Rattle.packet.proofs.ElementLaws.{past-span}
 use Rattle.packet.proofs.StoreLaws.{length-after}
 use Rattle.card.specs.declared.spi.Header.{Header}
 use Rattle.card.specs.Spi.{readCommand, writeCommand, headerOf, headerWord, otherCommand, answerOf, headerWritten}
-use Rattle.card.specs.Spi.{firstWord, bytesOfWords, wordsOfBytes, burstKind, burstSteps, burstRefusals, burstWords}
+use Rattle.card.specs.Spi.{firstWord, bytesOfWords, wordsOfBytes, burstKind, burstSteps, came, burstRefusals, burstWords}
 use Rattle.card.specs.Spi.{burstOutcome, runBurst}
 use Rattle.card.specs.Cells.{Cells, cells, filled}
-use Rattle.card.proofs.CellLaws.{steps-within, reads-cells, writes-fill, filled-outside}
+use Rattle.card.proofs.CellLaws.{length-elements, steps-within, cells-fewer, reads-cells, writes-fill, filled-outside}
 use Rattle.card.proofs.StepBlockLaws.{reads-keep}
 
--- Headers and words are inverse both ways.
+-- A header in range comes back from its word. The other way holds but for the four unused bits.
 
 pub record InRange (h : Header) : Type 0 where
   pub address : h .address < 65536
@@ -51,7 +51,7 @@ header-of-word h r =
       count = count i;
     }
 
--- The four unused bits of a word are written as 0.
+-- They are written as 0.
 pub word-of-header : (w : ℕ) → headerWord (headerOf w) ≡ w / 16 * 16
 unfolding headerWord headerOf
 word-of-header w = rw (bit-written (w / 2048 % 2) (omega arith)) (omega arith)
@@ -72,6 +72,11 @@ known-command h e = go (eqb (h .command) readCommand) (eqb (h .command) writeCom
     go true b p q e = inl (eqb-true _ _ p)
     go false true p q e = inr (eqb-true _ _ q)
     go false false p q e = let z : _≡_ {A = ℕ} 0 1 = cc in absurd (omega arith)
+
+command-known : (h : Header) → (h .command ≡ readCommand) ⊎ (h .command ≡ writeCommand) → otherCommand h ≡ false
+unfolding otherCommand
+command-known h (inl e) = rw e
+command-known h (inr e) = rw e
 
 -- A header is written exactly as its fields are allowed to be.
 pub record Writable (h : Header) : Type 0 where
@@ -136,11 +141,10 @@ word-first [] h = absurd (h refl)
 word-first (w ∷ ws) h = refl
 
 -- Rule 35 as the code tests it.
-pub past-quick : (h : Header) (words : List ℕ)
-    → any pastEnd (burstSteps h words)
-    ≡ (not (eqb (h .count) 0) && ltb 65536 (h .address + cond (h .increment) (h .count * 4) 4))
+pub past-quick : (h : Header) (n : ℕ) (words : List ℕ)
+    → any pastEnd (burstSteps h n words) ≡ (not (eqb n 0) && ltb 65536 (h .address + cond (h .increment) (n * 4) 4))
 unfolding burstSteps row
-past-quick h words = past-span _ registers _ _ (h .increment) _
+past-quick h n words = past-span _ registers n _ (h .increment) _
 
 -- the header of the words sent
 abbrev pub headerIn : List ℕ → Header
@@ -152,9 +156,10 @@ pub record Sound (words store room : List ℕ) : Type 0 where
   pub fits : length room ≡ length words
   pub command : (headerIn words .command ≡ readCommand) ⊎ (headerIn words .command ≡ writeCommand)
   pub some : 1 ≤ headerIn words .count
-  pub sent : length words ≡ 1 + headerIn words .count
+  pub headed : 1 ≤ length words
+  pub sent : came words ≤ headerIn words .count
   pub aligned : misaligned registers (headerIn words .address) ≡ false
-  pub inside : any pastEnd (burstSteps (headerIn words) words) ≡ false
+  pub inside : any pastEnd (burstSteps (headerIn words) (headerIn words .count) words) ≡ false
 
 module _ (words store room : List ℕ) where
   pub sound : first (burstRefusals words store room) ≡ 0 → Sound words store room
@@ -169,10 +174,35 @@ module _ (words store room : List ℕ) where
         fits = eqb-true _ _ (not-false _ fits);
         command = known-command (headerIn words) other;
         some = let n = eqb-false (headerIn words .count) 0 none in omega arith;
-        sent = eqb-true _ _ (not-false _ sent);
+        headed = let n = eqb-false (length words) 0 empty in omega arith;
+        sent = let n = ltb-false (1 + headerIn words .count) (length words) sent in omega arith;
         aligned = aligned;
         inside = inside;
       }
+
+  -- and one that is so is not refused
+  pub sound-passes : Sound words store room → first (burstRefusals words store room) ≡ 0
+  unfolding burstRefusals
+  sound-passes s =
+      first-of-none (burstRefusals words store room) (
+        rw (eq-eqb _ _ (s .whole), eq-eqb _ _ (s .fits)),
+        (
+          ne-eqb (length words) 0 (omega (arith, s .headed)),
+          (
+            command-known (headerIn words) (s .command),
+            (
+              ne-eqb (headerIn words .count) 0 (omega (arith, s .some)),
+              (le-ltb (1 + headerIn words .count) (length words) (omega (arith, s .sent)), (rw (s .aligned, s .inside), tt)),
+            ),
+          ),
+        ),
+      )
+
+  -- All promised elements are within the space, so those that came are.
+  pub sound-cells : Sound words store room
+      → Cells (came words) (headerIn words .address) (cond (headerIn words .increment) 4 0)
+  unfolding burstSteps
+  sound-cells s = cells-fewer _ _ _ _ (s .sent) (steps-within _ _ _ _ _ (s .inside))
 
 -- A burst that is not refused, with its header and the way from cell to cell.
 pub record Ready (words store room : List ℕ) (h : Header) (stride : ℕ) : Type 0 where
@@ -184,17 +214,11 @@ module _ (words store room : List ℕ) (h : Header) (stride : ℕ) (ready : Read
   ready-sound : Sound words store room
   ready-sound = sound words store room (ready .passed)
 
-  ready-count : length words ≡ suc (h .count)
-  ready-count = rw (ready .header) (omega (arith, ready-sound .sent))
-
   pub ready-lengths : (length store ≡ storeBytes) × (1 ≤ length words) × (length room ≡ length words)
-  ready-lengths = (ready-sound .whole, omega (arith, ready-count), ready-sound .fits)
+  ready-lengths = (ready-sound .whole, ready-sound .headed, ready-sound .fits)
 
-  pub ready-within : Cells (length words - 1) (h .address) stride
-  unfolding burstSteps
-  ready-within =
-      let n : length words - 1 ≡ h .count = omega (arith, ready-count) in
-      rw (n, ready .apart, ready .header) (steps-within _ _ _ _ _ (ready-sound .inside))
+  pub ready-within : Cells (came words) (h .address) stride
+  ready-within = rw (ready .apart, ready .header) (sound-cells words store room ready-sound)
 
   -- What it leaves, cell by cell.
   pub burst-reads : (h .command ≡ writeCommand → ⊥) → (after : List ℕ)
@@ -202,19 +226,16 @@ module _ (words store room : List ℕ) (h : Header) (stride : ℕ) (ready : Read
       → runBurst words store room ≡ record { answer = Answer.accepted []; store = store; room = after }
   unfolding runBurst burstOutcome burstWords burstKind burstSteps
   burst-reads k after e =
-      let n : length room - 1 ≡ h .count = omega (arith, ready-count, ready-sound .fits) in
-      let m : length words - 1 ≡ h .count = omega (arith, ready-count) in
-      let w : Cells (h .count) (h .address) stride = rw m at ready-within in
-      let c = reads-cells (h .count) (h .address) stride (bytesOfWords (drop 1 words)) store (ready-sound .whole) w in
-      rw (ready .passed, ← ready .header, ne-eqb _ _ k, ← ready .apart, reads-keep, c, e, n)
+      let c = reads-cells (came words) (h .address) stride (bytesOfWords (drop 1 words)) store (ready-sound .whole) ready-within in
+      rw (ready .passed, ← ready .header, ne-eqb _ _ k, ← ready .apart, reads-keep, c, e, ready-sound .fits)
 
   pub burst-writes : h .command ≡ writeCommand → (after room' : List ℕ)
       → after ≡ filled (drop 1 words) (h .address) stride store → room' ≡ replicate (length room) 0
       → runBurst words store room ≡ record { answer = Answer.accepted []; store = after; room = room' }
   unfolding runBurst burstOutcome burstWords burstKind burstSteps
   burst-writes k after room' e f =
-      let n : h .count ≡ length (drop 1 words) = rw length-drop (omega (arith, ready-count)) in
-      let m : length room ≡ suc (length (drop 1 words)) = omega (arith, ready-count, ready-sound .fits) in
+      let n : came words ≡ length (drop 1 words) = sym (length-drop 1 words) in
+      let m : length room ≡ suc (length (drop 1 words)) = rw (← n) (omega (arith, ready-sound .headed, ready-sound .fits)) in
       rw (ready .passed, ← ready .header, eq-eqb _ _ k, ← ready .apart, n, writes-fill, e, f, m)
 
 pub burst-refused : (words store room : List ℕ) (n : ℕ) → n ≡ first (burstRefusals words store room) → (n ≡ 0 → ⊥)
@@ -240,13 +261,13 @@ refused-number (suc k) words store room n place e = (cc, omega arith, cc)
 
 store-length : (k : ℕ) (words store room : List ℕ) → length (burstOutcome k words store room .store) ≡ length store
 unfolding burstOutcome
-store-length zero words store room = length-after (burstSteps (headerIn words) words) store
+store-length zero words store room = length-after (burstSteps (headerIn words) (came words) words) store
 store-length (suc k) words store room = refl
 
 store-outside : (k : ℕ) (words store room : List ℕ) → (k ≡ 0 → Sound words store room) → (i : ℕ) → 65536 ≤ i
     → getD (burstOutcome k words store room .store) i 0 ≡ getD store i 0
 unfolding burstOutcome burstSteps
-store-outside zero words store room s i h = go (burstKind (headerIn words)) (s refl .inside)
+store-outside zero words store room s i h = go (burstKind (headerIn words))
   where
     a : ℕ
     a = headerIn words .address
@@ -254,14 +275,12 @@ store-outside zero words store room s i h = go (burstKind (headerIn words)) (s r
     d : ℕ
     d = cond (headerIn words .increment) 4 0
 
-    n : headerIn words .count ≡ length (drop 1 words)
-    n = rw length-drop (omega (arith, s refl .sent))
+    n : came words ≡ length (drop 1 words)
+    n = sym (length-drop 1 words)
 
-    go : (k : Kind) → any pastEnd (elements k registers (headerIn words .count) a d (bytesOfWords (drop 1 words))) ≡ false
-        → getD (storeAfter (elements k registers (headerIn words .count) a d (bytesOfWords (drop 1 words))) store) i 0
-        ≡ getD store i 0
-    go read e = rw reads-keep
-    go write e = rw (n, writes-fill) (filled-outside (drop 1 words) a d store i (rw n at (steps-within _ _ _ _ _ e)) h)
+    go : (k : Kind) → getD (storeAfter (elements k registers (came words) a d (bytesOfWords (drop 1 words))) store) i 0 ≡ getD store i 0
+    go read = rw reads-keep
+    go write = rw (n, writes-fill) (filled-outside (drop 1 words) a d store i (rw n at (sound-cells words store room (s refl))) h)
 store-outside (suc k) words store room s i h = refl
 
 length-words-of-bytes : (n : ℕ) (bs : List ℕ) → length (wordsOfBytes n bs) ≡ n
@@ -274,14 +293,35 @@ unfolding burstWords
 length-burst-words read n values = ap suc (length-words-of-bytes n values)
 length-burst-words write n values = ap suc (length-replicate n 0)
 
-room-length : (k : ℕ) (words store room : List ℕ) → (k ≡ 0 → length words ≡ 1 + headerIn words .count)
+room-length : (k : ℕ) (words store room : List ℕ) → (k ≡ 0 → Sound words store room)
     → burstOutcome k words store room .answer ≡ Answer.accepted []
     → length (burstOutcome k words store room .room) ≡ length words
 unfolding burstOutcome
 room-length zero words store room s e =
-    length-burst-words (burstKind (headerIn words)) (headerIn words .count) (valuesRead (burstSteps (headerIn words) words) store)
-    ∙ omega (arith, s refl)
+    length-burst-words (burstKind (headerIn words)) (came words) (valuesRead (burstSteps (headerIn words) (came words) words) store)
+    ∙ omega (arith, s refl .headed)
 room-length (suc k) words store room s e = let z : _≡_ {A = ℕ} 0 1 = cc in absurd (omega arith)
+
+-- the answer's words, by kind
+zeros-or-cells : (k : ℕ) (words store room : List ℕ) → (k ≡ 0 → Sound words store room)
+    → burstOutcome k words store room .answer ≡ Answer.accepted []
+    → (burstOutcome k words store room .room ≡ 0 ∷ drop 1 (burstOutcome k words store room .room))
+    × (headerIn words .command ≡ writeCommand → burstOutcome k words store room .room ≡ replicate (length words) 0)
+unfolding burstOutcome burstWords burstKind
+zeros-or-cells zero words store room s e =
+    (first-zero (burstKind (headerIn words)), λ w. let n : suc (came words) ≡ length words = omega (arith, s refl .headed) in rw (eq-eqb _ _ w) (ap (λ (m : ℕ). replicate m 0) n))
+  where
+    first-zero : (k : Kind) → burstWords k (came words) (valuesRead (burstSteps (headerIn words) (came words) words) store)
+        ≡ 0 ∷ drop 1 (burstWords k (came words) (valuesRead (burstSteps (headerIn words) (came words) words) store))
+    first-zero read = refl
+    first-zero write = refl
+zeros-or-cells (suc k) words store room s e = let z : _≡_ {A = ℕ} 0 1 = cc in absurd (omega arith)
+
+-- A burst is accepted exactly when no rule holds.
+accepted-passed : (k : ℕ) (words store room : List ℕ) → burstOutcome k words store room .answer ≡ Answer.accepted [] → k ≡ 0
+unfolding burstOutcome
+accepted-passed zero words store room e = refl
+accepted-passed (suc k) words store room e = let z : _≡_ {A = ℕ} 0 1 = cc in absurd (omega arith)
 
 -- P holds of each rule's number
 abbrev AllNumbers : (ℕ → Type 0) → List Rule → Type 0
@@ -333,7 +373,7 @@ module _ (words store room : List ℕ) where
       → length (runBurst words store room .room) ≡ length words
   unfolding runBurst
   burst-answer-length =
-      room-length (first (burstRefusals words store room)) words store room (λ e. sound words store room e .sent)
+      room-length (first (burstRefusals words store room)) words store room (sound words store room)
 
   -- The store keeps its length.
   pub burst-store-length : length (runBurst words store room .store) ≡ length store
@@ -344,3 +384,20 @@ module _ (words store room : List ℕ) where
   pub burst-outside : (i : ℕ) → 65536 ≤ i → getD (runBurst words store room .store) i 0 ≡ getD store i 0
   unfolding runBurst
   burst-outside = store-outside (first (burstRefusals words store room)) words store room (sound words store room)
+
+  pub accepted-sound : runBurst words store room .answer ≡ Answer.accepted [] → Sound words store room
+  unfolding runBurst
+  accepted-sound e = sound words store room (accepted-passed (first (burstRefusals words store room)) words store room e)
+
+  -- The answer's first word is 0, and on a write all are.
+  pub burst-answer : runBurst words store room .answer ≡ Answer.accepted []
+      → (runBurst words store room .room ≡ 0 ∷ drop 1 (runBurst words store room .room))
+      × (headerIn words .command ≡ writeCommand → runBurst words store room .room ≡ replicate (length words) 0)
+  unfolding runBurst
+  burst-answer = zeros-or-cells (first (burstRefusals words store room)) words store room (sound words store room)
+
+  -- An accepted burst does at most 127 elements.
+  pub burst-at-most : runBurst words store room .answer ≡ Answer.accepted []
+      → length (burstSteps (headerIn words) (came words) words) ≤ 127
+  unfolding burstSteps headerOf
+  burst-at-most e = rw length-elements (omega (arith, accepted-sound e .sent))

@@ -1,6 +1,6 @@
 -- One SPI burst on space 0 of the store. A header, high bit first: 16 bits of address, 4 of command, increment, 7 of
 -- count, 4 unused.
-use Prim.Native.Nat.{ℕ, zero, suc, _+_, _*_, _/_, _%_}
+use Prim.Native.Nat.{ℕ, zero, suc, _+_, _-_, _*_, _/_, _%_}
 use mathlib.Core.List.{List, [], _∷_, _++_}
 use mathlib.Core.Bool.{Bool, not, _||_, _&&_, cond}
 use lib.ListN.{length, take, drop, replicate}
@@ -75,11 +75,16 @@ wordsOfBytes (suc n) bs = number (take 4 bs) ∷ wordsOfBytes n (drop 4 bs)
 unfoldable pub burstKind : Header → Kind
 burstKind h = pickKind (eqb (h .command) writeCommand)
 
--- all promised elements
-unfoldable pub burstSteps : Header → List ℕ → List Step
-burstSteps h words =
-    elements (burstKind h) registers (h .count) (h .address) (cond (h .increment) 4 0) (bytesOfWords (drop 1 words))
+-- n elements from the header's address on; a write's are the words after the header
+unfoldable pub burstSteps : Header → ℕ → List ℕ → List Step
+burstSteps h n words =
+    elements (burstKind h) registers n (h .address) (cond (h .increment) 4 0) (bytesOfWords (drop 1 words))
 
+-- how many elements came: the header promises its count, and fewer words may follow it
+abbrev pub came : List ℕ → ℕ
+came words = length words - 1
+
+-- 35 looks at all promised elements
 unfoldable pub burstRefusals : List ℕ → List ℕ → List ℕ → List Rule
 burstRefusals words store room =
     let h = headerOf (firstWord words) in
@@ -87,8 +92,8 @@ burstRefusals words store room =
     ∷ record { number = 31; holds = eqb (length words) 0 }
     ∷ record { number = 32; holds = otherCommand h }
     ∷ record { number = 33; holds = eqb (h .count) 0 }
-    ∷ record { number = 34; holds = not (eqb (length words) (1 + h .count)) }
-    ∷ record { number = 35; holds = misaligned registers (h .address) || any pastEnd (burstSteps h words) }
+    ∷ record { number = 34; holds = ltb (1 + h .count) (length words) }
+    ∷ record { number = 35; holds = misaligned registers (h .address) || any pastEnd (burstSteps h (h .count) words) }
     ∷ []
 
 pub record Burst : Type 0 where
@@ -96,19 +101,20 @@ pub record Burst : Type 0 where
   pub store : List ℕ
   pub room : List ℕ
 
--- the answer's words: first 0; then on a read the cells, on a write 0
+-- the answer's words, one for each sent: first 0; then on a read the cells, on a write 0
 unfoldable pub burstWords : Kind → ℕ → List ℕ → List ℕ
 burstWords read n values = 0 ∷ wordsOfBytes n values
 burstWords write n values = 0 ∷ replicate n 0
 
+-- An accepted burst does the elements that came.
 unfoldable pub burstOutcome : ℕ → List ℕ → List ℕ → List ℕ → Burst
 burstOutcome zero words store room =
     let h = headerOf (firstWord words) in
-    let steps = burstSteps h words in
+    let steps = burstSteps h (came words) words in
     record {
       answer = Answer.accepted [];
       store = storeAfter steps store;
-      room = burstWords (burstKind h) (h .count) (valuesRead steps store);
+      room = burstWords (burstKind h) (came words) (valuesRead steps store);
     }
 burstOutcome (suc n) words store room = record { answer = Answer.refused (suc n) 0; store = store; room = room }
 

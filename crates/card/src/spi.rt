@@ -19,7 +19,6 @@ const READ: u8 = 0xA;
 
 const WRITE: u8 = 0xB;
 
-// The bytes of the whole store.
 // The fields of a header word, high bits first; the four lowest bits are unused.
 pub struct Header {
     pub address: u16,
@@ -98,9 +97,9 @@ fn span_of(h: Header) -> u32
     if h.increment { h.count as u32 * 4 } else { 4 }
 }
 
-// Refusal 35. Cells rise from the address, so the last is the furthest.
+// Refusal 35, of all promised cells. They rise from the address, so the last is the furthest.
 fn out_of_place(h: Header) -> bool
-    ensures { λ r. ⌜ ((words : List ℕ) → r ≡ (misaligned registers (h .address) || any pastEnd (burstSteps h words))) ⌝ }
+    ensures { λ r. ⌜ ((words : List ℕ) → r ≡ (misaligned registers (h .address) || any pastEnd (burstSteps h (h .count) words))) ⌝ }
 {
     let address = h.address as u32;
     (address % 4 != 0) | ((h.count != 0) & (Pointer::REGISTERS < address + span_of(h)))
@@ -114,7 +113,7 @@ fn refusal_of(words: &[u32], store: &[u8], answer: &[u32]) -> u32
     let sent = words.len();
     let promised = 1 + h.count as usize;
     let r = rule::first_of(out_of_place(h), 35, 0);
-    let r = rule::first_of(sent != promised, 34, r);
+    let r = rule::first_of(promised < sent, 34, r);
     let r = rule::first_of(h.count == 0, 33, r);
     let r = rule::first_of(other_command(h), 32, r);
     let r = rule::first_of(sent == 0, 31, r);
@@ -154,7 +153,7 @@ fn write_cells(words: &[u32], store: &mut [u8], from: usize, stride: usize, answ
     }
 }
 
-// The whole burst is checked before anything is done.
+// The whole burst is checked before anything is done. Where fewer words came than promised, those are done.
 pub fn burst(words: &[u32], store: &mut [u8], answer: &mut [u32]) -> BurstAnswer
     ensures { λ r. ⌜ burstListed r ≡ runBurst (now (words .entry)) (now (store .entry)) (now (answer .entry)) .answer ⌝ }
     ensures { λ r. ⌜ now (store .exit) ≡ runBurst (now (words .entry)) (now (store .entry)) (now (answer .entry)) .store ⌝ }

@@ -125,6 +125,8 @@ fn bursts() {
         # Document 003: example 1\n\
         b registers set: 1000B830 11223344 55667788 99AABBCC\n\
         b example 1: 1000A830 00000000 00000000 00000000\n\
+        b a frame missing: 1000A830 00000000 00000000\n\
+        b the header alone: 1000A830\n\
         p the same cells: 83 42 00 10\n\
         # Document 003: example 2\n\
         b example 2: 600CB040 0000000A 0000000B 0000000C 0000000D\n\
@@ -145,9 +147,11 @@ fn headers() {
         # Document 003: bursts refused\n\
         b another command: 1000C830 00000000 00000000 00000000\n\
         b count 0: 1000A800\n\
-        b a frame missing: 1000A830 00000000 00000000\n\
+        b a frame too many: 1000A830 00000000 00000000 00000000 00000000\n\
         b address not a multiple of 4: 1002A810 00000000\n\
         b two cells from the last on: FFFCA820 00000000 00000000\n\
+        b one of two came: FFFCB820 00000001\n\
+        b the last cell unwritten: FFFCA810 00000000\n\
         ",
     );
 }

@@ -91,7 +91,7 @@ unfolding addressUsed
 address-given p f w a rest e h =
     rw (e, drop-at (bytesOf 2 w) _ 2 (length-bytes 2 w), take-at (bytesOf 2 a) _ 2 (length-bytes 2 a), number-of-bytes 2 a h)
 
-reply-of-elements : (k : Kind) (s : Space) (n a d : ℕ) (bytes : List ℕ)
+pub reply-of-elements : (k : Kind) (s : Space) (n a d : ℕ) (bytes : List ℕ)
     → replyBytes (elements k s n a d bytes) ≡ n * answered k s
 unfolding replyBytes elements
 reply-of-elements k s zero a d bytes = rw zero-mul
