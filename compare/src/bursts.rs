@@ -12,13 +12,18 @@ use model::HIGHEST_COUNT;
 const ENDINGS: [u32; 7] = [0, 1, 31, 32, 33, 34, 35];
 const MOST_WORDS: usize = 300;
 
-const SITUATIONS: [&str; 6] = [
+const SITUATIONS: [&str; 11] = [
     READ_127,
     WRITE_127,
     READ_STILL,
     WRITE_STILL,
     LAST_REGISTER,
     ONE_TOO_MANY,
+    SHORT_READ,
+    SHORT_WRITE,
+    HEADER_ALONE,
+    SHORT_PAST_THE_END,
+    ONE_WORD_MORE,
 ];
 const READ_127: &str = "read of 127 words";
 const WRITE_127: &str = "write of 127 words";
@@ -26,7 +31,13 @@ const READ_STILL: &str = "read of several words without increment";
 const WRITE_STILL: &str = "write of several words without increment";
 const LAST_REGISTER: &str = "accepted up to the last register, with increment";
 const ONE_TOO_MANY: &str = "refused with one element past the last register";
+const SHORT_READ: &str = "read of fewer words than promised";
+const SHORT_WRITE: &str = "write of fewer words than promised";
+const HEADER_ALONE: &str = "header alone accepted";
+const SHORT_PAST_THE_END: &str = "refused for a promised element that did not come";
+const ONE_WORD_MORE: &str = "refused with one word more than promised";
 
+/// Compares `count` random bursts, and bursts of every length besides.
 pub fn compare(seed: u64, count: u64) -> Outcome {
     let mut part = Part {
         rng: Rng::new(seed),
@@ -37,8 +48,14 @@ pub fn compare(seed: u64, count: u64) -> Outcome {
     let rng = &mut part.rng;
     part.store.change(|store| rng.fill(store));
     for case in 0..count {
-        part.case()
+        let words = Draft::any(&mut part.rng).words(&mut part.rng);
+        let rooms = part.rooms(words.len());
+        part.case(&words, rooms)
             .map_err(|what| format!("burst {case}: {what}"))?;
+    }
+    for count in 1..=HIGHEST_COUNT.into() {
+        part.every_length(count)
+            .map_err(|what| format!("every length of {count} elements: {what}"))?;
     }
     Ok(vec![part.tally])
 }
@@ -51,9 +68,22 @@ struct Part {
 }
 
 impl Part {
-    fn case(&mut self) -> Result<(), String> {
-        let words = words(&mut self.rng);
-        let (store_bytes, answer_words) = self.rooms(words.len());
+    /// Good headers for `count` elements, each with every number of words up to two too many.
+    fn every_length(&mut self, count: usize) -> Result<(), String> {
+        let kinds = [(0xA, true), (0xA, false), (0xB, true), (0xB, false)];
+        for (command, increment) in kinds {
+            for length in 0..=1 + count + 2 {
+                let mut draft = Draft::good(&mut self.rng, command, increment, count);
+                draft.length = length;
+                let words = draft.words(&mut self.rng);
+                self.case(&words, (STORE_BYTES, length))?;
+            }
+        }
+        Ok(())
+    }
+
+    fn case(&mut self, words: &[u32], rooms: (usize, usize)) -> Result<(), String> {
+        let (store_bytes, answer_words) = rooms;
         let value = self.rng.word();
         self.answer.change(|answer| vary(answer, value));
 
@@ -66,24 +96,24 @@ impl Part {
         };
         let (library_store, model_store) = self.store.lend(store_bytes);
         let (library_answer, model_answer) = self.answer.lend(answer_words);
-        let expected = numbers(&burst(&words, model_store, model_answer), |()| 0);
-        let lent = words.clone();
+        let expected = numbers(&burst(words, model_store, model_answer), |()| 0);
+        let lent = words.to_vec();
         let answer = exports::spi(&lent, library_store, library_answer);
         self.equal(answer, expected).map_err(context)?;
-        same_input(&lent, &words).map_err(context)?;
+        same_input(&lent, words).map_err(context)?;
 
         // A burst done twice ends as it did once, so the wrapper may repeat it.
         if self.rng.one_in(8) {
             let (library_store, _) = self.store.lend(store_bytes);
             let (library_answer, _) = self.answer.lend(answer_words);
-            let answer = match head::spi(&words, library_store, library_answer) {
+            let answer = match head::spi(words, library_store, library_answer) {
                 Ok(()) => (0, 0),
                 Err(refusal) => (refusal.number, refusal.place),
             };
             self.equal(answer, expected).map_err(context)?;
         }
         self.store.keep();
-        self.count(&words, expected);
+        self.count(words, expected);
         Ok(())
     }
 
@@ -120,19 +150,30 @@ impl Part {
             return;
         };
         let header = Header::from_word(first);
+        let promised = usize::from(header.count);
+        let came = words.len() - 1;
         let accepted = number == 0;
         let read = header.command == 0xA;
-        let full = accepted && header.count == HIGHEST_COUNT;
-        let still = accepted && !header.increment && header.count > 1;
-        let end = usize::from(header.address) + 4 * usize::from(header.count);
+        let full = accepted && came == HIGHEST_COUNT.into();
+        let still = accepted && !header.increment && came > 1;
+        let end = usize::from(header.address) + 4 * promised;
         self.tally.situation(READ_127, full && read);
         self.tally.situation(WRITE_127, full && !read);
         self.tally.situation(READ_STILL, still && read);
         self.tally.situation(WRITE_STILL, still && !read);
-        let last = accepted && header.increment && end == 65_536;
+        let last = accepted && header.increment && end == 65_536 && came == promised;
         self.tally.situation(LAST_REGISTER, last);
         let beyond = number == 35 && header.increment && end == 65_540;
         self.tally.situation(ONE_TOO_MANY, beyond);
+        let short = accepted && 0 < came && came < promised;
+        self.tally.situation(SHORT_READ, short && read);
+        self.tally.situation(SHORT_WRITE, short && !read);
+        self.tally.situation(HEADER_ALONE, accepted && came == 0);
+        let in_space = usize::from(header.address) + 4 * came <= 65_536;
+        let past_the_end = beyond && came < promised && in_space;
+        self.tally.situation(SHORT_PAST_THE_END, past_the_end);
+        let more = number == 34 && came == promised + 1;
+        self.tally.situation(ONE_WORD_MORE, more);
     }
 }
 
@@ -145,37 +186,61 @@ fn vary(words: &mut [u32], start: u32) {
     }
 }
 
-/// A burst: about half of them good, the others with one or more faults.
-fn words(rng: &mut Rng) -> Vec<u32> {
-    let mut count = match rng.below(4) {
-        0 => rng.between(1, 3),
-        1 => 127,
-        _ => rng.between(1, 127),
-    };
-    let mut command = rng.pick(&[0xA, 0xB]);
-    let increment = rng.coin();
-    let mut address = address(rng, if increment { count } else { 1 });
-    let mut length = 1 + count;
-    let faults = if rng.coin() { 0 } else { rng.between(1, 2) };
-    for _ in 0..faults {
-        match rng.below(6) {
-            0 => command = rng.below(16) as u32,
-            1 => count = 0,
-            2 => length = wrong_length(rng, length),
-            3 => address += rng.between(1, 3),
-            4 => address = past_the_end(rng, count),
-            _ => length = rng.pick(&[0, 1, length]),
+/// A burst that may have faults.
+struct Draft {
+    address: usize,
+    command: u32,
+    increment: bool,
+    count: usize,
+    /// How many words are sent.
+    length: usize,
+}
+
+impl Draft {
+    fn good(rng: &mut Rng, command: u32, increment: bool, count: usize) -> Draft {
+        Draft {
+            address: address(rng, if increment { count } else { 1 }),
+            command,
+            increment,
+            count,
+            length: 1 + count,
         }
     }
-    let mut words: Vec<u32> = (0..length).map(|_| rng.word()).collect();
-    if let Some(header) = words.first_mut() {
-        *header = (address as u32 & 0xFFFF) << 16
-            | command << 12
-            | u32::from(increment) << 11
-            | (count as u32) << 4
-            | rng.below(16) as u32;
+
+    /// About half of them good, the others with another length, or one or more faults.
+    fn any(rng: &mut Rng) -> Draft {
+        let count = match rng.below(4) {
+            0 => rng.between(1, 3),
+            1 => 127,
+            _ => rng.between(1, 127),
+        };
+        let (command, increment) = (rng.pick(&[0xA, 0xB]), rng.coin());
+        let mut draft = Draft::good(rng, command, increment, count);
+        let faults = if rng.coin() { 0 } else { rng.between(1, 2) };
+        for _ in 0..faults {
+            match rng.below(6) {
+                0 => draft.command = rng.below(16) as u32,
+                1 => draft.count = 0,
+                2 => draft.length = other_length(rng, draft.length),
+                3 => draft.address += rng.between(1, 3),
+                4 => draft.address = past_the_end(rng, draft.count),
+                _ => draft.length = rng.pick(&[0, 1, draft.length]),
+            }
+        }
+        draft
     }
-    words
+
+    fn words(&self, rng: &mut Rng) -> Vec<u32> {
+        let mut words: Vec<u32> = (0..self.length).map(|_| rng.word()).collect();
+        if let Some(header) = words.first_mut() {
+            *header = (self.address as u32 & 0xFFFF) << 16
+                | self.command << 12
+                | u32::from(self.increment) << 11
+                | (self.count as u32) << 4
+                | rng.below(16) as u32;
+        }
+        words
+    }
 }
 
 /// An address from which `elements` registers are in the space.
@@ -199,7 +264,7 @@ fn past_the_end(rng: &mut Rng, count: usize) -> usize {
     }
 }
 
-fn wrong_length(rng: &mut Rng, length: usize) -> usize {
+fn other_length(rng: &mut Rng, length: usize) -> usize {
     match rng.below(4) {
         0 => (length + 1).min(MOST_WORDS),
         1 => length.saturating_sub(1),

@@ -90,8 +90,8 @@ pub fn run(
 
 /// Runs one SPI burst on the registers of a card.
 ///
-/// `words` are the header and as many words as its count says. `store` must have [`STORE_BYTES`],
-/// and `answer` as many words as `words`.
+/// `words` are the header and as many words as its count says; of a burst that was cut short, those
+/// that came. `store` must have [`STORE_BYTES`], and `answer` as many words as `words`.
 pub fn spi(words: &[u32], store: &mut [u8], answer: &mut [u32]) -> Result<(), Refusal> {
     let (number, value) = exports::spi(words, store, answer);
     accepted(number, value)

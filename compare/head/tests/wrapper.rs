@@ -52,6 +52,22 @@ fn burst() {
     assert_eq!(refusal.to_string(), "refused 31 at 0");
 }
 
+#[test]
+fn short_burst() {
+    let mut store: Vec<u8> = (0..STORE_BYTES).map(|at| at as u8).collect();
+    let mut answer = [7; 3];
+    assert_eq!(
+        head::spi(&[0x1000_A830, 0, 0], &mut store, &mut answer),
+        Ok(())
+    );
+    assert_eq!(answer, [0, 0x0302_0100, 0x0706_0504]);
+    let refusal = head::spi(&[0xFFFC_B820, 1], &mut store, &mut [0; 2]).unwrap_err();
+    assert_eq!(refusal.to_string(), "refused 35 at 0");
+    let refusal = head::spi(&[0x1000_B810, 1, 2], &mut store, &mut answer).unwrap_err();
+    assert_eq!(refusal.to_string(), "refused 34 at 0");
+    assert_eq!(store[0xFFFC..0x10000], [0xFC, 0xFD, 0xFE, 0xFF]);
+}
+
 #[cfg(feature = "compile")]
 #[test]
 fn list_and_its_room() {

@@ -44,7 +44,8 @@ fn is_command(command: u8) -> bool {
     command == READ || command == WRITE
 }
 
-/// Runs a burst. `answer` has as many words as are sent.
+/// Runs a burst. `answer` has as many words as are sent. A burst that was cut short, with fewer
+/// words than its header promises, does those that came.
 pub fn burst(words: &[u32], store: &mut [u8], answer: &mut [u32]) -> Result<(), Refusal> {
     if store.len() != STORE_BYTES || answer.len() != words.len() {
         return Err(Refusal::whole(1));
@@ -78,9 +79,10 @@ fn check(words: &[u32]) -> Result<Header, u32> {
         return Err(33);
     }
     let count = u32::from(header.count);
-    if words.len() != 1 + count as usize {
+    if words.len() > 1 + count as usize {
         return Err(34);
     }
+    // All that is promised must be in the space, whether it came or not.
     let address = u32::from(header.address);
     let elements = if header.increment { count } else { 1 };
     if address % 4 != 0 || address + 4 * elements > Space::Registers.bytes() {

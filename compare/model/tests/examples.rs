@@ -1,4 +1,4 @@
-//! The worked examples of the scope document, in its order.
+//! The worked examples of the scope document, in its order, and those of the requests after it.
 
 use model::packet::run;
 use model::packing::{compile, Compiled};
@@ -306,4 +306,44 @@ fn bursts_move_registers() {
     assert_eq!(answer, [0, 1, 2, 3]);
     burst(&[0x1004_A030, 9, 9, 9], &mut store, &mut answer).unwrap();
     assert_eq!(answer, [0, 2, 2, 2]);
+}
+
+#[test]
+fn short_bursts_do_the_words_that_came() {
+    let fresh = Card::new().store;
+    let mut store = fresh.clone();
+    let mut answer = [7; 3];
+    let register = |at: usize| u32::from_le_bytes(fresh[at..at + 4].try_into().unwrap());
+    burst(&[0x1000_A830, 9, 9], &mut store, &mut answer).unwrap();
+    assert_eq!(answer, [0, register(0x1000), register(0x1004)]);
+    assert!(store == fresh);
+
+    burst(&[0x1000_B830, 1, 2], &mut store, &mut answer).unwrap();
+    assert_eq!(answer, [0; 3]);
+    assert_eq!(store[0x1000..0x1008], [1, 0, 0, 0, 2, 0, 0, 0]);
+    assert_eq!(store[0x1008..], fresh[0x1008..]);
+
+    let mut answer = [7];
+    let header = [0x1000_B830];
+    let before = store.clone();
+    burst(&header, &mut store, &mut answer).unwrap();
+    assert_eq!(answer, [0]);
+    assert!(store == before);
+}
+
+#[test]
+fn bursts_with_a_word_too_many_or_a_promise_past_the_end() {
+    let fresh = Card::new().store;
+    let mut store = fresh.clone();
+    let mut refuses = |words: &[u32], number| {
+        let mut answer = vec![7; words.len()];
+        let refusal = Refusal::whole(number);
+        assert_eq!(burst(words, &mut store, &mut answer), Err(refusal));
+        assert!(store == fresh);
+        assert!(answer.iter().all(|&word| word == 7));
+    };
+    refuses(&[0x1000_B830, 1, 2, 3, 4], 34);
+    // Two registers are promised from 0xFFFC, and one came.
+    refuses(&[0xFFFC_B820, 1], 35);
+    refuses(&[0xFFFC_B820, 1, 2, 3], 34);
 }
