@@ -16,7 +16,7 @@ use Rattle.lbp16.specs.Word.{bit}
 use Rattle.packet.specs.Step.{Kind, read, write, storeAfter, valuesRead}
 use Rattle.packet.specs.Rules.{Rule, first, any, misaligned, pastEnd}
 use Rattle.packet.specs.Command.{elements}
-use Rattle.packet.proofs.RuleLaws.{none-holds, first-of-none}
+use Rattle.packet.proofs.RuleLaws.{none-holds, first-of-none, FirstHolds, first-holds, Lowest, first-lowest}
 use Rattle.packet.proofs.ElementLaws.{past-span}
 use Rattle.packet.proofs.StoreLaws.{length-after}
 use Rattle.card.specs.declared.spi.Header.{Header}
@@ -328,15 +328,19 @@ abbrev AllNumbers : (ℕ → Type 0) → List Rule → Type 0
 AllNumbers P [] = Unit
 AllNumbers P (r ∷ rs) = P (r .number) × AllNumbers P rs
 
--- so it holds of the first's, if it holds of 0
-first-among : (P : ℕ → Type 0) → P 0 → (rs : List Rule) → AllNumbers P rs → P (first rs)
-unfolding first
-first-among P z [] a = z
-first-among P z (r ∷ rs) a = go (r .holds) (first-among P z rs (a .1))
-  where
-    go : (b : Bool) → P (first rs) → P (cond b (r .number) (first rs))
-    go true later = a .0
-    go false later = later
+-- so it holds of the first's
+first-among : (P : ℕ → Type 0) {n : ℕ} {rs : List Rule} → FirstHolds n rs → AllNumbers P rs → P n
+first-among P (FirstHolds.here e t) a = rw e at (a .0)
+first-among P (FirstHolds.later f more) a = first-among P more (a .1)
+
+-- n is the table's number for this burst
+pub record BurstRefused (words store room : List ℕ) (n place : ℕ) : Type 0 where
+  pub at-start : place ≡ 0
+  -- a rule of the table has it, its condition holds, and that of none before it does
+  pub holds : FirstHolds n (burstRefusals words store room)
+  -- no rule whose condition holds has a lower number
+  pub lowest : Lowest n (burstRefusals words store room)
+  pub in-table : (n ≡ 1) ⊎ ((31 ≤ n) × (n ≤ 35))
 
 module _ (words store room : List ℕ) where
   -- A refused burst changes nothing lent.
@@ -345,27 +349,27 @@ module _ (words store room : List ℕ) where
   unfolding runBurst
   burst-refusal-changes-nothing = refused-changes-nothing (first (burstRefusals words store room)) words store room
 
-  -- Its number is 1 or one of 31 to 35, and its place 0.
-  pub burst-refusal-number : (n place : ℕ) → runBurst words store room .answer ≡ Answer.refused n place
-      → ((n ≡ 1) ⊎ ((31 ≤ n) × (n ≤ 35))) × (place ≡ 0)
+  -- Its number is the table's: that of a rule that holds, and no lower one does. Its place is 0.
+  pub burst-refused-in-table : (n place : ℕ) → runBurst words store room .answer ≡ Answer.refused n place
+      → BurstRefused words store room n place
   unfolding runBurst burstRefusals
-  burst-refusal-number n place e =
+  burst-refused-in-table n place e =
       let (same, some, zero-place) = refused-number (first (burstRefusals words store room)) words store room n place e in
-      (rw same (first-among Listed (λ h. absurd (omega arith)) (burstRefusals words store room) all some), zero-place)
+      let holds = first-holds n (burstRefusals words store room) (sym same) (omega arith) in
+      record {
+        at-start = zero-place;
+        holds = holds;
+        lowest = first-lowest 0 35 holds (omega arith);
+        in-table = first-among Listed holds all;
+      }
     where
       Listed : ℕ → Type 0
-      Listed k = 1 ≤ k → (k ≡ 1) ⊎ ((31 ≤ k) × (k ≤ 35))
+      Listed k = (k ≡ 1) ⊎ ((31 ≤ k) × (k ≤ 35))
 
       all : AllNumbers Listed (burstRefusals words store room)
       all = (
-        λ h. inl refl,
-        (
-          λ h. inr (omega arith),
-          (
-            λ h. inr (omega arith),
-            (λ h. inr (omega arith), (λ h. inr (omega arith), (λ h. inr (omega arith), tt))),
-          ),
-        ),
+        inl refl,
+        (inr (omega arith), (inr (omega arith), (inr (omega arith), (inr (omega arith), (inr (omega arith), tt))))),
       )
 
   -- The answer to an accepted burst has as many words as were sent.
