@@ -38,7 +38,23 @@ extern "C" {
 /* The bytes of a command word's fields. */
 #define HEAD_FIELDS 7
 
-/* Runs one packet on the store. The whole packet is checked before anything is done.
+/* Checks one packet: what head_run would answer on this store and these pointers, with a reply room of 1,472 bytes.
+ * Nothing is changed, and what the store's cells hold plays no part.
+ *
+ *   packet    the commands, packet_length bytes; may be empty
+ *   store     65,728 bytes
+ *   pointers  4 numbers, each at most its space's size
+ *   value     takes the reply length in bytes, or the refusal's place
+ *
+ * Returns 0 if the packet would be run, else the number of the refusal: 1 (of store and pointers) to 12, as below.
+ */
+uint32_t head_check(const uint8_t *packet, size_t packet_length,
+                    const uint8_t *store, size_t store_length,
+                    const uint32_t *pointers, size_t pointers_length,
+                    uint64_t *value);
+
+/* Runs one packet on the store. The whole packet is checked, as head_check does, before anything is done, on the state
+ * that the run finds: nothing that was checked earlier is relied on.
  *
  *   packet    the commands, packet_length bytes; may be empty
  *   store     65,728 bytes

@@ -1,15 +1,15 @@
 -- Laws of a packet's run.
 use Prim.Native.Nat.{ℕ, _+_, _≤_, _<_}
-use mathlib.Core.Path.{_≡_, refl, _∙_}
+use mathlib.Core.Path.{_≡_, refl, sym, ap, _∙_}
 use mathlib.Core.Logic.{_⊎_}
-use mathlib.Core.Bool.{Bool, true, false, not, _||_, cond}
+use mathlib.Core.Bool.{Bool, true, false, not, cond}
 use mathlib.Core.List.{List, [], _∷_}
 use native.Mathlib.Omega.{arith}
 use native.Mathlib.Decide.{decLe}
 use lib.Dec.{eqb, ltb}
 use lib.ListN.{length, drop, getD, set, length-set}
 use lib.Seq.{length-sets, getD-set-same, getD-set-other, drop-at}
-use borrow.Author.Tests.{eqb-true, ltb-true, ltb-false, not-false, le-ltb}
+use borrow.Author.Tests.{eqb-true, eqb-false, eq-eqb, ne-eqb, ltb-true, ltb-false, not-false, le-ltb}
 use Rattle.lbp16.proofs.BoolLaws.{or-false}
 use Rattle.lbp16.specs.Answer.{Answer}
 use Rattle.lbp16.specs.Space.{storeBytes, row}
@@ -18,9 +18,10 @@ use Rattle.lbp16.specs.declared.pointer.Pointers.{Pointers}
 use Rattle.packet.specs.Step.{at, statusWrite, storeAfter, valuesRead, replyBytes}
 use Rattle.packet.specs.Command.{limit}
 use Rattle.packet.specs.Judge.{Carried, Verdict, refused, accepted, judge}
+use Rattle.packet.specs.Verdict.{answerTo}
 use Rattle.packet.proofs.StoreLaws.{Spared, getD-sets, spared-byte, length-values}
 use Rattle.packet.proofs.RefusalLaws.{RefusedAt, refused-in-table, accepted-within, accepted-inside}
-use Rattle.card.specs.Run.{unlockCell, cleared, badRoom, outcome, checked, runPacket}
+use Rattle.card.specs.Run.{unlockCell, cleared, badState, checked, outcome, runVerdict, runPacket}
 
 -- the unlock cell is address 0x1A of space 6
 pub unlock-cell : unlockCell ≡ at (statusWrite 0x1A [])
@@ -52,102 +53,151 @@ cleared-inside store i n h k = go (decLe i unlockCell)
         let e : i ≡ unlockCell + 1 = omega arith in
         rw e (getD-set-same (set store unlockCell 0) (unlockCell + 1) 0 0 (rw length-set (omega arith)))
 
--- What refusal 1 does not turn away: a whole store, a whole reply room and sound pointers.
-pub good-room : (store : List ℕ) (p : Pointers) (reply : List ℕ) → badRoom store p reply ≡ false
-    → (length store ≡ storeBytes) × (length reply ≡ limit) × (aboveSize p ≡ false)
-unfolding badRoom
-good-room store p reply h =
-    let o = or-false (not (eqb (length store) storeBytes) || not (eqb (length reply) limit)) (aboveSize p) h in
-    let l = or-false (not (eqb (length store) storeBytes)) (not (eqb (length reply) limit)) (o .0) in
-    (eqb-true _ _ (not-false _ (l .0)), eqb-true _ _ (not-false _ (l .1)), o .1)
+-- What refusal 1 does not turn away: a whole store and sound pointers.
+pub good-state : (store : List ℕ) (p : Pointers) → badState store p ≡ false
+    → (length store ≡ storeBytes) × (aboveSize p ≡ false)
+unfolding badState
+good-state store p h =
+    let o = or-false (not (eqb (length store) storeBytes)) (aboveSize p) h in
+    (eqb-true _ _ (not-false _ (o .0)), o .1)
 
--- Refusal 1 looks only at the store's length, the reply room and the pointers.
-pub room-again : (a b : List ℕ) (p q : Pointers) → length b ≡ length a → aboveSize q ≡ false
-    → (reply : List ℕ) → badRoom a p reply ≡ false → badRoom b q reply ≡ false
-unfolding badRoom
-room-again a b p q e k reply h =
-    let o = or-false (not (eqb (length a) storeBytes) || not (eqb (length reply) limit)) (aboveSize p) h in
-    rw (e, o .0) k
+-- Refusal 1 looks only at the store's length and the pointers.
+pub state-again : (a b : List ℕ) (p q : Pointers) → length b ≡ length a → aboveSize q ≡ false
+    → badState a p ≡ false → badState b q ≡ false
+unfolding badState
+state-again a b p q e k h = rw (e, or-false (not (eqb (length a) storeBytes)) (aboveSize p) h .0) k
+
+-- The check's answer does not depend on what the store's cells hold.
+pub check-sees-no-cell : (packet a b : List ℕ) (p : Pointers) → length a ≡ length b → checked packet a p ≡ checked packet b p
+unfolding checked badState
+check-sees-no-cell packet a b p e = rw e refl
+
+-- With a reply room of 1,472 bytes the run is decided by the check: it refuses what the check refuses, number and place,
+-- and otherwise answers the check's length. Any other room is refused with 1 at 0, and nothing changes.
+module _ (packet store : List ℕ) (p : Pointers) (reply : List ℕ) where
+  pub run-checked : length reply ≡ limit → runPacket packet store p reply ≡ outcome (checked packet store p) store p reply
+  unfolding runPacket runVerdict
+  run-checked e = rw (eq-eqb _ _ e) refl
+
+  pub run-answers-check : length reply ≡ limit → runPacket packet store p reply .answer ≡ answerTo (checked packet store p)
+  unfolding outcome
+  run-answers-check e = rw (run-checked e) (go (checked packet store p))
+    where
+      go : (v : Verdict) → outcome v store p reply .answer ≡ answerTo v
+      go (refused n place) = refl
+      go (accepted c) = refl
+
+  pub other-room-refused : (length reply ≡ limit → ⊥)
+      → runPacket packet store p reply
+      ≡ record { answer = Answer.refused 1 0; store = store; reply = reply; pointers = p }
+  unfolding runPacket runVerdict outcome answerTo
+  other-room-refused h = rw (ne-eqb _ _ h) refl
 
 -- A packet that passes refusals 1 and 2 and whose commands are accepted is run.
-pub run-accepted : (packet store : List ℕ) (p : Pointers) (reply : List ℕ) (c : Carried) → badRoom store p reply ≡ false
-    → length packet ≤ limit → judge p packet ≡ accepted c
+pub run-accepted : (packet store : List ℕ) (p : Pointers) (reply : List ℕ) (c : Carried) → badState store p ≡ false
+    → length reply ≡ limit → length packet ≤ limit → judge p packet ≡ accepted c
     → runPacket packet store p reply ≡ outcome (accepted c) store p reply
-unfolding runPacket checked
-run-accepted packet store p reply c h n j = rw (h, le-ltb limit (length packet) n, j)
+unfolding checked
+run-accepted packet store p reply c h r n j =
+    rw (run-checked packet store p reply r, h, le-ltb limit (length packet) n, j)
 
-module _ (packet store : List ℕ) (p : Pointers) (reply : List ℕ) where
-  -- A refusal changes nothing lent.
-  pub refusal-changes-nothing : (n place : ℕ) → runPacket packet store p reply .answer ≡ Answer.refused n place
-      → (runPacket packet store p reply .store ≡ store) × (runPacket packet store p reply .reply ≡ reply)
-      × (runPacket packet store p reply .pointers ≡ p)
-  unfolding runPacket outcome
-  refusal-changes-nothing n place = go (checked packet store p reply)
-    where
-      go : (v : Verdict) → outcome v store p reply .answer ≡ Answer.refused n place
-          → (outcome v store p reply .store ≡ store) × (outcome v store p reply .reply ≡ reply)
-          × (outcome v store p reply .pointers ≡ p)
-      go (refused m k) e = (refl, refl, refl)
-      go (accepted c) e = let z : _≡_ {A = ℕ} 0 1 = cc in absurd (omega arith)
+-- An accepted packet's steps read as many bytes as their reply has.
+pub values-counted : (packet store : List ℕ) (p : Pointers) (c : Carried) → badState store p ≡ false
+    → judge p packet ≡ accepted c → length (valuesRead (c .steps) store) ≡ replyBytes (c .steps)
+values-counted packet store p c h e =
+    length-values (c .steps) store (good-state store p h .0) (accepted-inside p packet c e)
 
-  -- The reply past the answered length is unchanged.
-  pub reply-past-answer : (n : ℕ) → runPacket packet store p reply .answer ≡ Answer.accepted (n ∷ [])
-      → drop n (runPacket packet store p reply .reply) ≡ drop n reply
-  unfolding runPacket outcome
-  reply-past-answer n = go (checked packet store p reply)
-    where
-      go : (v : Verdict) → outcome v store p reply .answer ≡ Answer.accepted (n ∷ [])
-          → drop n (outcome v store p reply .reply) ≡ drop n reply
-      go (refused m k) e = refl
-      go (accepted c) e =
-          let q : length (valuesRead (c .steps) store) ≡ n = cc in
-          rw q (drop-at (valuesRead (c .steps) store) (drop n reply) n q)
-
-  -- An accepted packet changes no byte that none of its writes names, the unlock cell apart.
-  pub accepted-spares : (c : Carried) → checked packet store p reply ≡ accepted c → (i : ℕ) → Spared i (c .steps)
-      → (i < unlockCell) ⊎ (unlockCell + 2 ≤ i) → getD (runPacket packet store p reply .store) i 0 ≡ getD store i 0
-  unfolding runPacket outcome
-  accepted-spares c e i h k = rw e (cleared-outside (storeAfter (c .steps) store) i k ∙ spared-byte i (c .steps) store h)
-
+module _ (packet store : List ℕ) (p : Pointers) where
   -- What holds of refusal 1, of refusal 2 and of the commands' check holds of every check.
-  pub checked-cases : (P : Verdict → Type 0) → (badRoom store p reply ≡ true → P (refused 1 0))
-      → (badRoom store p reply ≡ false → limit < length packet → P (refused 2 0))
-      → (badRoom store p reply ≡ false → length packet ≤ limit → P (judge p packet)) → P (checked packet store p reply)
+  pub checked-cases : (P : Verdict → Type 0) → (badState store p ≡ true → P (refused 1 0))
+      → (badState store p ≡ false → limit < length packet → P (refused 2 0))
+      → (badState store p ≡ false → length packet ≤ limit → P (judge p packet)) → P (checked packet store p)
   unfolding checked
-  checked-cases P bad long good = go (badRoom store p reply) (ltb limit (length packet)) refl refl
+  checked-cases P bad long good = go (badState store p) (ltb limit (length packet)) refl refl
     where
-      go : (b l : Bool) → badRoom store p reply ≡ b → ltb limit (length packet) ≡ l
+      go : (b l : Bool) → badState store p ≡ b → ltb limit (length packet) ≡ l
           → P (cond b (refused 1 0) (cond l (refused 2 0) (judge p packet)))
       go true l e f = bad e
       go false true e f = long e (ltb-true _ _ f)
       go false false e f = good e (ltb-false _ _ f)
 
-  -- The answered length is the number of bytes that the commands' reply has, and at most 1,472.
-  pub answered-length : (c : Carried) → checked packet store p reply ≡ accepted c
+  -- The answered length is the number of bytes read, and at most 1,472.
+  pub answered-length : (c : Carried) → checked packet store p ≡ accepted c
       → (length (valuesRead (c .steps) store) ≡ replyBytes (c .steps)) × (replyBytes (c .steps) ≤ limit)
   answered-length c =
       checked-cases
       (λ v. v ≡ accepted c → (length (valuesRead (c .steps) store) ≡ replyBytes (c .steps)) × (replyBytes (c .steps) ≤ limit))
       (λ _ e. let z : _≡_ {A = ℕ} 0 1 = cc in absurd (omega arith))
       (λ _ _ e. let z : _≡_ {A = ℕ} 0 1 = cc in absurd (omega arith))
-      (λ room _ e.
-      let whole = good-room store p reply room in
-      (length-values (c .steps) store (whole .0) (accepted-inside p packet c e), accepted-within p packet c e))
+      (λ state _ e. (values-counted packet store p c state e, accepted-within p packet c e))
 
-  -- A refusal is number 1 or 2 in its case, at place 0, or else that of the earliest command that fails.
+  -- A check's refusal is number 1 or 2 in its case, at place 0, or else that of the earliest command that fails.
+  pub data CheckRefused (n place : ℕ) : Type 0 where
+    state : badState store p ≡ true → n ≡ 1 → place ≡ 0 → CheckRefused n place
+    long : badState store p ≡ false → limit < length packet → n ≡ 2 → place ≡ 0 → CheckRefused n place
+    command : badState store p ≡ false → length packet ≤ limit → RefusedAt p packet n place → CheckRefused n place
+
+  pub check-refusals : (n place : ℕ) → checked packet store p ≡ refused n place → CheckRefused n place
+  check-refusals n place =
+      checked-cases (λ v. v ≡ refused n place → CheckRefused n place) (λ b q. CheckRefused.state b (cc) (cc))
+      (λ b l q. CheckRefused.long b l (cc) (cc))
+      (λ b l q. CheckRefused.command b l (refused-in-table p packet n place q))
+
+module _ (packet store : List ℕ) (p : Pointers) (reply : List ℕ) where
+  -- what an outcome's answer says of its verdict
+  refused-verdict : (n place : ℕ) (v : Verdict) → outcome v store p reply .answer ≡ Answer.refused n place → v ≡ refused n place
+  unfolding outcome answerTo
+  refused-verdict n place (refused m k) e = cc
+  refused-verdict n place (accepted c) e = cc
+
+  -- A refusal changes nothing lent.
+  pub refusal-changes-nothing : (n place : ℕ) → runPacket packet store p reply .answer ≡ Answer.refused n place
+      → (runPacket packet store p reply .store ≡ store) × (runPacket packet store p reply .reply ≡ reply)
+      × (runPacket packet store p reply .pointers ≡ p)
+  unfolding runPacket outcome
+  refusal-changes-nothing n place e =
+      rw (refused-verdict n place (runVerdict packet store p reply) e) (refl, refl, refl)
+
+  -- A run's refusal is 1 at 0 for another reply room, or else the check's.
   pub data RunRefused (n place : ℕ) : Type 0 where
-    room : badRoom store p reply ≡ true → n ≡ 1 → place ≡ 0 → RunRefused n place
-    long : badRoom store p reply ≡ false → limit < length packet → n ≡ 2 → place ≡ 0 → RunRefused n place
-    command : badRoom store p reply ≡ false → length packet ≤ limit → RefusedAt p packet n place → RunRefused n place
+    room : (length reply ≡ limit → ⊥) → n ≡ 1 → place ≡ 0 → RunRefused n place
+    check : length reply ≡ limit → CheckRefused packet store p n place → RunRefused n place
 
   pub refusals-listed : (n place : ℕ) → runPacket packet store p reply .answer ≡ Answer.refused n place → RunRefused n place
-  unfolding runPacket outcome
-  refusals-listed n place e =
-      checked-cases (λ v. v ≡ refused n place → RunRefused n place) (λ b q. RunRefused.room b (cc) (cc))
-      (λ b l q. RunRefused.long b l (cc) (cc))
-      (λ b l q. RunRefused.command b l (refused-in-table p packet n place q))
-      (go (checked packet store p reply) e)
+  refusals-listed n place e = go (eqb (length reply) limit) refl
     where
-      go : (v : Verdict) → outcome v store p reply .answer ≡ Answer.refused n place → v ≡ refused n place
-      go (refused m k) e = cc
-      go (accepted c) e = cc
+      go : (b : Bool) → eqb (length reply) limit ≡ b → RunRefused n place
+      go true q =
+          let r = eqb-true _ _ q in
+          RunRefused.check r
+          (check-refusals packet store p n place
+          (refused-verdict n place _ (sym (ap (λ o. o .answer) (run-checked packet store p reply r)) ∙ e)))
+      go false q =
+          let h = eqb-false _ _ q in
+          let f = ap (λ o. o .answer) (other-room-refused packet store p reply h) in
+          RunRefused.room h (let z = sym e ∙ f in cc) (let z = sym e ∙ f in cc)
+
+  module _ (room : length reply ≡ limit) where
+    -- The reply past the answered length is unchanged.
+    pub reply-past-answer : (n : ℕ) → runPacket packet store p reply .answer ≡ Answer.accepted (n ∷ [])
+        → drop n (runPacket packet store p reply .reply) ≡ drop n reply
+    unfolding outcome answerTo
+    reply-past-answer n e =
+        rw (run-checked packet store p reply room)
+        (go (checked packet store p) refl (sym (run-answers-check packet store p reply room) ∙ e))
+      where
+        go : (v : Verdict) → checked packet store p ≡ v → answerTo v ≡ Answer.accepted (n ∷ [])
+            → drop n (outcome v store p reply .reply) ≡ drop n reply
+        go (refused m k) q e = refl
+        go (accepted c) q e =
+            let l : length (valuesRead (c .steps) store) ≡ n =
+            answered-length packet store p c q .0 ∙ (let z : replyBytes (c .steps) ≡ n = cc in z) in
+            rw l (drop-at (valuesRead (c .steps) store) (drop n reply) n l)
+
+    -- An accepted packet changes no byte that none of its writes names, the unlock cell apart.
+    pub accepted-spares : (c : Carried) → checked packet store p ≡ accepted c → (i : ℕ) → Spared i (c .steps)
+        → (i < unlockCell) ⊎ (unlockCell + 2 ≤ i) → getD (runPacket packet store p reply .store) i 0 ≡ getD store i 0
+    unfolding outcome
+    accepted-spares c e i h k =
+        rw (run-checked packet store p reply room, e)
+        (cleared-outside (storeAfter (c .steps) store) i k ∙ spared-byte i (c .steps) store h)

@@ -3,8 +3,14 @@ use Prim.Native.Nat.{ℕ, zero, suc, _+_, _≤_}
 use mathlib.Core.List.{List, _++_}
 use lib.ListN.{length, take, drop}
 use lib.Seq.{sets}
+use mathlib.Core.Path.{_≡_}
+use Rattle.lbp16.specs.Space.{spaceOf, row}
+use Rattle.lbp16.specs.declared.pointer.Pointers.{Pointers}
+use Rattle.lbp16.specs.declared.word.Fields.{Fields}
 use Rattle.packet.specs.Step.{storeAfter, valuesRead}
-use Rattle.packet.specs.Judge.{Verdict, refused, accepted}
+use Rattle.packet.specs.Command.{addressUsed, stride}
+use Rattle.packet.specs.Judge.{Carried, Verdict, refused, accepted, judge}
+use Rattle.card.specs.declared.run.Span.{Span}
 
 -- n elements of w bytes, d apart from place i on, stand within a list of the given length
 abbrev pub Within : ℕ → ℕ → ℕ → ℕ → ℕ → Type 0
@@ -16,17 +22,25 @@ unfoldable pub moved : ℕ → ℕ → List ℕ → ℕ → ℕ → List ℕ →
 moved zero w src i di dst j dj = dst
 moved (suc n) w src i di dst j dj = moved n w src (i + di) di (sets dst j (take w (drop i src))) (j + dj) dj
 
--- what an accepted packet's steps leave in the store and in the reply
-unfoldable pub storeLeft : Verdict → List ℕ → List ℕ
-storeLeft (refused n place) store = store
-storeLeft (accepted c) store = storeAfter (c .steps) store
-
-unfoldable pub replyLeft : Verdict → List ℕ → List ℕ → List ℕ
-replyLeft (refused n place) store reply = reply
-replyLeft (accepted c) store reply =
-    let values = valuesRead (c .steps) store in
-    values ++ drop (length values) reply
+-- a list with values put there from place n on, as a lent part's front
+unfoldable pub laid : ℕ → List ℕ → List ℕ → List ℕ
+laid n values room = take n room ++ (values ++ drop (length values) (drop n room))
 
 abbrev pub IsAccepted : Verdict → Type 0
 IsAccepted (refused n place) = ⊥
 IsAccepted (accepted c) = Unit {0}
+
+-- where a command's elements stand
+unfoldable pub spanAt : Pointers → Fields → List ℕ → Span
+spanAt p f rest =
+    let w = row (spaceOf (f .space)) in
+    record { at = w .place + addressUsed p f rest; step = stride f; element = w .element; count = f .count }
+
+-- doing all commands of an accepted packet
+pub record Performed (packet store reply : List ℕ) (p : Pointers) (store′ reply′ : List ℕ) (q : Pointers) : Type 0 where
+  pub carried : Carried
+  pub judged : judge p packet ≡ accepted carried
+  pub stored : store′ ≡ storeAfter (carried .steps) store
+  pub replied : reply′
+      ≡ valuesRead (carried .steps) store ++ drop (length (valuesRead (carried .steps) store)) reply
+  pub pointed : q ≡ carried .pointers

@@ -1,19 +1,19 @@
--- One packet on a card store.
+-- One packet on a card store: its check, which changes nothing, and its run.
 use Prim.Native.Nat.{ℕ}
 use mathlib.Core.List.{List, [], _∷_, _++_}
 use mathlib.Core.Bool.{Bool, not, _||_, cond}
 use lib.ListN.{length, drop}
 use lib.Seq.{sets}
 use lib.Dec.{eqb, ltb}
-use Rattle.lbp16.specs.Answer.{Answer, refusal}
+use Rattle.lbp16.specs.Answer.{Answer}
 use Rattle.lbp16.specs.Space.{storeBytes}
 use Rattle.lbp16.specs.Pointer.{aboveSize}
 use Rattle.lbp16.specs.declared.pointer.Pointers.{Pointers}
 use Rattle.packet.specs.Step.{storeAfter, valuesRead}
 use Rattle.packet.specs.Command.{limit}
 use Rattle.packet.specs.Judge.{Verdict, refused, accepted, judge}
-use Rattle.card.specs.declared.run.RunAnswer.{RunAnswer}
-use Rattle.card.specs.declared.run.RunAnswer.the-variants.{Accepted, Refused}
+use Rattle.packet.specs.Verdict.{answerTo, verdictListed}
+use Rattle.card.specs.declared.run.Ran.{Ran}
 
 -- All that a run answers and leaves.
 pub record Outcome : Type 0 where
@@ -30,33 +30,37 @@ unlockCell = 65690
 unfoldable pub cleared : List ℕ → List ℕ
 cleared store = sets store unlockCell (0 ∷ 0 ∷ [])
 
--- refusal 1
-unfoldable pub badRoom : List ℕ → Pointers → List ℕ → Bool
-badRoom store p reply = not (eqb (length store) storeBytes) || not (eqb (length reply) limit) || aboveSize p
+-- refusal 1, of store and pointers
+unfoldable pub badState : List ℕ → Pointers → Bool
+badState store p = not (eqb (length store) storeBytes) || aboveSize p
+
+-- The check: refusals 1 and 2, then the packet's commands. It sees no reply room.
+unfoldable pub checked : List ℕ → List ℕ → Pointers → Verdict
+checked packet store p =
+    cond (badState store p) (refused 1 0) (cond (ltb limit (length packet)) (refused 2 0) (judge p packet))
 
 -- A refusal leaves all as it was. An accepted packet does its steps and then clears the unlock cell; the bytes read
 -- stand at the front of the reply.
 unfoldable pub outcome : Verdict → List ℕ → Pointers → List ℕ → Outcome
 outcome (refused n place) store p reply =
-    record { answer = Answer.refused n place; store = store; reply = reply; pointers = p }
+    record { answer = answerTo (refused n place); store = store; reply = reply; pointers = p }
 outcome (accepted c) store p reply =
     let values = valuesRead (c .steps) store in
     record {
-      answer = Answer.accepted (length values ∷ []);
+      answer = answerTo (accepted c);
       store = cleared (storeAfter (c .steps) store);
       reply = values ++ drop (length values) reply;
       pointers = c .pointers;
     }
 
--- refusals 1 and 2, then the packet's commands
-unfoldable pub checked : List ℕ → List ℕ → Pointers → List ℕ → Verdict
-checked packet store p reply =
-    cond (badRoom store p reply) (refused 1 0) (cond (ltb limit (length packet)) (refused 2 0) (judge p packet))
+-- A wrong reply room is refused with 1, by the run alone. Otherwise the run refuses what the check refuses, and answers
+-- the check's length.
+unfoldable pub runVerdict : List ℕ → List ℕ → Pointers → List ℕ → Verdict
+runVerdict packet store p reply = cond (eqb (length reply) limit) (checked packet store p) (refused 1 0)
 
 unfoldable pub runPacket : List ℕ → List ℕ → Pointers → List ℕ → Outcome
-runPacket packet store p reply = outcome (checked packet store p reply) store p reply
+runPacket packet store p reply = outcome (runVerdict packet store p reply) store p reply
 
--- the answer's number and values, for each case
-unfoldable pub runListed : RunAnswer → Answer
-runListed (Accepted n) = Answer.accepted (n ∷ [])
-runListed (Refused r) = refusal r
+-- what a run of the code answers and leaves
+unfoldable pub ran : Ran → List ℕ → List ℕ → Outcome
+ran r store reply = record { answer = verdictListed (r .answer); store = store; reply = reply; pointers = r .pointers }

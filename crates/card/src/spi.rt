@@ -1,6 +1,6 @@
 // SPI headers, and one SPI burst on space 0 of the store.
+use crate::check::STORE_BYTES;
 use crate::element;
-use crate::run::STORE_BYTES;
 use lbp16::Refusal;
 use lbp16::pointer::Pointer;
 use packet::rule;

@@ -18,8 +18,11 @@ use Rattle.packet.specs.Rules.{misaligned, pastEnd}
 use Rattle.packet.specs.Judge.{accepted}
 use Rattle.packet.proofs.StoreLaws.{Apart, sets-sets, sets-twice, slice-sets, length-after, store-after-append}
 use Rattle.packet.proofs.StoreLaws.{values-read-append}
-use Rattle.card.specs.Run.{unlockCell, cleared, badRoom, outcome}
-use Rattle.card.proofs.RunLaws.{length-cleared, cleared-outside, cleared-inside, good-room, room-again, run-accepted}
+use Rattle.packet.specs.Command.{limit}
+use Rattle.packet.specs.Verdict.{answerTo}
+use Rattle.card.specs.Run.{unlockCell, cleared, badState, outcome}
+use Rattle.card.proofs.RunLaws.{length-cleared, cleared-outside, cleared-inside, good-state, state-again, run-accepted}
+use Rattle.card.proofs.RunLaws.{values-counted}
 use Rattle.cue.specs.Records.{badElement}
 use Rattle.cue.specs.Play.{isAccepted, replyLength, play}
 use Rattle.cue.specs.Demand3.{SameAsRecords, unlockAfter}
@@ -106,28 +109,30 @@ unlock-zero (p ∷ ps) = refl
 
 -- Any packets that hold the records, run in order, do the same as the records done one by one.
 pub run-all : (packets : List (List ℕ)) (xs : List Step) → Holds packets xs → Good xs
-    → (store : List ℕ) (p : Pointers) (rooms : ℕ → List ℕ) → ((i : ℕ) → badRoom store p (rooms i) ≡ false)
+    → (store : List ℕ) (p : Pointers) (rooms : ℕ → List ℕ) → badState store p ≡ false
+    → ((i : ℕ) → length (rooms i) ≡ limit)
     → SameAsRecords xs packets store (play packets rooms store p)
-unfolding play outcome isAccepted replyLength unlockAfter valuesRead storeAfter
-run-all _ _ Holds.none g store p rooms ok =
+unfolding play outcome answerTo isAccepted replyLength unlockAfter valuesRead storeAfter
+run-all _ _ Holds.none g store p rooms fine ok =
     record { accepted = refl; values = refl; bytes = refl; cells = λ i h. refl; unlock = λ i h k. refl }
-run-all _ _ (Holds.more {packet = packet} {packets = packets} {ss = ss} {xs = xs} {ys = ys} d m h) g store p rooms ok =
+run-all _ _ (Holds.more {packet = packet} {packets = packets} {ss = ss} {xs = xs} {ys = ys} d m h) g store p rooms fine ok =
     let gs = good-split xs ys g in
-    let room = good-room store p (rooms 0) (ok 0) in
-    let j = d .judged p (room .2) in
+    let state = good-state store p fine in
+    let j = d .judged p (state .1) in
     let q = j .0 .pointers in
     let left = storeAfter ss store in
     let done = storeAfter xs store in
     let n = length-cleared left ∙ length-after ss store in
-    let w : unlockCell + 2 ≤ length left = rw (length-after, room .0) (omega arith) in
+    let w : unlockCell + 2 ≤ length left = rw (length-after, state .0) (omega arith) in
     let one = invisible m (gs .0) store in
     let more = unseen (itself ys) (gs .1) done in
-    let again = room-again store (cleared left) p q n (j .3) in
-    let r = run-all packets ys h (gs .1) (cleared left) q (λ i. rooms (suc i)) (λ i. again (rooms (suc i)) (ok (suc i))) in
-    rw (run-accepted packet store p (rooms 0) (j .0) (ok 0) (d .short) (j .1), j .2)
+    let again = state-again store (cleared left) p q n (j .3) fine in
+    let r = run-all packets ys h (gs .1) (cleared left) q (λ i. rooms (suc i)) again (λ i. ok (suc i)) in
+    let count = rw (j .2) at (values-counted packet store p (j .0) fine (j .1)) in
+    rw (run-accepted packet store p (rooms 0) (j .0) fine (ok 0) (d .short) (j .1), j .2)
     (record {
       accepted = r .accepted;
-      values = rw (take-append-seam, values-read-append, more .0, r .values, one .0, one .1);
+      values = rw (← count, take-append-seam, values-read-append, more .0, r .values, one .0, one .1);
       bytes = r .bytes ∙ n;
       cells = λ i k. r .cells i k ∙ rw (one .1, ← more .1, store-after-append) (cleared-outside (storeAfter ys done) i k);
       unlock = λ i k l. r .unlock i k l ∙ rw (cleared-inside left i w k l) (unlock-zero packets);

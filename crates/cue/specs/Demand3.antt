@@ -9,7 +9,8 @@ use lib.ListN.{length, take, getD}
 use Rattle.lbp16.specs.Answer.{Answer}
 use Rattle.lbp16.specs.declared.pointer.Pointers.{Pointers}
 use Rattle.packet.specs.Step.{Step, storeAfter, valuesRead}
-use Rattle.card.specs.Run.{badRoom, unlockCell}
+use Rattle.packet.specs.Command.{limit}
+use Rattle.card.specs.Run.{badState, unlockCell}
 use Rattle.cue.specs.Records.{records, recordsOf}
 use Rattle.cue.specs.Output.{parts, apart}
 use Rattle.cue.specs.Compile.{compiled, packed}
@@ -36,12 +37,13 @@ pub record Replayed (list room : List ℕ) (bytes count : ℕ) : Type 0 where
   pub list-records : recordsOf list ≡ records xs
   pub packets : apart (take bytes (compiled list room .room)) ≡ parts (packed xs)
   pub packet-count : count ≡ length (packed xs)
-  pub same : (store : List ℕ) (p : Pointers) (rooms : ℕ → List ℕ) → ((i : ℕ) → badRoom store p (rooms i) ≡ false)
+  pub same : (store : List ℕ) (p : Pointers) (rooms : ℕ → List ℕ) → badState store p ≡ false
+      → ((i : ℕ) → length (rooms i) ≡ limit)
       → SameAsRecords xs (packed xs) store (play (packed xs) rooms store p)
 
 -- Of every accepted list: its output, the answered bytes at the front of the room, taken apart, is the packing rule's
--- packets, as many as were answered; and from every state that refusal 1 does not turn away, whatever the reply rooms
--- hold, running them is the same as doing the records one by one.
+-- packets, as many as were answered; and from every state that refusal 1 does not turn away, with reply rooms of 1,472
+-- bytes whatever they hold, running them is the same as doing the records one by one.
 abbrev pub Demand3 : List ℕ → List ℕ → Type 0
 Demand3 list room =
     (bytes count : ℕ) → compiled list room .answer ≡ Answer.accepted (bytes ∷ count ∷ []) → Replayed list room bytes count

@@ -2,7 +2,6 @@
 use crate::parts;
 use crate::text;
 use card::run;
-use card::run::RunAnswer;
 use card::spi;
 use card::spi::BurstAnswer;
 use card::spi::Header;
@@ -12,6 +11,7 @@ use lbp16::pointer::Pointers;
 use lbp16::word;
 use lbp16::word::Fields;
 use lbp16::word::Written;
+use packet::judge::Verdict;
 ghost use mathlib.Core.Path.{_≡_};
 ghost use Prim.Native.Nat.{_≤_, _^_};
 
@@ -144,14 +144,14 @@ fn accepted(n: u64, reply: &[u8]) {
 }
 
 // The bytes of the reply, none where the packet is refused.
-fn answered(answer: RunAnswer, reply: &[u8]) -> u64 {
+fn answered(answer: Verdict, reply: &[u8]) -> u64 {
     let mut bytes: u64 = 0;
     match answer {
-        RunAnswer::Accepted(n) => {
+        Verdict::Accepted(n) => {
             accepted(n, reply);
             bytes = n;
         }
-        RunAnswer::Refused(r) => refusal(r),
+        Verdict::Refused(r) => refusal(r),
     }
     text::say(b"\n");
     bytes

@@ -1,6 +1,6 @@
 -- Laws of what the exports return and leave, over plain lists.
 use Prim.Native.Nat.{ℕ, _+_, _≤_}
-use mathlib.Core.Path.{_≡_, ap, sym, _∙_}
+use mathlib.Core.Path.{_≡_, refl, ap, sym, _∙_}
 use mathlib.Core.Bool.{true, false}
 use mathlib.Core.List.{List, [], append-nil}
 use native.Mathlib.Omega.{arith}
@@ -12,8 +12,11 @@ use Rattle.lbp16.specs.Word.{fieldsOf, written, listed}
 use Rattle.lbp16.specs.declared.word.Fields.{Fields}
 use Rattle.lbp16.specs.declared.word.Written.{Written}
 use Rattle.lbp16.specs.declared.pointer.Pointers.{Pointers}
-use Rattle.card.specs.Run.{runPacket}
-use Rattle.head.specs.Exports.{numberOf, valueOf, pointerList, ofOutcome, pointersOf, exportRun, fieldBytes, fieldsFrom, exportFields, badFlags, exportWord}
+use Rattle.packet.specs.Verdict.{answerTo, verdictListed}
+use Rattle.packet.specs.declared.judge.Verdict.{Verdict}
+use Rattle.card.specs.Run.{checked, runPacket, ran}
+use Rattle.card.specs.declared.run.Ran.{Ran}
+use Rattle.head.specs.Exports.{numberOf, valueOf, given, exportCheck, runLeft, pointerList, ofOutcome, pointersOf, exportRun, fieldBytes, fieldsFrom, exportFields, badFlags, exportWord}
 
 -- stores to every place of a list leave the values stored
 pub stored-whole : (vs l : List ℕ) → length l ≡ length vs → sets l 0 vs ≡ vs
@@ -29,39 +32,37 @@ module _ (packet store pointers reply : List ℕ) where
   four h = rw (eq-eqb _ _ h)
 
   pub not-four : (length pointers ≡ 4 → ⊥)
-      → exportRun packet store pointers reply
-      ≡ record { number = 1; value = 0; store = store; pointers = pointers; reply = reply }
+      → runLeft 1 0 store pointers reply ≡ exportRun packet store pointers reply
   unfolding exportRun
   not-four h = rw (ne-eqb _ _ h)
 
-  -- what the call leaves where there are four pointers, from what the run leaves
-  pub ran : (p after : Pointers) (a : Answer) (number value : ℕ) (store′ pointers′ reply′ : List ℕ)
+  -- what the call leaves where there are four pointers, from what the run answers and leaves
+  pub ran-left : (p : Pointers) (r : Ran) (number value : ℕ) (store′ pointers′ reply′ : List ℕ)
       → length pointers ≡ 4
       → p ≡ pointersOf pointers
-      → a ≡ runPacket packet store p reply .answer
-      → after ≡ runPacket packet store p reply .pointers
-      → store′ ≡ runPacket packet store p reply .store
-      → reply′ ≡ runPacket packet store p reply .reply
-      → pointers′ ≡ pointerList after
-      → value ≡ valueOf a
-      → number ≡ numberOf a
-      → let x = exportRun packet store pointers reply in
-      (number ≡ x .number)
-      × ((value ≡ x .value) × ((store′ ≡ x .store) × ((pointers′ ≡ x .pointers) × (reply′ ≡ x .reply))))
-  unfolding ofOutcome
-  ran p after a number value store′ pointers′ reply′ count given said moved stored replied put v n =
-      let e : ofOutcome (runPacket packet store p reply) ≡ exportRun packet store pointers reply =
-      ap (λ q. ofOutcome (runPacket packet store q reply)) given ∙ sym (four count)
-      in (
-        n ∙ ap numberOf said ∙ ap (λ x. x .number) e,
-        (
-          v ∙ ap valueOf said ∙ ap (λ x. x .value) e,
-          (
-            stored ∙ ap (λ x. x .store) e,
-            (put ∙ ap pointerList moved ∙ ap (λ x. x .pointers) e, replied ∙ ap (λ x. x .reply) e),
-          ),
-        ),
-      )
+      → ran r store′ reply′ ≡ runPacket packet store p reply
+      → pointers′ ≡ pointerList (r .pointers)
+      → value ≡ valueOf (verdictListed (r .answer))
+      → number ≡ numberOf (verdictListed (r .answer))
+      → runLeft number value store′ pointers′ reply′ ≡ exportRun packet store pointers reply
+  unfolding ofOutcome ran
+  ran-left p r number value store′ pointers′ reply′ count given done put v n =
+      let e : ofOutcome (ran r store′ reply′) ≡ exportRun packet store pointers reply =
+      ap ofOutcome done ∙ ap (λ q. ofOutcome (runPacket packet store q reply)) given ∙ sym (four count)
+      in rw (put, v, n) e
+
+module _ (packet store pointers : List ℕ) where
+  pub check-four : (p : Pointers) (r : Verdict) (number value : ℕ) → length pointers ≡ 4 → p ≡ pointersOf pointers
+      → verdictListed r ≡ answerTo (checked packet store p)
+      → value ≡ valueOf (verdictListed r)
+      → number ≡ numberOf (verdictListed r)
+      → given number value ≡ exportCheck packet store pointers
+  unfolding exportCheck
+  check-four p r number value count is e v n = rw (eq-eqb _ _ count, ← is, ← e, v, n) refl
+
+  pub check-not-four : (length pointers ≡ 4 → ⊥) → given 1 0 ≡ exportCheck packet store pointers
+  unfolding exportCheck numberOf valueOf
+  check-not-four h = rw (ne-eqb _ _ h) refl
 
 module _ (word : ℕ) (fields : List ℕ) where
   pub seven : length fields ≡ 7

@@ -9,7 +9,8 @@ use Rattle.lbp16.specs.Word.{fieldsOf, bit, written}
 use Rattle.lbp16.specs.Pointer.{pointer}
 use Rattle.lbp16.specs.declared.word.Fields.{Fields}
 use Rattle.lbp16.specs.declared.pointer.Pointers.{Pointers}
-use Rattle.card.specs.Run.{Outcome, runPacket}
+use Rattle.packet.specs.Verdict.{answerTo}
+use Rattle.card.specs.Run.{checked, Outcome, runPacket}
 
 -- the number returned: the refusal's, 0 if accepted
 unfoldable pub numberOf : Answer → ℕ
@@ -42,6 +43,21 @@ pointersOf ps =
 unfoldable pub pointerList : Pointers → List ℕ
 pointerList p = p .registers .at ∷ p .eeprom .at ∷ p .status .at ∷ p .information .at ∷ []
 
+-- All that head_check returns and writes.
+pub record Given : Type 0 where
+  pub number : ℕ
+  pub value : ℕ
+
+abbrev pub given : ℕ → ℕ → Given
+given number value = record { number = number; value = value }
+
+-- Refused with 1 where there are not four pointers.
+unfoldable pub exportCheck : List ℕ → List ℕ → List ℕ → Given
+exportCheck packet store pointers =
+    let a =
+    cond (eqb (length pointers) 4) (answerTo (checked packet store (pointersOf pointers))) (refused 1 0) in
+    given (numberOf a) (valueOf a)
+
 -- All that head_run returns and leaves.
 pub record RunExport : Type 0 where
   pub number : ℕ
@@ -50,21 +66,19 @@ pub record RunExport : Type 0 where
   pub pointers : List ℕ
   pub reply : List ℕ
 
+abbrev pub runLeft : ℕ → ℕ → List ℕ → List ℕ → List ℕ → RunExport
+runLeft number value store pointers reply =
+    record { number = number; value = value; store = store; pointers = pointers; reply = reply }
+
 unfoldable pub ofOutcome : Outcome → RunExport
 ofOutcome o =
-    record {
-      number = numberOf (o .answer);
-      value = valueOf (o .answer);
-      store = o .store;
-      pointers = pointerList (o .pointers);
-      reply = o .reply;
-    }
+    runLeft (numberOf (o .answer)) (valueOf (o .answer)) (o .store) (pointerList (o .pointers)) (o .reply)
 
 -- Refused with 1 where there are not four pointers.
 unfoldable pub exportRun : List ℕ → List ℕ → List ℕ → List ℕ → RunExport
 exportRun packet store pointers reply =
     cond (eqb (length pointers) 4) (ofOutcome (runPacket packet store (pointersOf pointers) reply))
-    (record { number = 1; value = 0; store = store; pointers = pointers; reply = reply })
+    (runLeft 1 0 store pointers reply)
 
 -- A word's fields as seven bytes: write, address, info, space, size, increment, count. A flag is 0 or 1.
 unfoldable pub fieldBytes : Fields → List ℕ

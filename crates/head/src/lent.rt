@@ -1,14 +1,14 @@
 // What C lends as plain numbers: pointers and fields, there and back; and an answer as its number and its value.
-use card::run::RunAnswer;
 use card::spi::BurstAnswer;
 use cue::CompileAnswer;
 use lbp16::pointer::Pointer;
 use lbp16::pointer::Pointers;
 use lbp16::word::Fields;
+use packet::judge::Verdict;
 ghost use mathlib.Core.Path.{_≡_};
 ghost use lib.ListN.{length};
 ghost use Rattle.lbp16.specs.Word.{bit};
-ghost use Rattle.card.specs.Run.{runListed};
+ghost use Rattle.packet.specs.Verdict.{verdictListed};
 ghost use Rattle.card.specs.Spi.{burstListed};
 ghost use Rattle.cue.specs.Compile.{compileListed};
 ghost use Rattle.head.specs.Exports.{numberOf, valueOf, countOf, pointersOf, pointerList, fieldBytes, fieldsFrom, badFlags};
@@ -76,21 +76,21 @@ pub(crate) fn fields_from(bytes: &[u8]) -> Fields
     }
 }
 
-pub(crate) fn run_number(answer: RunAnswer) -> u32
-    ensures { λ r. ⌜ r ≡ numberOf (runListed answer) ⌝ }
+pub(crate) fn verdict_number(answer: Verdict) -> u32
+    ensures { λ r. ⌜ r ≡ numberOf (verdictListed answer) ⌝ }
 {
     match answer {
-        RunAnswer::Accepted(_) => 0,
-        RunAnswer::Refused(r) => r.number,
+        Verdict::Accepted(_) => 0,
+        Verdict::Refused(r) => r.number,
     }
 }
 
-pub(crate) fn run_value(answer: RunAnswer) -> u64
-    ensures { λ r. ⌜ r ≡ valueOf (runListed answer) ⌝ }
+pub(crate) fn verdict_value(answer: Verdict) -> u64
+    ensures { λ r. ⌜ r ≡ valueOf (verdictListed answer) ⌝ }
 {
     match answer {
-        RunAnswer::Accepted(n) => n,
-        RunAnswer::Refused(r) => r.place,
+        Verdict::Accepted(n) => n,
+        Verdict::Refused(r) => r.place,
     }
 }
 

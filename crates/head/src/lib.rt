@@ -1,6 +1,7 @@
 // What C programs call; include/head.h declares it. Each function returns the refusal's number, 0 if accepted.
 mod lent;
 
+use card::check;
 use card::run;
 use card::spi;
 use lbp16::word;
@@ -9,7 +10,23 @@ ghost use mathlib.Core.Path.{_≡_};
 ghost use Rattle.card.specs.Spi.{runBurst};
 ghost use Rattle.cue.specs.Compile.{compiled};
 ghost use Rattle.cue.specs.Demand3.{Demand3};
-ghost use Rattle.head.specs.Exports.{numberOf, valueOf, countOf, exportRun, exportFields, exportWord, wordLeft};
+ghost use Rattle.head.specs.Exports.{numberOf, valueOf, countOf, given, exportCheck, runLeft, exportRun, exportFields, exportWord, wordLeft};
+
+// Checks one packet: what a run of it would answer on this store and these pointers, with a reply room of 1,472 bytes.
+// `value` is the reply length, or the refusal's place.
+#[no_mangle]
+pub extern "C" fn head_check(packet: &[u8], store: &[u8], pointers: &[u32], value: &mut u64) -> u32
+    ensures { λ r. ⌜ given r (now (value .exit)) ≡ exportCheck (now (packet .entry)) (now (store .entry)) (now (pointers .entry)) ⌝ }
+{
+    if pointers.len() != 4 {
+        *value = 0;
+        return 1;
+    }
+    let p = lent::pointers_of(pointers);
+    let answer = check::check(packet, store, p);
+    *value = lent::verdict_value(answer);
+    lent::verdict_number(answer)
+}
 
 // Runs one packet. `pointers` are those of spaces 0, 2, 6 and 7; `value` is the reply length, or the refusal's place.
 #[no_mangle]
@@ -20,11 +37,7 @@ pub extern "C" fn head_run(
     reply: &mut [u8],
     value: &mut u64,
 ) -> u32
-    ensures numbered { λ r. ⌜ r ≡ exportRun (now (packet .entry)) (now (store .entry)) (now (pointers .entry)) (now (reply .entry)) .number ⌝ }
-    ensures valued { λ r. ⌜ now (value .exit) ≡ exportRun (now (packet .entry)) (now (store .entry)) (now (pointers .entry)) (now (reply .entry)) .value ⌝ }
-    ensures stored { λ r. ⌜ now (store .exit) ≡ exportRun (now (packet .entry)) (now (store .entry)) (now (pointers .entry)) (now (reply .entry)) .store ⌝ }
-    ensures pointed { λ r. ⌜ now (pointers .exit) ≡ exportRun (now (packet .entry)) (now (store .entry)) (now (pointers .entry)) (now (reply .entry)) .pointers ⌝ }
-    ensures replied { λ r. ⌜ now (reply .exit) ≡ exportRun (now (packet .entry)) (now (store .entry)) (now (pointers .entry)) (now (reply .entry)) .reply ⌝ }
+    ensures { λ r. ⌜ runLeft r (now (value .exit)) (now (store .exit)) (now (pointers .exit)) (now (reply .exit)) ≡ exportRun (now (packet .entry)) (now (store .entry)) (now (pointers .entry)) (now (reply .entry)) ⌝ }
 {
     if pointers.len() != 4 {
         *value = 0;
@@ -35,8 +48,8 @@ pub extern "C" fn head_run(
     let after = ran.pointers;
     lent::put_pointers(after, pointers);
     let answer = ran.answer;
-    *value = lent::run_value(answer);
-    lent::run_number(answer)
+    *value = lent::verdict_value(answer);
+    lent::verdict_number(answer)
 }
 
 // Runs one SPI burst on space 0. `value` is 0, or the refusal's place.

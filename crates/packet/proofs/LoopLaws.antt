@@ -6,6 +6,7 @@ use mathlib.Core.Bool.{Bool, true, false, cond}
 use native.Mathlib.Omega.{arith}
 use native.Mathlib.Nat.{le-refl}
 use lib.ListN.{length, take, drop, length-drop}
+use Rattle.lbp16.specs.Answer.{Answer}
 use Rattle.lbp16.specs.declared.word.Fields.{Fields}
 use Rattle.lbp16.specs.declared.pointer.Pointers.{Pointers}
 use Rattle.packet.specs.Step.{unlocked, replyBytes}
@@ -15,10 +16,9 @@ use Rattle.packet.specs.Command.{progressAfter, commandAt}
 use Rattle.packet.specs.Judge.{Carried, begin, carry, judgeFrom, judge, foundNext, verdictAt, accepted, refused}
 use Rattle.packet.specs.Judge
 use Rattle.packet.specs.Step.{Kind, read, write}
-use Rattle.packet.specs.Verdict.{start, progressOf, verdictOf, verdict}
+use Rattle.packet.specs.Verdict.{answerTo, start, progressOf}
 use Rattle.packet.specs.declared.command.Progress.{Progress}
 use Rattle.packet.specs.declared.command.Command.{Command}
-use Rattle.packet.specs.declared.judge.Verdict.the-variants.{Accepted, Refused}
 use Rattle.packet.proofs.SliceLaws.{tail-whole}
 use Rattle.packet.proofs.ElementLaws.{which-none}
 use Rattle.packet.proofs.StepLaws.{unlocked-append, reply-append}
@@ -52,8 +52,9 @@ at-end {c = c} [] s e = s .same ∙ judged-end (s .fuel) c
 at-end (b ∷ bs) s e = absurd (omega arith)
 
 pub verdict-end : {p : Pointers} {packet : List ℕ} {c : Carried} {g : Progress} {place : ℕ} (rest : List ℕ)
-    → At p packet c g place rest → length rest ≡ 0 → Accepted g ≡ verdict p packet
-unfolding verdict verdictOf
+    → At p packet c g place rest → length rest ≡ 0
+    → Answer.accepted (g .reply ∷ []) ≡ answerTo (judge p packet)
+unfolding answerTo progressOf
 verdict-end rest s e = rw (at-end rest s e, s .progress) refl
 
 -- the number that is found is the table's
@@ -100,8 +101,8 @@ module _ {p : Pointers} {packet : List ℕ} {c : Carried} {g : Progress} {place 
   number-at = number-found _ _
 
   pub at-refused : (n : ℕ) → n ≡ numberOf (commandAt g place rest .found .which) → (n ≡ 0 → ⊥)
-      → Refused (record { number = n; place = place }) ≡ verdict p packet
-  unfolding verdict verdictOf progressOf
+      → Answer.refused n place ≡ answerTo (judge p packet)
+  unfolding answerTo progressOf
   at-refused n e h =
       let q = rw (s .progress) at (e ∙ number-at) in
       rw (s .same, judged-refused (s .fuel) c rest n (s .enough) some q h, s .at) refl

@@ -4,11 +4,12 @@ use crate::command::Progress;
 use lbp16::Refusal;
 use lbp16::pointer::Pointers;
 ghost use mathlib.Core.Path.{_≡_};
-ghost use Rattle.packet.specs.Verdict.{start, verdict};
+ghost use Rattle.packet.specs.Judge.{judge};
+ghost use Rattle.packet.specs.Verdict.{answerTo, verdictListed, start};
 
+// The reply length, or the refusal.
 pub enum Verdict {
-    // The progress after the last command.
-    Accepted(Progress),
+    Accepted(u64),
     Refused(Refusal),
 }
 
@@ -23,9 +24,9 @@ pub fn begin(p: Pointers) -> Progress
     }
 }
 
-// The earliest command that is refused, or the progress after all.
+// The reply length, or the refusal of the earliest command that is refused.
 pub fn judge(packet: &[u8], p: Pointers) -> Verdict
-    ensures { λ r. ⌜ r ≡ verdict p (now (packet .entry)) ⌝ }
+    ensures { λ r. ⌜ verdictListed r ≡ answerTo (judge p (now (packet .entry))) ⌝ }
 {
     let mut at = begin(p);
     let mut place: usize = 0;
@@ -47,5 +48,5 @@ pub fn judge(packet: &[u8], p: Pointers) -> Verdict
         place += k;
         rest = &rest[k..];
     }
-    Verdict::Accepted(at)
+    Verdict::Accepted(at.reply as u64)
 }

@@ -26,15 +26,6 @@ loop-holds c = let p = c .before .before .before .before .pre in rw (c .begin .e
 command-at-requires : tie.Need-command-at-requires Inv-loop μ-loop
 command-at-requires c κs = search needs
 
-sub-do-command : tie.Need-sub-do-command Inv-loop μ-loop
-sub-do-command c = let b = c .before .before .before in ready (b .before .before .loop .inv) (b .before .loop-test .taken) _ (b .command-at .ensures) .used
-
-part-do-command-start : tie.Need-part-do-command-start Inv-loop μ-loop
-part-do-command-start c = let b = c .before .before .before in ready (b .before .before .loop .inv) (b .before .loop-test .taken) _ (b .command-at .ensures) .used
-
-part-do-command-end : tie.Need-part-do-command-end Inv-loop μ-loop
-part-do-command-end c = search needs
-
 do-command-requires : tie.Need-do-command-requires Inv-loop μ-loop
 do-command-requires c κs = let b = c .before .before .before .before in let r = ready (b .before .before .loop .inv) (b .before .loop-test .taken) _ (b .command-at .ensures) in (r .passed, r .which, r .store-bytes, r .room)
 
@@ -79,14 +70,14 @@ loop-again : tie.Need-loop-again Inv-loop μ-loop
 loop-again c = let b = c .before .before .before .before .before .before .before .before .before .before .before .before in doing-next (b .before .before .loop .inv) (b .before .loop-test .taken) _ (b .command-at .ensures) _ (c .before .before .command-bytes .ensures) _ _ (c .before .before .before .before .before .before .before .do-command .ensures .0) (c .before .before .before .before .before .before .before .do-command .ensures .1) .1
 
 same-length : tie.Need-same-length Inv-loop μ-loop
-same-length c = length-store (c .before .loop .inv)
+same-length c = length-store (c .before .before .loop .inv)
 
 same-length-2 : tie.Need-same-length-2 Inv-loop μ-loop
-same-length-2 c = length-reply (c .before .loop .inv) ∙ sym (c .before .loop .inv .reply-bytes)
+same-length-2 c = length-reply (c .before .before .loop .inv) ∙ sym (c .before .before .loop .inv .reply-bytes)
 
 returns : tie.Need-returns Inv-loop μ-loop
 unfolding start
-returns c = rw (ap (λ g. g .pointers) (c .before .before .begin .ensures)) at (doing-end (c .before .loop .inv) (omega arith))
+returns c = rw (ap (λ g. g .pointers) (c .before .before .before .begin .ensures)) at (doing-end (c .before .before .loop .inv) (omega arith))
 
 pub perform-spec : {M : Type 1} → statement M
 perform-spec =
@@ -97,9 +88,6 @@ perform-spec =
     begin-requires
     loop-holds
     command-at-requires
-    sub-do-command
-    part-do-command-start
-    part-do-command-end
     do-command-requires
     command-bytes-requires
     add-place

@@ -5,8 +5,8 @@ use borrow.Author.Needs.{needs}
 use mathlib.Core.Path.{ap, _∙_}
 use lib.ListN.{length}
 use Rattle.packet.specs.Command.{numberOf}
-use Rattle.packet.specs.Judge.{Carried}
-use Rattle.packet.specs.Verdict.{start, verdict}
+use Rattle.packet.specs.Judge.{Carried, judge}
+use Rattle.packet.specs.Verdict.{start, answerTo, verdictListed}
 use Rattle.packet.specs.declared.command.Command.{Command}
 use Rattle.packet.proofs.LoopLaws.{At, at-begin, verdict-end, at-refused, Turn, at-step}
 use lib.ListN.{length-take, length-drop}
@@ -31,8 +31,8 @@ number-of-requires : tie.Need-number-of-requires Inv-loop μ-loop
 number-of-requires c κs = search needs
 
 returns : tie.Need-returns Inv-loop μ-loop
-unfolding start
-returns c = let b = c .before .before .before in let q = ap (λ g. g .pointers) (b .before .before .before .begin .ensures) in at-refused _ (b .before .before .loop .inv .1) (b .before .loop-test .taken) _ (c .before .number-of .ensures ∙ ap (λ (d : Command). numberOf (d .found .which)) (b .command-at .ensures)) (c .if1 .taken) ∙ ap (λ p. verdict p (c .before .before .before .before .before .before .before .before .args .packet .now)) q
+unfolding start verdictListed
+returns c = let b = c .before .before .before in let q = ap (λ g. g .pointers) (b .before .before .before .begin .ensures) in at-refused _ (b .before .before .loop .inv .1) (b .before .loop-test .taken) _ (c .before .number-of .ensures ∙ ap (λ (d : Command). numberOf (d .found .which)) (b .command-at .ensures)) (c .if1 .taken) ∙ ap (λ p. answerTo (judge p (c .before .before .before .before .before .before .before .before .args .packet .now))) q
 
 command-bytes-requires : tie.Need-command-bytes-requires Inv-loop μ-loop
 command-bytes-requires c κs = search needs
@@ -72,8 +72,8 @@ loop-again : tie.Need-loop-again Inv-loop μ-loop
 loop-again c = (_, step (c .before) .again)
 
 returns-2 : tie.Need-returns-2 Inv-loop μ-loop
-unfolding start
-returns-2 c = let q = ap (λ g. g .pointers) (c .before .before .begin .ensures) in verdict-end _ (c .before .loop .inv .1) (omega arith) ∙ ap (λ p. verdict p (c .before .before .before .before .args .packet .now)) q
+unfolding start verdictListed
+returns-2 c = let q = ap (λ g. g .pointers) (c .before .before .begin .ensures) in verdict-end _ (c .before .loop .inv .1) (omega arith) ∙ ap (λ p. answerTo (judge p (c .before .before .before .before .args .packet .now))) q
 
 pub judge-spec : {M : Type 1} → statement M
 judge-spec =

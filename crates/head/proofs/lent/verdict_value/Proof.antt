@@ -1,7 +1,7 @@
 use borrow.Author.Needs.{needs}
-use Rattle.head.proofs.lent.run_value.Statement.{statement}
-use Rattle.head.proofs.lent.run_value.Tie as tie
-use Rattle.card.specs.Run.{runListed}
+use Rattle.head.proofs.lent.verdict_value.Statement.{statement}
+use Rattle.head.proofs.lent.verdict_value.Tie as tie
+use Rattle.packet.specs.Verdict.{verdictListed}
 use Rattle.head.specs.Exports.{valueOf}
 
 enum-known-answer : tie.Need-enum-known-answer
@@ -11,12 +11,12 @@ enum-known-answer-2 : tie.Need-enum-known-answer-2
 enum-known-answer-2 c = search needs
 
 returns : tie.Need-returns
-unfolding valueOf runListed
+unfolding valueOf verdictListed
 returns c = rw (c .before .answer .given .1)
 
 returns-2 : tie.Need-returns-2
-unfolding valueOf runListed
+unfolding valueOf verdictListed
 returns-2 c = rw (c .before .answer2 .given .1)
 
-pub run-value-spec : {M : Type 1} → statement M
-run-value-spec = tie.close (tie.spec enum-known-answer enum-known-answer-2 returns returns-2)
+pub verdict-value-spec : {M : Type 1} → statement M
+verdict-value-spec = tie.close (tie.spec enum-known-answer enum-known-answer-2 returns returns-2)
