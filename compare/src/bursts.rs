@@ -3,7 +3,7 @@
 use crate::lent::Lent;
 use crate::rng::Rng;
 use crate::tally::Tally;
-use crate::{numbers, same_answer, same_input, Answer, Outcome};
+use crate::{numbers, same_answer, same_input, wrapped, Answer, Outcome};
 use head::exports;
 use model::spi::{burst, Header};
 use model::store::STORE_BYTES;
@@ -106,10 +106,8 @@ impl Part {
         if self.rng.one_in(8) {
             let (library_store, _) = self.store.lend(store_bytes);
             let (library_answer, _) = self.answer.lend(answer_words);
-            let answer = match head::spi(words, library_store, library_answer) {
-                Ok(()) => (0, 0),
-                Err(refusal) => (refusal.number, refusal.place),
-            };
+            let answer = head::spi(words, library_store, library_answer);
+            let answer = wrapped(&answer, |()| 0);
             self.equal(answer, expected).map_err(context)?;
         }
         self.store.keep();

@@ -59,13 +59,13 @@ impl<T: Copy + PartialEq + std::fmt::Debug> Lent<T> {
         self.model.copy_from_slice(&self.before);
     }
 
-    /// Compares all of it after a call. A refused call must have changed nothing.
-    pub fn compare(&mut self, refused: bool) -> Result<(), String> {
+    /// Compares all of it after a call. A check or a refused call must have left it unchanged.
+    pub fn compare(&mut self, unchanged: bool) -> Result<(), String> {
         if self.library != self.model {
             return Err(self.difference(&self.model, "the implementation has"));
         }
-        if refused && self.library != self.before {
-            return Err(self.difference(&self.before, "before the refused call it was"));
+        if unchanged && self.library != self.before {
+            return Err(self.difference(&self.before, "and must have left"));
         }
         Ok(())
     }

@@ -31,6 +31,14 @@ pub fn numbers<T>(result: &Result<T, model::Refusal>, value: impl Fn(&T) -> u64)
     }
 }
 
+/// The wrapper's answer in the same form.
+pub fn wrapped<T>(result: &Result<T, head::Refusal>, value: impl Fn(&T) -> u64) -> Answer {
+    match result {
+        Ok(accepted) => (0, value(accepted)),
+        Err(refusal) => (refusal.number, refusal.place),
+    }
+}
+
 pub fn same_answer(answer: Answer, expected: Answer) -> Result<(), String> {
     if answer == expected {
         return Ok(());

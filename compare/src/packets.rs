@@ -1,11 +1,12 @@
-//! Compares packets run on a card whose store and pointers are carried from one to the next.
+//! Compares packets checked and then run on a card whose store and pointers are carried from one to
+//! the next.
 
 use crate::drafts;
 use crate::lent::Lent;
 use crate::rng::Rng;
 use crate::tally::Tally;
-use crate::{hex, numbers, same_answer, same_input, Answer, Outcome};
-use model::packet::run;
+use crate::{hex, numbers, same_answer, same_input, wrapped, Answer, Outcome};
+use model::packet::{check, run};
 use model::store::{Space, STORE_BYTES, UNLOCK_ADDRESS, UNLOCK_VALUE};
 use model::PACKET_BYTES;
 
@@ -43,6 +44,9 @@ const POINTER_AT_END: &str = "pointer moved to its space's end";
 const POINTER_ODD: &str = "packet accepted beside a misaligned pointer";
 const TOO_LONG_BY_ONE: &str = "packet of 1,473 bytes refused";
 const HUGE_POINTER: &str = "pointer of 4,294,967,295 refused";
+const CHECK_SITUATIONS: [&str; 2] = [ACCEPTED_BUT_ROOM, REFUSED_AFTER_ROOM];
+const ACCEPTED_BUT_ROOM: &str = "accepted, and run with a wrong reply room";
+const REFUSED_AFTER_ROOM: &str = "refused above 1, and run with a wrong reply room";
 /// Numbers 3 to 12 at a command that isn't the first.
 const LATER: [&str; 10] = [
     "refused 3 past the first command",
@@ -64,6 +68,7 @@ pub fn compare(seed: u64, count: u64) -> Outcome {
         pointers: Lent::new("pointers", 4, 0),
         reply: Lent::new("reply", PACKET_BYTES, 0),
         tally: Tally::new("packets", &ENDINGS, &SITUATIONS),
+        checks: Tally::new("checks", &ENDINGS, &CHECK_SITUATIONS),
     };
     for case in 0..count {
         if case % 4_096 == 0 {
@@ -73,7 +78,7 @@ pub fn compare(seed: u64, count: u64) -> Outcome {
         let result = part.case();
         result.map_err(|what| format!("packet {case}: {what}"))?;
     }
-    Ok(vec![part.tally])
+    Ok(vec![part.checks, part.tally])
 }
 
 struct Part {
@@ -82,6 +87,7 @@ struct Part {
     pointers: Lent<u32>,
     reply: Lent<u8>,
     tally: Tally,
+    checks: Tally,
 }
 
 /// The lengths of what is lent.
@@ -100,11 +106,14 @@ impl Part {
         let rooms = self.rooms();
         let rng = &mut self.rng;
         self.reply.change(|reply| rng.fill(reply));
-        let expected = self.call(&packet, &rooms)?;
-        self.count(&packet, expected);
+        let (checked, ran) = self
+            .check_and_run(&packet, &rooms)
+            .map_err(|what| self.describe(&what, &packet, &rooms))?;
+        self.count_check(checked, &rooms);
+        self.count(&packet, ran);
 
-        // A refused pointer is only good for one call.
-        let pointers = match expected.0 {
+        // A refused pointer is only good for one case.
+        let pointers = match ran.0 {
             0 => self.card_pointers(),
             _ => pointers,
         };
@@ -113,29 +122,52 @@ impl Part {
         Ok(())
     }
 
-    /// Gives the packet to both, compares, and answers what both answered.
-    fn call(&mut self, packet: &[u8], rooms: &Rooms) -> Result<Answer, String> {
+    /// Answers what both sides answered to the check and to the run.
+    fn check_and_run(&mut self, packet: &[u8], rooms: &Rooms) -> Result<(Answer, Answer), String> {
+        let checked = self.check(packet, rooms)?;
+        let ran = self.run(packet, rooms)?;
+        let answer = match rooms.reply {
+            PACKET_BYTES => checked,
+            _ => (1, 0),
+        };
+        same_answer(ran, answer).map_err(|what| format!("run after its check: {what}"))?;
+        Ok((checked, ran))
+    }
+
+    fn check(&mut self, packet: &[u8], rooms: &Rooms) -> Result<Answer, String> {
+        let (library_store, model_store) = self.store.lend(rooms.store);
+        let (library_pointers, model_pointers) = self.pointers.lend(rooms.pointers);
+        let lent = packet.to_vec();
+        let answer = head::check(&lent, library_store, library_pointers);
+        let expected = check(packet, model_store, model_pointers);
+        let expected = numbers(&expected, |&length| length as u64);
+        let answer = wrapped(&answer, |&length| length as u64);
+        same_answer(answer, expected)
+            .and_then(|()| same_input(&lent, packet))
+            .and_then(|()| self.compare(true))
+            .map_err(|what| format!("check: {what}"))?;
+        Ok(expected)
+    }
+
+    fn run(&mut self, packet: &[u8], rooms: &Rooms) -> Result<Answer, String> {
         let (library_store, model_store) = self.store.lend(rooms.store);
         let (library_pointers, model_pointers) = self.pointers.lend(rooms.pointers);
         let (library_reply, model_reply) = self.reply.lend(rooms.reply);
         let lent = packet.to_vec();
-        let answer = match head::run(&lent, library_store, library_pointers, library_reply) {
-            Ok(length) => (0, length as u64),
-            Err(refusal) => (refusal.number, refusal.place),
-        };
-        let result = run(packet, model_store, model_pointers, model_reply);
-        let expected = numbers(&result, |&length| length as u64);
-        let same = same_answer(answer, expected)
-            .and_then(|()| same_input(&lent, packet))
-            .and_then(|()| self.compare(expected.0 != 0));
-        same.map_err(|what| self.describe(&what, packet, rooms))?;
+        let answer = head::run(&lent, library_store, library_pointers, library_reply);
+        let expected = run(packet, model_store, model_pointers, model_reply);
+        let expected = numbers(&expected, |&length| length as u64);
+        let answer = wrapped(&answer, |&length| length as u64);
+        same_answer(answer, expected)?;
+        same_input(&lent, packet)?;
+        self.compare(expected.0 != 0)?;
         Ok(expected)
     }
 
-    fn compare(&mut self, refused: bool) -> Result<(), String> {
-        self.store.compare(refused)?;
-        self.pointers.compare(refused)?;
-        self.reply.compare(refused)
+    fn compare(&mut self, unchanged: bool) -> Result<(), String> {
+        self.store.compare(unchanged)?;
+        self.pointers.compare(unchanged)?;
+        self.reply.compare(unchanged)
     }
 
     fn describe(&self, what: &str, packet: &[u8], rooms: &Rooms) -> String {
@@ -222,6 +254,14 @@ impl Part {
             }
         }
         rooms
+    }
+
+    fn count_check(&mut self, (number, _): Answer, rooms: &Rooms) {
+        let wrong_room = rooms.reply != PACKET_BYTES;
+        let checks = &mut self.checks;
+        checks.ending(number);
+        checks.situation(ACCEPTED_BUT_ROOM, wrong_room && number == 0);
+        checks.situation(REFUSED_AFTER_ROOM, wrong_room && number > 1);
     }
 
     fn count(&mut self, packet: &[u8], (number, value): Answer) {

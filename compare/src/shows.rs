@@ -78,15 +78,19 @@ fn compiled(list: &[u8]) -> Result<Vec<u8>, String> {
     Ok(out)
 }
 
-/// Runs the packets from random pointers and joins the replies.
+/// Checks and runs the packets from random pointers and joins the replies.
 fn run_all(rng: &mut Rng, packets: &[&[u8]], store: &mut [u8]) -> Result<Vec<u8>, String> {
     let mut pointers = Space::ALL.map(|space| rng.below(space.bytes() as usize + 1) as u32);
     let mut reply = [0; PACKET_BYTES];
     let mut replies = Vec::new();
     for (number, packet) in packets.iter().enumerate() {
         rng.fill(&mut reply);
-        let length = head::run(packet, store, &mut pointers, &mut reply)
-            .map_err(|refusal| format!("packet {number} {refusal}"))?;
+        let checked = head::check(packet, store, &pointers);
+        let ran = head::run(packet, store, &mut pointers, &mut reply);
+        if ran != checked {
+            return Err(format!("packet {number}: run {ran:?}, check {checked:?}"));
+        }
+        let length = ran.map_err(|refusal| format!("packet {number} {refusal}"))?;
         let answered = reply.get(..length).ok_or("a reply longer than its room")?;
         replies.extend_from_slice(answered);
     }

@@ -11,6 +11,7 @@
 //!
 //! // Write 0x12345678 to register 0x1000, then read it back.
 //! let packet = [0x81, 0xC2, 0x00, 0x10, 0x78, 0x56, 0x34, 0x12, 0x81, 0x42, 0x00, 0x10];
+//! assert_eq!(head::check(&packet, &store, &pointers)?, 4);
 //! let length = head::run(&packet, &mut store, &mut pointers, &mut reply)?;
 //! assert_eq!(reply[..length], [0x78, 0x56, 0x34, 0x12]);
 //!
@@ -71,12 +72,21 @@ pub struct Compiled {
     pub packets: u64,
 }
 
+/// Checks one packet against a card's state and answers the length that its reply would have.
+///
+/// `store` must have [`STORE_BYTES`]. `pointers` are the address pointers of spaces 0, 2, 6 and 7,
+/// none above its space's size; a fresh card's are 0. Nothing is changed.
+pub fn check(packet: &[u8], store: &[u8], pointers: &[u32]) -> Result<usize, Refusal> {
+    let (number, value) = exports::check(packet, store, pointers);
+    accepted(number, value)?;
+    Ok(value as usize)
+}
+
 /// Runs one packet on a card and answers the reply's length.
 ///
-/// `store` must have [`STORE_BYTES`] and `reply` [`PACKET_BYTES`]. `pointers` are the address
-/// pointers of spaces 0, 2, 6 and 7, none above its space's size; a fresh card's are 0. Store and
-/// pointers are what the next packet starts from. The reply beyond the answered length is left as
-/// it was.
+/// What [`check`] refuses in the state that the run starts from is refused alike; it need not have
+/// been called. `store` and `pointers` are as there, and are what the next packet starts from.
+/// `reply` must have [`PACKET_BYTES`]; beyond the answered length it is left as it was.
 pub fn run(
     packet: &[u8],
     store: &mut [u8],
@@ -179,6 +189,24 @@ pub mod exports {
     const UNWRITTEN: u64 = u64::MAX;
 
     /// Answers the refusal number, and the reply's length or the place.
+    pub fn check(packet: &[u8], store: &[u8], pointers: &[u32]) -> (u32, u64) {
+        let mut value = UNWRITTEN;
+        // SAFETY: each pointer and length is a slice's, and the library uses no byte beyond.
+        let number = unsafe {
+            c::head_check(
+                packet.as_ptr(),
+                packet.len(),
+                store.as_ptr(),
+                store.len(),
+                pointers.as_ptr(),
+                pointers.len(),
+                &mut value,
+            )
+        };
+        (number, value)
+    }
+
+    /// Answers the refusal number, and the reply's length or the place.
     pub fn run(
         packet: &[u8],
         store: &mut [u8],
@@ -186,7 +214,7 @@ pub mod exports {
         reply: &mut [u8],
     ) -> (u32, u64) {
         let mut value = UNWRITTEN;
-        // SAFETY: each pointer and length is a slice's, and the library uses no byte beyond.
+        // SAFETY: as in `check`.
         let number = unsafe {
             c::head_run(
                 packet.as_ptr(),
@@ -206,7 +234,7 @@ pub mod exports {
     /// Answers the refusal number, and 0 or the place.
     pub fn spi(words: &[u32], store: &mut [u8], answer: &mut [u32]) -> (u32, u64) {
         let mut value = UNWRITTEN;
-        // SAFETY: as in `run`.
+        // SAFETY: as in `check`.
         let number = unsafe {
             c::head_spi(
                 words.as_ptr(),
@@ -226,7 +254,7 @@ pub mod exports {
     pub fn compile(list: &[u8], out: &mut [u8]) -> (u32, u64, u64) {
         let mut bytes = UNWRITTEN;
         let mut packets = UNWRITTEN;
-        // SAFETY: as in `run`.
+        // SAFETY: as in `check`.
         let number = unsafe {
             c::head_compile(
                 list.as_ptr(),
@@ -243,13 +271,13 @@ pub mod exports {
     /// Writes 7 bytes: write, address, info, space, size, increment, count. A slice of another
     /// length is refused with 13 and left alone.
     pub fn fields(word: u16, fields: &mut [u8]) -> u32 {
-        // SAFETY: as in `run`.
+        // SAFETY: as in `check`.
         unsafe { c::head_fields(word, fields.as_mut_ptr(), fields.len()) }
     }
 
     /// Puts the word of these 7 bytes together. Where that is refused, `word` is left alone.
     pub fn word(fields: &[u8], word: &mut u16) -> u32 {
-        // SAFETY: as in `run`.
+        // SAFETY: as in `check`.
         unsafe { c::head_word(fields.as_ptr(), fields.len(), word) }
     }
 }
@@ -257,6 +285,16 @@ pub mod exports {
 /// The declarations that `include/head.h` gives for C.
 mod c {
     extern "C" {
+        pub fn head_check(
+            packet: *const u8,
+            packet_len: usize,
+            store: *const u8,
+            store_len: usize,
+            pointers: *const u32,
+            pointers_len: usize,
+            value: *mut u64,
+        ) -> u32;
+
         pub fn head_run(
             packet: *const u8,
             packet_len: usize,

@@ -8,14 +8,13 @@ fn refused_packet_changes_nothing() {
     let mut pointers = [0; 4];
     let mut reply = [0xEE; PACKET_BYTES];
     let packet = [0x81, 0x42, 0xFC, 0xFF, 0x81, 0x02];
+    let refused = Err(Refusal {
+        number: 8,
+        place: 4,
+    });
+    assert_eq!(head::check(&packet, &store, &pointers), refused);
     let answer = head::run(&packet, &mut store, &mut pointers, &mut reply);
-    assert_eq!(
-        answer,
-        Err(Refusal {
-            number: 8,
-            place: 4
-        })
-    );
+    assert_eq!(answer, refused);
     assert!(store.iter().all(|&byte| byte == 0xEE));
     assert_eq!(pointers, [0; 4]);
     assert_eq!(reply, [0xEE; PACKET_BYTES]);
@@ -27,11 +26,37 @@ fn pointers_carry_on() {
     let mut pointers = [0; 4];
     let mut reply = [0xEE; PACKET_BYTES];
     for first in [0, 4] {
+        assert_eq!(head::check(&[0x81, 0x02], &store, &pointers), Ok(4));
         let answer = head::run(&[0x81, 0x02], &mut store, &mut pointers, &mut reply);
         assert_eq!(answer, Ok(4));
         assert_eq!(reply[..5], [first, first + 1, first + 2, first + 3, 0xEE]);
     }
     assert_eq!(pointers, [8, 0, 0, 0]);
+}
+
+#[test]
+fn check_changes_nothing() {
+    let store = vec![0xEE; STORE_BYTES];
+    let pointers = [0xFFFC, 0, 0, 0];
+    // An unlock, an EEPROM write and a read of two elements.
+    let packet = [
+        0x01, 0xD9, 0x1A, 0x00, 0x02, 0x5A, 0x81, 0xC9, 0x20, 0x00, 9, 8, 0x82, 0x49, 0x20, 0x00,
+    ];
+    assert_eq!(head::check(&packet, &store, &pointers), Ok(4));
+    assert!(store.iter().all(|&byte| byte == 0xEE));
+    assert_eq!(pointers, [0xFFFC, 0, 0, 0]);
+}
+
+#[test]
+fn wrong_reply_room_is_refused_by_the_run_alone() {
+    let mut store = vec![0; STORE_BYTES];
+    let mut pointers = [0; 4];
+    let mut reply = [0; PACKET_BYTES - 1];
+    let packet = [0; PACKET_BYTES + 1];
+    let refused = |number| Err(Refusal { number, place: 0 });
+    assert_eq!(head::check(&packet, &store, &pointers), refused(2));
+    let answer = head::run(&packet, &mut store, &mut pointers, &mut reply);
+    assert_eq!(answer, refused(1));
 }
 
 #[test]

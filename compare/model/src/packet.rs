@@ -1,34 +1,35 @@
-//! Running one packet on a card store.
+//! Checking one packet, and running it on a card store.
 
 use crate::store::{Space, STORE_BYTES, UNLOCK_ADDRESS, UNLOCK_VALUE};
 use crate::words::Fields;
 use crate::{Refusal, PACKET_BYTES};
 use std::ops::Range;
 
-/// Runs a packet and answers the reply's length.
+/// Checks a packet and answers the length that its reply would have.
 ///
 /// `pointers` are those of spaces 0, 2, 6 and 7, in this order.
+pub fn check(packet: &[u8], store: &[u8], pointers: &[u32]) -> Result<usize, Refusal> {
+    let mut walk = start(packet, store, pointers)?;
+    while !walk.at_end() {
+        walk.command()?;
+    }
+    Ok(walk.replied)
+}
+
+/// Runs a packet and answers the reply's length. It refuses what the check refuses, and a wrong
+/// reply room.
 pub fn run(
     packet: &[u8],
     store: &mut [u8],
     pointers: &mut [u32],
     reply: &mut [u8],
 ) -> Result<usize, Refusal> {
-    let rooms_fit = store.len() == STORE_BYTES && reply.len() == PACKET_BYTES;
-    let start = match checked_pointers(pointers) {
-        Some(start) if rooms_fit => start,
-        _ => return Err(Refusal::whole(1)),
-    };
-    if packet.len() > PACKET_BYTES {
-        return Err(Refusal::whole(2));
+    if reply.len() != PACKET_BYTES {
+        return Err(Refusal::whole(1));
     }
+    check(packet, store, pointers)?;
 
-    let mut check = Walk::new(packet, start);
-    while !check.at_end() {
-        check.command()?;
-    }
-
-    let mut walk = Walk::new(packet, start);
+    let mut walk = start(packet, store, pointers)?;
     let mut replied = 0;
     while !walk.at_end() {
         let command = walk.command()?;
@@ -38,6 +39,18 @@ pub fn run(
     store[unlock..unlock + 2].fill(0);
     pointers.copy_from_slice(&walk.pointers);
     Ok(replied)
+}
+
+/// A walk from the packet's first command, unless 1 or 2 refuses it.
+fn start<'a>(packet: &'a [u8], store: &[u8], pointers: &[u32]) -> Result<Walk<'a>, Refusal> {
+    let pointers = match checked_pointers(pointers) {
+        Some(pointers) if store.len() == STORE_BYTES => pointers,
+        _ => return Err(Refusal::whole(1)),
+    };
+    if packet.len() > PACKET_BYTES {
+        return Err(Refusal::whole(2));
+    }
+    Ok(Walk::new(packet, pointers))
 }
 
 /// The pointers, if there are four and each is at most its space's size.

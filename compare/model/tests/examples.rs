@@ -1,6 +1,6 @@
 //! The worked examples of the scope document, in its order, and those of the requests after it.
 
-use model::packet::run;
+use model::packet::{check, run};
 use model::packing::{compile, Compiled};
 use model::spi::{burst, Header};
 use model::store::STORE_BYTES;
@@ -43,6 +43,10 @@ impl Card {
         }
     }
 
+    fn check(&self, packet: &[u8]) -> Result<usize, Refusal> {
+        check(packet, &self.store, &self.pointers)
+    }
+
     fn run(&mut self, packet: &[u8]) -> Result<usize, Refusal> {
         run(packet, &mut self.store, &mut self.pointers, &mut self.reply)
     }
@@ -50,6 +54,7 @@ impl Card {
     /// Runs a packet that must be refused and change nothing.
     fn refuses(packet: &[u8], number: u32, place: u64) {
         let mut card = Card::new();
+        assert_eq!(card.check(packet), Err(Refusal { number, place }));
         assert_eq!(card.run(packet), Err(Refusal { number, place }));
         let fresh = Card::new();
         assert!(card.store == fresh.store);
@@ -346,4 +351,27 @@ fn bursts_with_a_word_too_many_or_a_promise_past_the_end() {
     // Two registers are promised from 0xFFFC, and one came.
     refuses(&[0xFFFC_B820, 1], 35);
     refuses(&[0xFFFC_B820, 1, 2, 3], 34);
+}
+
+#[test]
+fn the_run_answers_as_the_check() {
+    let mut card = Card::new();
+    // From the last register on: good once, past the end the second time.
+    let packet = [0x81, 0x02];
+    card.pointers[0] = 0xFFFC;
+    assert_eq!(card.check(&packet), Ok(4));
+    assert_eq!(card.run(&packet), Ok(4));
+    let refusal = Err(Refusal::whole(8));
+    assert_eq!(card.check(&packet), refusal);
+    assert_eq!(card.run(&packet), refusal);
+}
+
+#[test]
+fn a_wrong_reply_room_is_refused_by_the_run_alone() {
+    let mut card = Card::new();
+    card.reply.pop();
+    assert_eq!(card.check(&[0x81, 0x02]), Ok(4));
+    assert_eq!(card.run(&[0x81, 0x02]), Err(Refusal::whole(1)));
+    assert_eq!(card.check(&[0; 1_473]), Err(Refusal::whole(2)));
+    assert_eq!(card.run(&[0; 1_473]), Err(Refusal::whole(1)));
 }
