@@ -63,7 +63,9 @@ uint32_t head_check(const uint8_t *packet, size_t packet_length,
  *   value     takes the reply length in bytes, or the refusal's place
  *
  * Accepted: returns 0. The elements read stand at the front of the reply, low byte first, and its other bytes are
- * unchanged. Store and pointers are as the commands leave them, and the unlock cell (0x1A of space 6) is 0.
+ * unchanged. Store and pointers are as the commands leave them, but the unlock cell (0x1A of space 6) is 0, and the packet
+ * count (0x0A of space 6) is one more than the commands leave there, 0 after 65,535. A command may read or write the
+ * count like any cell. A refused packet does not count.
  * Refused: the place is the offset of the command's first byte in the packet, but 0 for 1 and 2.
  *
  *    1  store not 65,728 bytes, reply not 1,472 bytes, not 4 pointers, or a pointer above its space's size
@@ -137,12 +139,13 @@ uint32_t head_word(const uint8_t *fields, size_t fields_length, uint16_t *word);
  * same, and a 32-bit value, low byte first, whose upper half is 0 in a space of 2-byte elements. At most 100,000 records.
  * Accepted: returns 0. Before each packet stand the mark "LB" (4C 42) and its length, 2 bytes, low byte first; out beyond the
  * output is unchanged. Running the packets in order with head_run reads the values and leaves the cells that doing the
- * records one by one would, the unlock cell apart. Twice the list's length is always room enough.
+ * records one by one would, the unlock cell and the packet count apart; the count rises by the number of packets. Twice the list's length is always room enough.
  * Refused: the place is the record's index from 0, but the bytes needed for 26.
  *
  *   21  100,000 records read and bytes remain
  *   22  mark unknown, or record cut
- *   23  space not 0, 2, 6 or 7; address misaligned or past the end; write to space 7 or to space 2 below 0x20; the unlock cell
+ *   23  space not 0, 2, 6 or 7; address misaligned or past the end; write to space 7 or to space 2 below 0x20; the unlock
+ *       cell (0x1A of space 6) or the packet count (0x0A of space 6), also if only read
  *   24  spare byte not 0, or upper half of a value not 0 in a space of 2-byte elements
  *   26  list good, out_length below the bytes needed
  */

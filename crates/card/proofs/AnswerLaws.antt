@@ -13,7 +13,7 @@ use Rattle.packet.specs.Command.{limit}
 use Rattle.packet.specs.Judge.{Verdict, judge, accepted, refused}
 use Rattle.packet.specs.Verdict.{answerTo, verdictListed}
 use Rattle.packet.specs.declared.judge.Verdict as code
-use Rattle.card.specs.Run.{Outcome, cleared, badState, checked, outcome, runVerdict, runPacket, ran}
+use Rattle.card.specs.Run.{Outcome, cleared, counted, badState, checked, outcome, runVerdict, runPacket, ran}
 use Rattle.card.specs.Inside.{IsAccepted, Performed}
 use Rattle.card.specs.declared.run.Ran.{Ran}
 use Rattle.card.proofs.RunLaws.{checked-cases, run-checked, good-state}
@@ -66,7 +66,7 @@ module _ (packet store : List ℕ) (p : Pointers) where
 
       pub run-done : (n : ℕ) (r : Ran) (left reply′ : List ℕ) → verdictListed (r .answer) ≡ Answer.accepted (n ∷ [])
           → Answer.accepted (n ∷ []) ≡ answerTo (checked packet store p)
-          → Performed packet store reply p left reply′ (r .pointers) → (store′ : List ℕ) → store′ ≡ cleared left
+          → Performed packet store reply p left reply′ (r .pointers) → (store′ : List ℕ) → store′ ≡ counted (cleared left)
           → ran r store′ reply′ ≡ runPacket packet store p reply
       unfolding ran outcome
       run-done n r left reply′ a e d store′ q =

@@ -1,14 +1,15 @@
 -- Laws of a packet's run.
-use Prim.Native.Nat.{ℕ, _+_, _≤_, _<_}
+use Prim.Native.Nat.{ℕ, zero, suc, _+_, _*_, _/_, _%_, _≤_, _<_}
 use mathlib.Core.Path.{_≡_, refl, sym, ap, _∙_}
-use mathlib.Core.Logic.{_⊎_}
+use mathlib.Core.Logic.{_⊎_, inl}
 use mathlib.Core.Bool.{Bool, true, false, not, cond}
-use mathlib.Core.List.{List, [], _∷_}
+use mathlib.Core.List.{List, [], _∷_, append-assoc}
 use native.Mathlib.Omega.{arith}
 use native.Mathlib.Decide.{decLe}
+use native.Mathlib.Nat.{add-zero}
 use lib.Dec.{eqb, ltb}
-use lib.ListN.{length, drop, getD, set, length-set}
-use lib.Seq.{length-sets, getD-set-same, getD-set-other, drop-at}
+use lib.ListN.{length, take, drop, getD, set, length-set}
+use lib.Seq.{sets, sets-eq, length-sets, length-take-le, getD-set-same, getD-set-other, take-at, drop-at}
 use borrow.Author.Tests.{eqb-true, eqb-false, eq-eqb, ne-eqb, ltb-true, ltb-false, not-false, le-ltb}
 use Rattle.lbp16.proofs.BoolLaws.{or-false}
 use Rattle.lbp16.specs.Answer.{Answer}
@@ -19,9 +20,10 @@ use Rattle.packet.specs.Step.{at, statusWrite, storeAfter, valuesRead, replyByt
 use Rattle.packet.specs.Command.{limit}
 use Rattle.packet.specs.Judge.{Carried, Verdict, refused, accepted, judge}
 use Rattle.packet.specs.Verdict.{answerTo}
-use Rattle.packet.proofs.StoreLaws.{Spared, getD-sets, spared-byte, length-values}
+use Rattle.packet.specs.Bytes.{number, bytesOf}
+use Rattle.packet.proofs.StoreLaws.{Spared, getD-sets, slice-sets, spared-byte, length-after, length-values}
 use Rattle.packet.proofs.RefusalLaws.{RefusedAt, refused-in-table, accepted-within, accepted-inside}
-use Rattle.card.specs.Run.{unlockCell, cleared, badState, checked, outcome, runVerdict, runPacket}
+use Rattle.card.specs.Run.{unlockCell, countCell, cleared, countBytes, counted, badState, checked, outcome, runVerdict, runPacket}
 
 -- the unlock cell is address 0x1A of space 6
 pub unlock-cell : unlockCell ≡ at (statusWrite 0x1A [])
@@ -52,6 +54,57 @@ cleared-inside store i n h k = go (decLe i unlockCell)
     go (no g) =
         let e : i ≡ unlockCell + 1 = omega arith in
         rw e (getD-set-same (set store unlockCell 0) (unlockCell + 1) 0 0 (rw length-set (omega arith)))
+
+-- the packet count is address 0x0A of space 6
+pub count-cell : countCell ≡ at (statusWrite 0x0A [])
+unfolding at row
+count-cell = refl
+
+pub length-counted : (store : List ℕ) → length (counted store) ≡ length store
+unfolding counted
+length-counted store = length-sets store countCell (bytesOf 2 (number (countBytes store) + 1))
+
+-- outside the count nothing is counted
+pub counted-outside : (store : List ℕ) (i : ℕ) → (i < countCell) ⊎ (countCell + 2 ≤ i)
+    → getD (counted store) i 0 ≡ getD store i 0
+unfolding counted bytesOf
+counted-outside store i h = getD-sets store i countCell (bytesOf 2 (number (countBytes store) + 1)) 0 h
+
+-- A number's lowest bytes go on counting from its lowest bytes.
+over : (m x : ℕ) → ((256 * m + x) % 256 ≡ x % 256) × ((256 * m + x) / 256 ≡ m + x / 256)
+over m x = (omega arith, omega arith)
+
+pub count-on : (w n k : ℕ) → bytesOf w (number (bytesOf w n) + k) ≡ bytesOf w (n + k)
+unfolding bytesOf number
+count-on zero n k = refl
+count-on (suc w) n k =
+    let x = n % 256 + k in
+    let m = number (bytesOf w (n / 256)) in
+    let before : n % 256 + 256 * m + k ≡ 256 * m + x = omega arith in
+    let after : n + k ≡ 256 * (n / 256) + x = omega arith in
+    rw (before, after, over m x .0, over m x .1, over (n / 256) x .0, over (n / 256) x .1, count-on w (n / 256) (x / 256)) refl
+
+pub count-modulo : (n : ℕ) → bytesOf 2 (n % 65536) ≡ bytesOf 2 n
+unfolding bytesOf number
+count-modulo n =
+    let e : number (bytesOf 2 n) + 0 ≡ n % 65536 = omega arith in
+    sym (ap (bytesOf 2) e) ∙ count-on 2 n 0 ∙ ap (bytesOf 2) (add-zero n)
+
+-- what stands in a range that was written
+slice-of-sets : (l : List ℕ) (i : ℕ) (ws : List ℕ) → i + length ws ≤ length l → take (length ws) (drop i (sets l i ws)) ≡ ws
+slice-of-sets l i ws h =
+    rw (sets-eq ws l i h, append-assoc, drop-at (take i l) _ i (length-take-le i l (omega arith)), take-at ws _ _ refl) refl
+
+-- what the count holds once it has risen
+pub count-risen : (store : List ℕ) → length store ≡ storeBytes
+    → countBytes (counted store) ≡ bytesOf 2 (number (countBytes store) + 1)
+unfolding counted countBytes bytesOf
+count-risen store h = slice-of-sets store countCell (bytesOf 2 (number (countBytes store) + 1)) (rw h (omega arith))
+
+-- clearing the unlock cell leaves the count
+pub count-cleared : (store : List ℕ) → countBytes (cleared store) ≡ countBytes store
+unfolding countBytes cleared
+count-cleared store = slice-sets store countCell 2 unlockCell (0 ∷ 0 ∷ []) (inl (omega arith))
 
 -- What refusal 1 does not turn away: a whole store and sound pointers.
 pub good-state : (store : List ℕ) (p : Pointers) → badState store p ≡ false
@@ -177,6 +230,14 @@ module _ (packet store : List ℕ) (p : Pointers) (reply : List ℕ) where
           let f = ap (λ o. o .answer) (other-room-refused packet store p reply h) in
           RunRefused.room h (let z = sym e ∙ f in cc) (let z = sym e ∙ f in cc)
 
+  -- a packet is accepted only on a whole store
+  accepted-state : (c : Carried) → checked packet store p ≡ accepted c → length store ≡ storeBytes
+  accepted-state c =
+      checked-cases packet store p (λ v. v ≡ accepted c → length store ≡ storeBytes)
+      (λ _ e. let z : _≡_ {A = ℕ} 0 1 = cc in absurd (omega arith))
+      (λ _ _ e. let z : _≡_ {A = ℕ} 0 1 = cc in absurd (omega arith))
+      (λ state _ e. good-state store p state .0)
+
   module _ (room : length reply ≡ limit) where
     -- The reply past the answered length is unchanged.
     pub reply-past-answer : (n : ℕ) → runPacket packet store p reply .answer ≡ Answer.accepted (n ∷ [])
@@ -194,10 +255,23 @@ module _ (packet store : List ℕ) (p : Pointers) (reply : List ℕ) where
             answered-length packet store p c q .0 ∙ (let z : replyBytes (c .steps) ≡ n = cc in z) in
             rw l (drop-at (valuesRead (c .steps) store) (drop n reply) n l)
 
-    -- An accepted packet changes no byte that none of its writes names, the unlock cell apart.
+    -- An accepted packet changes no byte that none of its writes names, the unlock cell and the count apart.
     pub accepted-spares : (c : Carried) → checked packet store p ≡ accepted c → (i : ℕ) → Spared i (c .steps)
-        → (i < unlockCell) ⊎ (unlockCell + 2 ≤ i) → getD (runPacket packet store p reply .store) i 0 ≡ getD store i 0
+        → (i < unlockCell) ⊎ (unlockCell + 2 ≤ i) → (i < countCell) ⊎ (countCell + 2 ≤ i)
+        → getD (runPacket packet store p reply .store) i 0 ≡ getD store i 0
     unfolding outcome
-    accepted-spares c e i h k =
+    accepted-spares c e i h k l =
+        let left = storeAfter (c .steps) store in
         rw (run-checked packet store p reply room, e)
-        (cleared-outside (storeAfter (c .steps) store) i k ∙ spared-byte i (c .steps) store h)
+        (counted-outside (cleared left) i l ∙ cleared-outside left i k ∙ spared-byte i (c .steps) store h)
+
+    -- The count after an accepted packet is what its steps leave there plus one, modulo 65,536.
+    pub accepted-counts : (c : Carried) → checked packet store p ≡ accepted c
+        → countBytes (runPacket packet store p reply .store)
+        ≡ bytesOf 2 (number (countBytes (storeAfter (c .steps) store)) + 1)
+    unfolding outcome
+    accepted-counts c e =
+        let left = storeAfter (c .steps) store in
+        let whole : length (cleared left) ≡ storeBytes =
+        length-cleared left ∙ length-after (c .steps) store ∙ accepted-state c e in
+        rw (run-checked packet store p reply room, e) (count-risen (cleared left) whole ∙ rw count-cleared refl)

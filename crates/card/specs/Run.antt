@@ -1,14 +1,15 @@
 -- One packet on a card store: its check, which changes nothing, and its run.
-use Prim.Native.Nat.{ℕ}
+use Prim.Native.Nat.{ℕ, _+_}
 use mathlib.Core.List.{List, [], _∷_, _++_}
 use mathlib.Core.Bool.{Bool, not, _||_, cond}
-use lib.ListN.{length, drop}
+use lib.ListN.{length, take, drop}
 use lib.Seq.{sets}
 use lib.Dec.{eqb, ltb}
 use Rattle.lbp16.specs.Answer.{Answer}
 use Rattle.lbp16.specs.Space.{storeBytes}
 use Rattle.lbp16.specs.Pointer.{aboveSize}
 use Rattle.lbp16.specs.declared.pointer.Pointers.{Pointers}
+use Rattle.packet.specs.Bytes.{number, bytesOf}
 use Rattle.packet.specs.Step.{storeAfter, valuesRead}
 use Rattle.packet.specs.Command.{limit}
 use Rattle.packet.specs.Judge.{Verdict, refused, accepted, judge}
@@ -22,13 +23,23 @@ pub record Outcome : Type 0 where
   pub reply : List ℕ
   pub pointers : Pointers
 
--- the first byte of the unlock cell in the store
+-- the first bytes in the store of the unlock cell and of the packet count (RXUDPCount), 0x1A and 0x0A of space 6
 abbrev pub unlockCell : ℕ
 unlockCell = 65690
+
+abbrev pub countCell : ℕ
+countCell = 65674
 
 -- the store with the unlock cell at 0
 unfoldable pub cleared : List ℕ → List ℕ
 cleared store = sets store unlockCell (0 ∷ 0 ∷ [])
+
+-- the bytes of the packet count, and the store with it one up, from 65,535 to 0
+unfoldable pub countBytes : List ℕ → List ℕ
+countBytes store = take 2 (drop countCell store)
+
+unfoldable pub counted : List ℕ → List ℕ
+counted store = sets store countCell (bytesOf 2 (number (countBytes store) + 1))
 
 -- refusal 1, of store and pointers
 unfoldable pub badState : List ℕ → Pointers → Bool
@@ -39,8 +50,8 @@ unfoldable pub checked : List ℕ → List ℕ → Pointers → Verdict
 checked packet store p =
     cond (badState store p) (refused 1 0) (cond (ltb limit (length packet)) (refused 2 0) (judge p packet))
 
--- A refusal leaves all as it was. An accepted packet does its steps and then clears the unlock cell; the bytes read
--- stand at the front of the reply.
+-- A refusal leaves all as it was. An accepted packet does its steps, then clears the unlock cell, then counts itself; the
+-- bytes read stand at the front of the reply.
 unfoldable pub outcome : Verdict → List ℕ → Pointers → List ℕ → Outcome
 outcome (refused n place) store p reply =
     record { answer = answerTo (refused n place); store = store; reply = reply; pointers = p }
@@ -48,7 +59,7 @@ outcome (accepted c) store p reply =
     let values = valuesRead (c .steps) store in
     record {
       answer = answerTo (accepted c);
-      store = cleared (storeAfter (c .steps) store);
+      store = counted (cleared (storeAfter (c .steps) store));
       reply = values ++ drop (length values) reply;
       pointers = c .pointers;
     }

@@ -124,3 +124,7 @@ runBurst words store room = burstOutcome (first (burstRefusals words store room)
 unfoldable pub burstListed : BurstAnswer → Answer
 burstListed burst-answer.Accepted = Answer.accepted []
 burstListed (burst-answer.Refused r) = refusal r
+
+-- what a burst of the code answers and leaves
+unfoldable pub burstLeft : BurstAnswer → List ℕ → List ℕ → Burst
+burstLeft a store room = record { answer = burstListed a; store = store; room = room }

@@ -1,6 +1,7 @@
 // One packet on a card store.
 use crate::block;
 use crate::check;
+use crate::element;
 use lbp16::pointer::Pointers;
 use lbp16::space;
 use lbp16::word::Fields;
@@ -19,7 +20,7 @@ ghost use Rattle.packet.specs.Step.{answered, storeAfter, valuesRead};
 ghost use Rattle.packet.specs.Command.{limit, kindOf, stepsAt, whichOf};
 ghost use Rattle.packet.specs.Judge.{judge};
 ghost use Rattle.packet.proofs.CommandLaws.{Passed};
-ghost use Rattle.card.specs.Run.{cleared, runPacket, ran};
+ghost use Rattle.card.specs.Run.{cleared, counted, runPacket, ran};
 ghost use Rattle.card.specs.Inside.{IsAccepted, Performed, laid, spanAt};
 
 // A command's elements in the store: the first one's place, from one to the next, their bytes, and how many.
@@ -126,6 +127,15 @@ fn clear_unlock(store: &mut [u8])
     store[65691] = 0;
 }
 
+// Counts the packet: the cell at 0x0A of space 6 goes up by one, from 65,535 to 0.
+fn count_packet(store: &mut [u8])
+    requires { ⌜ length (now store) ≡ storeBytes ⌝ }
+    ensures { λ r. ⌜ now (store .exit) ≡ counted (now (store .entry)) ⌝ }
+{
+    let next = element::fetch2(store, 65674) as u32 + 1;
+    element::store2(store, 65674, (next % 65536) as u16);
+}
+
 // Runs one packet: the whole of it is checked, on the state that the run finds, before anything is done.
 pub fn run(packet: &[u8], store: &mut [u8], p: Pointers, reply: &mut [u8]) -> Ran
     ensures { λ r. ⌜ ran r (now (store .exit)) (now (reply .exit)) ≡ runPacket (now (packet .entry)) (now (store .entry)) p (now (reply .entry)) ⌝ }
@@ -145,6 +155,7 @@ pub fn run(packet: &[u8], store: &mut [u8], p: Pointers, reply: &mut [u8]) -> Ra
     };
     let pointers = perform(packet, store, p, reply);
     clear_unlock(store);
+    count_packet(store);
     Ran {
         answer: Verdict::Accepted(length),
         pointers,

@@ -12,7 +12,7 @@ ghost use lib.ListN.{length, drop, replicate};
 ghost use Rattle.lbp16.specs.Space.{registers, storeBytes};
 ghost use Rattle.lbp16.specs.Word.{bit};
 ghost use Rattle.packet.specs.Rules.{first, misaligned, pastEnd, any};
-ghost use Rattle.card.specs.Spi.{headerOf, headerWritten, headerListed, otherCommand, firstWord, burstSteps, burstRefusals, runBurst, burstListed};
+ghost use Rattle.card.specs.Spi.{headerOf, headerWritten, headerListed, otherCommand, firstWord, burstSteps, burstRefusals, runBurst, burstLeft};
 ghost use Rattle.card.specs.Cells.{Cells, cells, filled};
 
 const READ: u8 = 0xA;
@@ -155,9 +155,7 @@ fn write_cells(words: &[u32], store: &mut [u8], from: usize, stride: usize, answ
 
 // The whole burst is checked before anything is done. Where fewer words came than promised, those are done.
 pub fn burst(words: &[u32], store: &mut [u8], answer: &mut [u32]) -> BurstAnswer
-    ensures { λ r. ⌜ burstListed r ≡ runBurst (now (words .entry)) (now (store .entry)) (now (answer .entry)) .answer ⌝ }
-    ensures { λ r. ⌜ now (store .exit) ≡ runBurst (now (words .entry)) (now (store .entry)) (now (answer .entry)) .store ⌝ }
-    ensures { λ r. ⌜ now (answer .exit) ≡ runBurst (now (words .entry)) (now (store .entry)) (now (answer .entry)) .room ⌝ }
+    ensures { λ r. ⌜ burstLeft r (now (store .exit)) (now (answer .exit)) ≡ runBurst (now (words .entry)) (now (store .entry)) (now (answer .entry)) ⌝ }
 {
     let refused = refusal_of(words, store, answer);
     if refused != 0 {

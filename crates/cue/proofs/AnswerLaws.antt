@@ -15,12 +15,12 @@ use Rattle.cue.specs.Inside.{none, onward, outputBytes, Planned, planned
 
 -- what an answer and a room at exit must be
 abbrev pub Both : Answer → List ℕ → Compiled → Type 0
-Both a after c = (a ≡ c .answer) × (after ≡ c .room)
+Both a after c = record { answer = a; room = after } ≡ c
 
 refused-to : (v : Listed) (n i : ℕ) (room : List ℕ) → Answer.refused n i ≡ planAnswer (planned none v)
     → Both (Answer.refused n i) room (compiledTo v room)
 unfolding planAnswer planned compiledTo
-refused-to (refused m j) n i room e = (e, refl)
+refused-to (refused m j) n i room e = rw e refl
 refused-to (records xs) n i room e = let z : _≡_ {A = ℕ} 0 1 = cc in absurd (omega arith)
 
 pub refused-is : (list room : List ℕ) (n i : ℕ) → Answer.refused n i ≡ planAnswer (planned none (recordsOf list))
@@ -35,7 +35,7 @@ module _ (list room : List ℕ) (b n : ℕ) where
   short-to (refused m j) e h = let z : _≡_ {A = ℕ} 0 1 = cc in absurd (omega arith)
   short-to (records xs) e h =
       let q : b ≡ length (output xs) = cc in
-      rw (lt-ltb (length room) (length (output xs)) (rw q at h), q) (refl, refl)
+      rw (lt-ltb (length room) (length (output xs)) (rw q at h), q) refl
 
   pub short-is : Answer.accepted (b ∷ n ∷ []) ≡ planAnswer (planned none (recordsOf list)) → length room < b
       → Both (Answer.refused 26 b) room (compiled list room)
@@ -59,7 +59,7 @@ module _ (list room : List ℕ) (b n : ℕ) where
   accepted-to (refused m j) e h = let z : _≡_ {A = ℕ} 0 1 = cc in absurd (omega arith)
   accepted-to (records xs) e h =
       let q : b ≡ length (output xs) = cc in
-      rw (le-ltb (length room) (length (output xs)) (rw q at h)) (e ∙ rw length-map refl, refl)
+      rw (le-ltb (length room) (length (output xs)) (rw q at h), e) (rw length-map refl)
 
   pub accepted-is : Answer.accepted (b ∷ n ∷ []) ≡ planAnswer (planned none (recordsOf list)) → b ≤ length room
       → Both (Answer.accepted (b ∷ n ∷ [])) (roomAfter (planned none (recordsOf list)) room) (compiled list room)
@@ -85,4 +85,4 @@ module _ (list room : List ℕ) (a : CompileAnswer) (e : compileListed a ≡ pla
 
     pub all-written : (after : List ℕ) → b ≤ length room → after ≡ roomAfter (planned none (recordsOf list)) room
         → Both (Answer.accepted (b ∷ n ∷ [])) after (compiled list room)
-    all-written after h w = let t = accepted-is list room b n counted h in (t .0, w ∙ t .1)
+    all-written after h w = rw w (accepted-is list room b n counted h)

@@ -1,11 +1,12 @@
 -- The proof of demand 3.
 use Prim.Native.Nat.{ℕ}
-use mathlib.Core.Path.{_≡_}
-use mathlib.Core.List.{List, map}
+use mathlib.Core.Path.{_≡_, sym, ap, _∙_}
+use mathlib.Core.List.{List, [], _∷_, map}
+use Rattle.lbp16.specs.Answer.{Answer}
 use Rattle.packet.specs.Step.{Step}
 use Rattle.cue.specs.Packing.{Command, packetBytes}
 use Rattle.cue.specs.Output.{parts, apart}
-use Rattle.cue.specs.Compile.{packed, output}
+use Rattle.cue.specs.Compile.{packed, output, compiled}
 use Rattle.cue.specs.Demand3.{Demand3}
 use Rattle.cue.proofs.Relations.{Good, Holds}
 use Rattle.cue.proofs.RecordLaws.{records-good}
@@ -13,6 +14,7 @@ use Rattle.cue.proofs.PackingLaws.{Packed, packing-keeps}
 use Rattle.cue.proofs.OutputLaws.{apart-output, packets-short}
 use Rattle.cue.proofs.CompileLaws.{accepted-list, output-at-front}
 use Rattle.cue.proofs.ReadBack.{read-back}
+use Rattle.cue.proofs.AnswerLaws.{Both}
 use Rattle.cue.proofs.RunAll.{run-all}
 
 -- Each packet of the packing rule is accepted and does its steps, so the packets hold the records.
@@ -30,8 +32,9 @@ apart-packed : (xs : List Step) → Good xs → apart (output xs) ≡ parts (pac
 unfolding output
 apart-packed xs g = apart-output (packed xs) (packets-short xs g)
 
--- Demand 3, of every list and every room.
-pub demand3 : (list room : List ℕ) → Demand3 list room
+-- Demand 3, of every list and every room: of what compiling answers and leaves.
+pub demand3 : (list room : List ℕ) (bytes count : ℕ) → compiled list room .answer ≡ Answer.accepted (bytes ∷ count ∷ [])
+    → Demand3 list (compiled list room .room) bytes count
 demand3 list room bytes count e =
     let a = accepted-list list room _ e in
     let xs = a .xs in
@@ -44,3 +47,9 @@ demand3 list room bytes count e =
       packet-count = cc;
       same = run-all (packed xs) xs (packets-hold xs good) good;
     }
+
+-- as the code comes to it: what was answered and left is what the definition says
+pub demand3-of : (list room : List ℕ) (a : Answer) (room′ : List ℕ) → Both a room′ (compiled list room)
+    → (bytes count : ℕ) → a ≡ Answer.accepted (bytes ∷ count ∷ []) → Demand3 list room′ bytes count
+demand3-of list room a room′ e bytes count q =
+    rw (ap (λ c. c .room) e) (demand3 list room bytes count (sym (ap (λ c. c .answer) e) ∙ q))

@@ -15,7 +15,7 @@ use Rattle.packet.specs.Bytes.{number}
 use Rattle.packet.specs.Rules.{misaligned, pastEnd, barred}
 use Rattle.packet.specs.Command.{pickKind, limit}
 use Rattle.packet.proofs.StepLaws.{unlocked-append, reply-append, carried-le, answered-le}
-use Rattle.cue.specs.Records.{badElement}
+use Rattle.cue.specs.Records.{reserved, badElement}
 use Rattle.cue.specs.Packing.{Command, spaceNumber, joinAll, packetBytes, elementSteps, commandSteps, packetSteps}
 use Rattle.cue.specs.Packing.{unlockCommand, keepsLimits, Open, commandsOf, sameKind, joined, joins, needsUnlock}
 use Rattle.cue.specs.Packing.{started, turnBy, turn}
@@ -93,9 +93,15 @@ pub record Fine (x : Step) : Type 0 where
   pub wide : length (x .bytes) ≡ carried (x .kind) (x .space)
 
 not-unlock : (x : Step) → badElement x ≡ false → namesUnlock x ≡ false
-unfolding badElement
+unfolding badElement reserved namesUnlock
 not-unlock x e =
-    or-false (isAbsent (x .space) || misaligned (x .space) (x .address) || pastEnd x || barred x) (namesUnlock x) e .1
+    let h =
+    or-false (isAbsent (x .space) || misaligned (x .space) (x .address) || pastEnd x || barred x) (reserved x) e .1 in
+    go (eqb (x .address) 0x1A) (eqb (x .address) 0x0A) (isStatus (x .space)) h
+  where
+    go : (a b s : Bool) → ((a || b) && s) ≡ false → (a && s) ≡ false
+    go true b s h = h
+    go false b s h = refl
 
 stays : (b : Bool) (x : Step) → namesUnlock x ≡ false → turned b x ≡ b
 unfolding turned

@@ -11,11 +11,11 @@ use borrow.Author.Tests.{eqb-true, eqb-false}
 use Rattle.lbp16.specs.Space.{Space, registers, eeprom, status, information, absent, spaceOf, isAbsent, row}
 use Rattle.lbp16.proofs.BoolLaws.{or-false}
 use Rattle.packet.specs.Bytes.{number}
-use Rattle.packet.specs.Step.{carried, isWrite, isStatus, namesUnlock}
+use Rattle.packet.specs.Step.{carried, isWrite, isStatus}
 use Rattle.packet.specs.Rules.{first, misaligned, pastEnd, barred}
 use Rattle.packet.specs.Command.{pickKind}
 use Rattle.packet.proofs.RuleLaws.{none-holds}
-use Rattle.cue.specs.Records.{recordStep, recordSpace, recordKind, recordBytes, recordRefusals, badElement, upperHalf}
+use Rattle.cue.specs.Records.{recordStep, recordSpace, recordKind, recordBytes, recordRefusals, reserved, badElement, upperHalf}
 use Rattle.cue.specs.Records.{markAt, readMark, writeMark, valueBytes, mostRecords}
 use Rattle.cue.specs.Packing.{spaceNumber}
 use Rattle.cue.specs.Inside.{recordAt, brief}
@@ -61,8 +61,8 @@ pub bad-element-is : (rest : List ℕ)
     let s = row (spaceOf (r .space)) in
     isAbsent (spaceOf (r .space)) || not (eqb (r .address % s .element) 0) || ltb (s .bytes) (r .address + s .element)
     || (ltb (r .address) (s .«read_only») && r .write)
-    || (eqb (r .address) 0x1A && eqb (r .space) 6))
-unfolding badElement recordStep recordSpace recordKind recordAt misaligned pastEnd barred namesUnlock
+    || ((eqb (r .address) 0x1A || eqb (r .address) 0x0A) && eqb (r .space) 6))
+unfolding badElement recordStep recordSpace recordKind recordAt misaligned pastEnd barred reserved
 bad-element-is rest = rw (write-of, is-six) refl
 
 -- the part of the value that an element has no room for
@@ -96,7 +96,7 @@ present rest e =
     let x = recordStep rest in
     let a = isAbsent (x .space) in
     let b = misaligned (x .space) (x .address) in
-    or-false a b (or-false (a || b) (pastEnd x) (or-false (a || b || pastEnd x) (barred x) (or-false _ (namesUnlock x) e .0) .0) .0) .0
+    or-false a b (or-false (a || b) (pastEnd x) (or-false (a || b || pastEnd x) (barred x) (or-false _ (reserved x) e .0) .0) .0) .0
 
 -- The chain of tests, where that of rule 24 is the definition's wherever rule 23 does not hold.
 pub chain-is : (index : ℕ) (rest : List ℕ) (w : Bool) → (isAbsent (recordSpace rest) ≡ false → w ≡ not (eqb (upperHalf rest) 0))

@@ -11,11 +11,11 @@ use borrow.Author.Tests.{ltb-false, eqb-false}
 use Rattle.lbp16.proofs.BoolLaws.{or-false}
 use Rattle.lbp16.proofs.SpaceLaws.{element-le}
 use Rattle.lbp16.specs.Space.{Space, isAbsent}
-use Rattle.packet.specs.Step.{Kind, read, write, Step, carried, namesUnlock}
+use Rattle.packet.specs.Step.{Kind, read, write, Step, carried}
 use Rattle.packet.specs.Rules.{first, misaligned, pastEnd, barred}
 use Rattle.packet.proofs.RuleLaws.{none-holds, FirstHolds, first-holds, Rising, first-within, Lowest, first-lowest}
 use Rattle.cue.specs.Records.{Listed, refused, records, recordsOf, recordsFrom, recordRefusals, recordStep}
-use Rattle.cue.specs.Records.{recordKind, recordBytes, valueBytes, badElement, markAt, readMark, writeMark}
+use Rattle.cue.specs.Records.{recordKind, recordBytes, valueBytes, reserved, badElement, markAt, readMark, writeMark}
 use Rattle.cue.specs.Records.{withRecord, listedAt, mostRecords}
 use Rattle.cue.proofs.Relations.{Good}
 
@@ -27,12 +27,12 @@ listBytes (x ∷ xs) = recordBytes (x .kind) + listBytes xs
 -- the five tests that a good record's element passes
 pub good-element : (x : Step) → badElement x ≡ false
     → (isAbsent (x .space) ≡ false) × (misaligned (x .space) (x .address) ≡ false) × (pastEnd x ≡ false) × (barred x ≡ false)
-    × (namesUnlock x ≡ false)
+    × (reserved x ≡ false)
 unfolding badElement
 good-element x h =
     let a = isAbsent (x .space) in
     let b = a || misaligned (x .space) (x .address) in
-    let o = or-false (b || pastEnd x || barred x) (namesUnlock x) h in
+    let o = or-false (b || pastEnd x || barred x) (reserved x) h in
     let q = or-false (b || pastEnd x) (barred x) (o .0) in
     let r = or-false b (pastEnd x) (q .0) in
     let t = or-false a (misaligned (x .space) (x .address)) (r .0) in

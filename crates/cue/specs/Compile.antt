@@ -39,3 +39,7 @@ compiled list room = compiledTo (recordsOf list) room
 unfoldable pub compileListed : CompileAnswer → Answer
 compileListed (CompileAnswer.Compiled bytes count) = Answer.accepted (bytes ∷ count ∷ [])
 compileListed (CompileAnswer.Refused r) = refusal r
+
+-- what a compilation of the code answers and leaves
+unfoldable pub left : CompileAnswer → List ℕ → Compiled
+left a room = record { answer = compileListed a; room = room }

@@ -6,7 +6,7 @@ use lib.ListN.{length, take, drop, getD}
 use lib.Dec.{eqb, ltb}
 use Rattle.lbp16.specs.Space.{Space, spaceOf, isAbsent, row}
 use Rattle.packet.specs.Bytes.{number}
-use Rattle.packet.specs.Step.{Kind, read, write, Step, carried, isWrite, namesUnlock}
+use Rattle.packet.specs.Step.{Kind, read, write, Step, carried, isWrite, isStatus}
 use Rattle.packet.specs.Rules.{Rule, first, misaligned, pastEnd, barred}
 use Rattle.packet.specs.Command.{pickKind}
 
@@ -41,10 +41,14 @@ recordStep rest =
     let s = recordSpace rest in
     record { kind = k; space = s; address = number (take 2 (drop 4 rest)); bytes = take (carried k s) (valueBytes rest) }
 
+-- The cells that a list may not name: the unlock cell and the packet count, 0x1A and 0x0A of space 6.
+unfoldable pub reserved : Step → Bool
+reserved x = (eqb (x .address) 0x1A || eqb (x .address) 0x0A) && isStatus (x .space)
+
 -- refusal 23
 unfoldable pub badElement : Step → Bool
 badElement x =
-    isAbsent (x .space) || misaligned (x .space) (x .address) || pastEnd x || barred x || namesUnlock x
+    isAbsent (x .space) || misaligned (x .space) (x .address) || pastEnd x || barred x || reserved x
 
 -- the part of the value that the element has no room for
 unfoldable pub upperHalf : List ℕ → ℕ

@@ -9,7 +9,10 @@ mod records;
 
 ghost use mathlib.Core.Path.{_≡_};
 ghost use Rattle.cue.specs.Demand3.{Demand3};
-ghost use Rattle.cue.specs.Compile.{compiled, compileListed};
+ghost use Prim.Native.Nat.{ℕ};
+ghost use mathlib.Core.List.{[], _∷_};
+ghost use Rattle.lbp16.specs.Answer.{Answer};
+ghost use Rattle.cue.specs.Compile.{compiled, compileListed, left};
 
 // The output's bytes and how many packets it holds, or why the list was refused.
 pub enum CompileAnswer {
@@ -19,9 +22,8 @@ pub enum CompileAnswer {
 
 // Refused with 26, and the bytes needed as its place, where the list is good and the room too small.
 pub fn compile(list: &[u8], out: &mut [u8]) -> CompileAnswer
-    ensures answered { λ r. ⌜ compileListed r ≡ compiled (now (list .entry)) (now (out .entry)) .answer ⌝ }
-    ensures output { λ _. ⌜ now (out .exit) ≡ compiled (now (list .entry)) (now (out .entry)) .room ⌝ }
-    ensures demand3 { λ r. ⌜ Demand3 (now (list .entry)) (now (out .entry)) ⌝ }
+    ensures compiled { λ r. ⌜ left r (now (out .exit)) ≡ compiled (now (list .entry)) (now (out .entry)) ⌝ }
+    ensures demand3 { λ r. ⌜ ((bytes count : ℕ) → compileListed r ≡ Answer.accepted (bytes ∷ count ∷ []) → Demand3 (now (list .entry)) (now (out .exit)) bytes count) ⌝ }
 {
     let answer = plan::plan(list);
     let CompileAnswer::Compiled { bytes, packets } = answer else {

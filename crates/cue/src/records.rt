@@ -65,7 +65,7 @@ fn bad_element(rest: &[u8]) -> bool
         | (address % row.element != 0)
         | (row.bytes < address + row.element)
         | ((address < row.read_only) & r.write)
-        | ((address == 0x1A) & (r.space == 6))
+        | (((address == 0x1A) | (address == 0x0A)) & (r.space == 6))
 }
 
 // Whether a value has more than its element has room for.

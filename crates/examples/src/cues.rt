@@ -199,9 +199,10 @@ fn alone(list: &[u8], store: &mut [u8], values: &mut [u8]) -> usize {
     n
 }
 
-// The unlock cell is the two bytes from 65690 on.
-fn same_but_unlock(a: &[u8], b: &[u8]) -> bool {
-    parts::same(parts::part(a, 0, 65690), parts::part(b, 0, 65690))
+// The packet count is the two bytes from 65674 on, the unlock cell those from 65690 on.
+fn same_but_both(a: &[u8], b: &[u8]) -> bool {
+    parts::same(parts::part(a, 0, 65674), parts::part(b, 0, 65674))
+        & parts::same(parts::part(a, 65676, 14), parts::part(b, 65676, 14))
         & parts::same(parts::part(a, 65692, 36), parts::part(b, 65692, 36))
 }
 
@@ -228,8 +229,14 @@ fn values(
 
 fn stores(list: &[u8], out: &[u8], a: &mut [u8], b: &mut [u8]) {
     values(list, out, a, b, &mut [0; 2048], &mut [0; 2048]);
-    text::say(b"; stores but for the unlock cell: ");
-    text::say_if(same_but_unlock(a, b), b"equal\n", b"different\n");
+    text::say(b"; stores but for the unlock cell and the packet count: ");
+    text::say_if(same_but_both(a, b), b"equal", b"different");
+    text::number(
+        b"; packet count after the records ",
+        bytes::pair_at(b, 65674) as u64,
+    );
+    text::number(b", after the packets ", bytes::pair_at(a, 65674) as u64);
+    text::say(b"\n");
 }
 
 fn both_ways(list: &[u8], out: &[u8]) {

@@ -47,8 +47,29 @@ fn longest_reply() {
     );
 }
 
+// Document 02's order 7: RXUDPCount, at 0x0A of space 6, counts accepted packets.
+fn packet_count() {
+    script::play(
+        b"\
+        # Document 02: the packet count\n\
+        p a fresh card: 01 59 0A 00\n\
+        p read twice in one packet: 02 59 0A 00\n\
+        p in the next: 01 59 0A 00\n\
+        p refused: 00 42\n\
+        p not counted: 01 59 0A 00\n\
+        p 65,535 written: 01 D9 0A 00 FF FF\n\
+        p from there to 0: 01 59 0A 00\n\
+        p written and read: 01 D9 0A 00 34 12 01 59 0A 00\n\
+        p one more than the packet left: 01 59 0A 00\n\
+        l a list that reads it: 52 44 06 00 0A 00\n\
+        l a list that writes it: 57 52 06 00 0A 00 01 00 00 00\n\
+        ",
+    );
+}
+
 pub(crate) fn all() {
     words();
     packets();
     longest_reply();
+    packet_count();
 }

@@ -2,7 +2,7 @@
 use Prim.Native.Nat.{ℕ, _+_, _≤_}
 use mathlib.Core.Path.{_≡_, refl, ap, sym, _∙_}
 use mathlib.Core.Bool.{true, false}
-use mathlib.Core.List.{List, [], append-nil}
+use mathlib.Core.List.{List, [], _∷_, append-nil}
 use native.Mathlib.Omega.{arith}
 use lib.ListN.{length, drop, drop-of-length-le}
 use lib.Seq.{sets, sets-eq}
@@ -16,7 +16,12 @@ use Rattle.packet.specs.Verdict.{answerTo, verdictListed}
 use Rattle.packet.specs.declared.judge.Verdict.{Verdict}
 use Rattle.card.specs.Run.{checked, runPacket, ran}
 use Rattle.card.specs.declared.run.Ran.{Ran}
-use Rattle.head.specs.Exports.{numberOf, valueOf, given, exportCheck, runLeft, pointerList, ofOutcome, pointersOf, exportRun, fieldBytes, fieldsFrom, exportFields, badFlags, exportWord}
+use Rattle.card.specs.Spi.{runBurst, burstListed, burstLeft}
+use Rattle.card.specs.declared.spi.BurstAnswer.{BurstAnswer}
+use Rattle.cue.specs.Compile.{compiled, compileListed, left}
+use Rattle.cue.specs.declared.CompileAnswer.{CompileAnswer}
+use Rattle.cue.proofs.CompileLaws.{RefusedList, refused-numbers}
+use Rattle.head.specs.Exports.{numberOf, valueOf, countOf, spiLeft, exportSpi, compileLeft, exportCompile, given, exportCheck, runLeft, pointerList, ofOutcome, pointersOf, exportRun, fieldBytes, fieldsFrom, exportFields, badFlags, exportWord}
 
 -- stores to every place of a list leave the values stored
 pub stored-whole : (vs l : List ℕ) → length l ≡ length vs → sets l 0 vs ≡ vs
@@ -63,6 +68,46 @@ module _ (packet store pointers : List ℕ) where
   pub check-not-four : (length pointers ≡ 4 → ⊥) → given 1 0 ≡ exportCheck packet store pointers
   unfolding exportCheck numberOf valueOf
   check-not-four h = rw (ne-eqb _ _ h) refl
+
+-- what a burst's call leaves, from what the burst answers and leaves
+pub spi-left : (words store room : List ℕ) (a : BurstAnswer) (number value : ℕ) (store′ room′ : List ℕ)
+    → burstLeft a store′ room′ ≡ runBurst words store room
+    → value ≡ valueOf (burstListed a)
+    → number ≡ numberOf (burstListed a)
+    → spiLeft number value store′ room′ ≡ exportSpi words store room
+unfolding burstLeft exportSpi
+spi-left words store room a number value store′ room′ e v n =
+    rw (v, n) (ap (λ b. spiLeft (numberOf (b .answer)) (valueOf (b .answer)) (b .store) (b .room)) e)
+
+-- the same of a compilation
+module _ (list room : List ℕ) (a : CompileAnswer) (number bytes packets : ℕ) (room′ : List ℕ) where
+  pub compile-left : left a room′ ≡ compiled list room
+      → bytes ≡ valueOf (compileListed a)
+      → packets ≡ countOf (compileListed a)
+      → number ≡ numberOf (compileListed a)
+      → compileLeft number bytes packets room′ ≡ exportCompile list room
+  unfolding left exportCompile
+  compile-left e b p n =
+      rw (b, p, n)
+      (ap (λ c. compileLeft (numberOf (c .answer)) (valueOf (c .answer)) (countOf (c .answer)) (c .room)) e)
+
+-- No refusal has the number 0, so a compilation that returns 0 has answered its bytes and its packets.
+never-zero : {list room : List ℕ} {n k : ℕ} → RefusedList list room n k → n ≡ 0 → ⊥
+never-zero (RefusedList.bad b) z = omega (arith, b .in-table)
+never-zero (RefusedList.small xs e l i j) z = omega arith
+
+pub compile-accepted : (list room : List ℕ) (a : CompileAnswer) (number bytes packets : ℕ) (room′ : List ℕ)
+    → left a room′ ≡ compiled list room → (P : ℕ → ℕ → Type 0)
+    → ((b n : ℕ) → compileListed a ≡ Answer.accepted (b ∷ n ∷ []) → P b n)
+    → bytes ≡ valueOf (compileListed a)
+    → packets ≡ countOf (compileListed a)
+    → number ≡ numberOf (compileListed a)
+    → number ≡ 0 → P bytes packets
+unfolding left compileListed numberOf valueOf countOf
+compile-accepted list room (CompileAnswer.Compiled b c) number bytes packets room′ e P h v p n z = rw (v, p) (h b c refl)
+compile-accepted list room (CompileAnswer.Refused r) number bytes packets room′ e P h v p n z =
+    absurd
+    (never-zero (refused-numbers list room (r .number) (r .place) (sym (ap (λ c. c .answer) e))) (sym n ∙ z))
 
 module _ (word : ℕ) (fields : List ℕ) where
   pub seven : length fields ≡ 7

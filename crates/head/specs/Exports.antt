@@ -11,6 +11,8 @@ use Rattle.lbp16.specs.declared.word.Fields.{Fields}
 use Rattle.lbp16.specs.declared.pointer.Pointers.{Pointers}
 use Rattle.packet.specs.Verdict.{answerTo}
 use Rattle.card.specs.Run.{checked, Outcome, runPacket}
+use Rattle.card.specs.Spi.{runBurst}
+use Rattle.cue.specs.Compile.{compiled}
 
 -- the number returned: the refusal's, 0 if accepted
 unfoldable pub numberOf : Answer → ℕ
@@ -57,6 +59,36 @@ exportCheck packet store pointers =
     let a =
     cond (eqb (length pointers) 4) (answerTo (checked packet store (pointersOf pointers))) (refused 1 0) in
     given (numberOf a) (valueOf a)
+
+-- All that head_compile returns and leaves.
+pub record CompileExport : Type 0 where
+  pub number : ℕ
+  pub bytes : ℕ
+  pub packets : ℕ
+  pub room : List ℕ
+
+abbrev pub compileLeft : ℕ → ℕ → ℕ → List ℕ → CompileExport
+compileLeft number bytes packets room = record { number = number; bytes = bytes; packets = packets; room = room }
+
+unfoldable pub exportCompile : List ℕ → List ℕ → CompileExport
+exportCompile list room =
+    let c = compiled list room in
+    compileLeft (numberOf (c .answer)) (valueOf (c .answer)) (countOf (c .answer)) (c .room)
+
+-- All that head_spi returns and leaves.
+pub record SpiExport : Type 0 where
+  pub number : ℕ
+  pub value : ℕ
+  pub store : List ℕ
+  pub words : List ℕ
+
+abbrev pub spiLeft : ℕ → ℕ → List ℕ → List ℕ → SpiExport
+spiLeft number value store words = record { number = number; value = value; store = store; words = words }
+
+unfoldable pub exportSpi : List ℕ → List ℕ → List ℕ → SpiExport
+exportSpi words store room =
+    let b = runBurst words store room in
+    spiLeft (numberOf (b .answer)) (valueOf (b .answer)) (b .store) (b .room)
 
 -- All that head_run returns and leaves.
 pub record RunExport : Type 0 where

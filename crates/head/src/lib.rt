@@ -7,10 +7,8 @@ use card::spi;
 use lbp16::word;
 use lbp16::word::Written;
 ghost use mathlib.Core.Path.{_≡_};
-ghost use Rattle.card.specs.Spi.{runBurst};
-ghost use Rattle.cue.specs.Compile.{compiled};
 ghost use Rattle.cue.specs.Demand3.{Demand3};
-ghost use Rattle.head.specs.Exports.{numberOf, valueOf, countOf, given, exportCheck, runLeft, exportRun, exportFields, exportWord, wordLeft};
+ghost use Rattle.head.specs.Exports.{numberOf, given, exportCheck, runLeft, exportRun, spiLeft, exportSpi, compileLeft, exportCompile, exportFields, exportWord, wordLeft};
 
 // Checks one packet: what a run of it would answer on this store and these pointers, with a reply room of 1,472 bytes.
 // `value` is the reply length, or the refusal's place.
@@ -60,10 +58,7 @@ pub extern "C" fn head_spi(
     answer: &mut [u32],
     value: &mut u64,
 ) -> u32
-    ensures numbered { λ r. ⌜ r ≡ numberOf (runBurst (now (words .entry)) (now (store .entry)) (now (answer .entry)) .answer) ⌝ }
-    ensures valued { λ r. ⌜ now (value .exit) ≡ valueOf (runBurst (now (words .entry)) (now (store .entry)) (now (answer .entry)) .answer) ⌝ }
-    ensures stored { λ r. ⌜ now (store .exit) ≡ runBurst (now (words .entry)) (now (store .entry)) (now (answer .entry)) .store ⌝ }
-    ensures worded { λ r. ⌜ now (answer .exit) ≡ runBurst (now (words .entry)) (now (store .entry)) (now (answer .entry)) .room ⌝ }
+    ensures { λ r. ⌜ spiLeft r (now (value .exit)) (now (store .exit)) (now (answer .exit)) ≡ exportSpi (now (words .entry)) (now (store .entry)) (now (answer .entry)) ⌝ }
 {
     let done = spi::burst(words, store, answer);
     *value = lent::burst_value(done);
@@ -113,11 +108,8 @@ pub extern "C" fn head_compile(
     bytes: &mut u64,
     packets: &mut u64,
 ) -> u32
-    ensures numbered { λ r. ⌜ r ≡ numberOf (compiled (now (list .entry)) (now (out .entry)) .answer) ⌝ }
-    ensures valued { λ r. ⌜ now (bytes .exit) ≡ valueOf (compiled (now (list .entry)) (now (out .entry)) .answer) ⌝ }
-    ensures counted { λ r. ⌜ now (packets .exit) ≡ countOf (compiled (now (list .entry)) (now (out .entry)) .answer) ⌝ }
-    ensures output { λ r. ⌜ now (out .exit) ≡ compiled (now (list .entry)) (now (out .entry)) .room ⌝ }
-    ensures demand3 { λ r. ⌜ Demand3 (now (list .entry)) (now (out .entry)) ⌝ }
+    ensures compiled { λ r. ⌜ compileLeft r (now (bytes .exit)) (now (packets .exit)) (now (out .exit)) ≡ exportCompile (now (list .entry)) (now (out .entry)) ⌝ }
+    ensures demand3 { λ r. ⌜ (r ≡ 0 → Demand3 (now (list .entry)) (now (out .exit)) (now (bytes .exit)) (now (packets .exit))) ⌝ }
 {
     let answer = cue::compile(list, out);
     *bytes = lent::compile_bytes(answer);

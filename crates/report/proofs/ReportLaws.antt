@@ -1,23 +1,23 @@
 -- Laws of what the program writes.
-use Prim.Native.Nat.{ℕ, _≤_, _<_}
-use mathlib.Core.Path.{_≡_, refl, sym, _∙_}
-use mathlib.Core.List.{List, [], _∷_}
+use Prim.Native.Nat.{ℕ, _+_, _≤_, _<_}
+use mathlib.Core.Path.{_≡_, refl, sym, ap, _∙_}
+use mathlib.Core.List.{List, [], _∷_, _++_}
 use native.Mathlib.Omega.{arith}
-use lib.ListN.{length, take, replicate, length-replicate}
-use lib.Seq.{take-at}
+use lib.ListN.{length, take, drop, length-append, replicate, length-replicate, take-append-drop}
+use lib.Seq.{length-take-le, take-at}
 use borrow.Author.Tests.{lt-ltb, le-ltb}
 use Rattle.lbp16.specs.Answer.{Answer}
 use Rattle.lbp16.specs.declared.Refusal.{Refusal}
 use Rattle.packet.specs.Step.{Step}
 use Rattle.cue.specs.Records.{refused, records, recordsOf}
-use Rattle.cue.specs.Compile.{Compiled, compiled, compiledTo, compileListed, output}
+use Rattle.cue.specs.Compile.{Compiled, compiled, compiledTo, compileListed, left, output}
 use Rattle.cue.specs.declared.CompileAnswer.{CompileAnswer}
 use Rattle.cue.proofs.CompileLaws.{accepted-list, answers-alike, outputs-alike, room-beyond, refusal-changes-nothing}
-use Rattle.cue.proofs.CompileLaws.{accepted-exactly, output-at-front, room-length}
+use Rattle.cue.proofs.CompileLaws.{accepted-exactly, output-at-front}
 use Rattle.cue.proofs.OutputLaws.{output-bound}
-use Rattle.report.specs.Report.{said, Reported, compiledBytes, answerBytes, refusedLine, tooLongLine, mostBytes, roomBytes}
+use Rattle.report.specs.Report.{said, reportLeft, reportOf, compiledBytes, answerBytes, refusedLine, tooLongLine, mostBytes, roomBytes}
 use Rattle.report.specs.Inside.{Put}
-use Rattle.report.proofs.LineLaws.{put-length, put-front}
+use Rattle.report.proofs.LineLaws.{put-front}
 
 pub said-too-long : (list : List ℕ) → mostBytes < length list → said list ≡ tooLongLine
 unfolding said
@@ -28,17 +28,35 @@ pub said-compiled : (list : List ℕ) → length list ≤ mostBytes
 unfolding said
 said-compiled list h = rw (le-ltb mostBytes (length list) h) refl
 
+-- what is said, at the front of a room that is otherwise as before
+abbrev pub Reported : List ℕ → List ℕ → List ℕ → ℕ → Type 0
+Reported list before after n = reportLeft n after ≡ reportOf list before
+
+front-said : (list before after : List ℕ) (n : ℕ) → n ≡ length (said list) → take n after ≡ said list
+    → drop n after ≡ drop n before → Reported list before after n
+unfolding reportOf
+front-said list before after n count front beyond =
+    let whole : after ≡ said list ++ drop n before = sym (take-append-drop n after) ∙ rw (front, beyond) refl in
+    rw (whole, count) refl
+
+-- what is reported stands in the room
+pub report-fits : (list before after : List ℕ) (n : ℕ) → Reported list before after n → n ≤ length after
+unfolding reportOf
+report-fits list before after n e =
+    let count : n ≡ length (said list) = ap (λ r. r .count) e in
+    let room : length after ≡ length (said list) + length (drop (length (said list)) before) =
+    ap (λ r. length (r .room)) e ∙ length-append (said list) _ in
+    omega arith
+
+pub report-front : (list before after : List ℕ) (n : ℕ) → Reported list before after n → n ≡ length (take n after)
+report-front list before after n e = sym (length-take-le n after (report-fits list before after n e))
+
 -- a line put at the front of the room
 pub line-reported : (list room after text : List ℕ) (n : ℕ) → said list ≡ text → Put text 0 room after n
     → Reported list room after n
 line-reported list room after text n e p =
     let (front, beyond) = put-front p in
-    record {
-      count = rw e (omega (arith, p .behind));
-      fits = omega (arith, p .fits, put-length p);
-      front = front ∙ sym e;
-      beyond = beyond;
-    }
+    front-said list room after n (rw e (omega (arith, p .behind))) (front ∙ sym e) beyond
 
 -- What is said by the compiler's answer in any room of that size: its former content plays no part.
 module _ (list room : List ℕ) (few : length list ≤ mostBytes) (size : length room ≡ roomBytes) where
@@ -60,10 +78,17 @@ module _ (list room : List ℕ) (few : length list ≤ mostBytes) (size : length
       said-compiled list few ∙ rw (sym (answers-alike list room zeros alike) ∙ e)
       (sym (outputs-alike list room zeros b n alike e))
 
-  -- as the code comes to it: `a` is the compiler's answer, `left` the room after it
-  module _ (a : CompileAnswer) (left : List ℕ) (e : compileListed a ≡ compiled list room .answer)
-      (w : left ≡ compiled list room .room) where
-    pub output-reported : (b n : ℕ) → a ≡ CompileAnswer.Compiled b n → Reported list room left b
+  -- as the code comes to it: `a` is the compiler's answer, `room′` the room after it
+  module _ (a : CompileAnswer) (room′ : List ℕ) (done : left a room′ ≡ compiled list room) where
+    e : compileListed a ≡ compiled list room .answer
+    unfolding left
+    e = ap (λ c. c .answer) done
+
+    w : room′ ≡ compiled list room .room
+    unfolding left
+    w = ap (λ c. c .room) done
+
+    pub output-reported : (b n : ℕ) → a ≡ CompileAnswer.Compiled b n → Reported list room room′ b
     unfolding compileListed
     output-reported b n d =
         let f : compiled list room .answer ≡ Answer.accepted (b ∷ n ∷ []) = sym e ∙ rw d refl in
@@ -71,19 +96,16 @@ module _ (list room : List ℕ) (few : length list ≤ mostBytes) (size : length
         let same = k .same in
         let q : length (output (k .xs)) ≡ b = cc in
         let s = said-accepted b n f in
-        record {
-          count = rw (s, output-at-front list room b n f (k .xs) (k .list-records)) (sym q);
-          fits = rw (w, room-length list room) (omega (arith, k .fits));
-          front = rw w (sym s);
-          beyond = rw w (room-beyond list room b n f);
-        }
+        front-said list room room′ b (rw (s, output-at-front list room b n f (k .xs) (k .list-records)) (sym q))
+        (rw w (sym s))
+        (rw w (room-beyond list room b n f))
 
     pub refusal-reported : (r : Refusal) (after : List ℕ) (m : ℕ) → a ≡ CompileAnswer.Refused r
-        → Put (refusedLine (r .number) (r .place)) 0 left after m → Reported list room after m
+        → Put (refusedLine (r .number) (r .place)) 0 room′ after m → Reported list room after m
     unfolding compileListed
     refusal-reported r after m d p =
         let f : compiled list room .answer ≡ Answer.refused (r .number) (r .place) = sym e ∙ rw d refl in
-        let same : left ≡ room = w ∙ refusal-changes-nothing list room _ _ f in
+        let same : room′ ≡ room = w ∙ refusal-changes-nothing list room _ _ f in
         line-reported list room after _ m (said-refused _ _ f) (rw same at p)
 
 -- What is said by the list alone. A list is one or the other, and a bad record's number is 21 to 24, so 26 is never said.

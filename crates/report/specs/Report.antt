@@ -1,7 +1,6 @@
 -- What the compiling program writes for the bytes that it is given.
 use mathlib.Core.Bool.{cond}
-use Prim.Native.Nat.{ℕ, _≤_}
-use mathlib.Core.Path.{_≡_}
+use Prim.Native.Nat.{ℕ}
 use mathlib.Core.List.{List, _++_}
 use lib.ListN.{length, take, drop, getD, replicate}
 use lib.Dec.{ltb}
@@ -35,9 +34,13 @@ unfoldable pub said : List ℕ → List ℕ
 said list =
     cond (ltb mostBytes (length list)) tooLongLine (compiledBytes (compiled list (replicate roomBytes 0)))
 
--- The room after it: the bytes said stand at the front, n of them, and all behind is as before.
-pub record Reported (list before after : List ℕ) (n : ℕ) : Type 0 where
-  pub count : n ≡ length (said list)
-  pub fits : n ≤ length after
-  pub front : take n after ≡ said list
-  pub beyond : drop n after ≡ drop n before
+-- All that a report answers and leaves: how many bytes are said, and the room, where they stand at the front.
+pub record Report : Type 0 where
+  pub count : ℕ
+  pub room : List ℕ
+
+abbrev pub reportLeft : ℕ → List ℕ → Report
+reportLeft n room = record { count = n; room = room }
+
+unfoldable pub reportOf : List ℕ → List ℕ → Report
+reportOf list room = reportLeft (length (said list)) (said list ++ drop (length (said list)) room)

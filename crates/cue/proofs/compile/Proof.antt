@@ -1,8 +1,8 @@
 use borrow.Author.Needs.{needs}
 use Rattle.cue.proofs.compile.Statement.{statement}
 use Rattle.cue.proofs.compile.Tie as tie
-use Rattle.cue.specs.Compile.{compileListed}
-use Rattle.cue.proofs.Demand3.{demand3}
+use Rattle.cue.specs.Compile.{compileListed, left}
+use Rattle.cue.proofs.Demand3.{demand3-of}
 use Rattle.cue.proofs.AnswerLaws.{turned-away, too-small, may-write, all-written}
 
 plan-requires : tie.Need-plan-requires
@@ -15,11 +15,12 @@ enum-told : tie.Need-enum-told
 enum-told c = search needs
 
 returns : tie.Need-returns
-returns c = let r = turned-away _ _ _ (c .before .before .plan .ensures) _ (c .enum-told .given .1) in (r .0, (r .1, demand3 _ _))
+unfolding left
+returns c = let r = turned-away _ _ _ (c .before .before .plan .ensures) _ (c .enum-told .given .1) in (r, demand3-of _ _ _ _ r)
 
 returns-2 : tie.Need-returns-2
-unfolding compileListed
-returns-2 c = let b = c .before .before in let r = too-small _ _ _ (b .before .before .plan .ensures) _ _ (b .answer .given .1) (c .if1 .taken) in (r .0, (r .1, demand3 _ _))
+unfolding compileListed left
+returns-2 c = let b = c .before .before in let r = too-small _ _ _ (b .before .before .plan .ensures) _ _ (b .answer .given .1) (c .if1 .taken) in (r, demand3-of _ _ _ _ r)
 
 emit-requires : tie.Need-emit-requires
 emit-requires c κs = let b = c .before .before .before in may-write _ _ _ (b .before .before .plan .ensures) _ _ (b .answer .given .1) (c .before .if1 .left)
@@ -28,8 +29,8 @@ same-length : tie.Need-same-length
 same-length c = search needs
 
 returns-3 : tie.Need-returns-3
-unfolding compileListed
-returns-3 c = let b = c .before .before .before .before .before .before in let r = all-written _ _ _ (b .before .before .plan .ensures) _ _ (b .answer .given .1) _ (c .before .before .before .before .if1 .left) (c .before .before .emit .ensures) in (r .0, (r .1, demand3 _ _))
+unfolding compileListed left
+returns-3 c = let b = c .before .before .before .before .before .before in let r = all-written _ _ _ (b .before .before .plan .ensures) _ _ (b .answer .given .1) _ (c .before .before .before .before .if1 .left) (c .before .before .emit .ensures) in (r, demand3-of _ _ _ _ r)
 
 pub compile-spec : {M : Type 1} → statement M
 compile-spec =

@@ -1,8 +1,8 @@
 use borrow.Author.Needs.{needs}
 use Rattle.head.proofs.head_compile.Statement.{statement}
 use Rattle.head.proofs.head_compile.Tie as tie
-use mathlib.Core.Path.{ap, _∙_}
-use Rattle.head.specs.Exports.{numberOf, valueOf, countOf}
+use Rattle.cue.specs.Demand3.{Demand3}
+use Rattle.head.proofs.ExportLaws.{compile-left, compile-accepted}
 
 compile-requires : tie.Need-compile-requires
 compile-requires c κs = search needs
@@ -20,7 +20,7 @@ same-length : tie.Need-same-length
 same-length c = search needs
 
 returns : tie.Need-returns
-returns c = let s = c .before .before .before .before .before .compile .ensures in (c .compile-number .ensures ∙ ap numberOf (s .0), (c .before .before .compile-bytes .ensures ∙ ap valueOf (s .0), (c .before .compile-packets .ensures ∙ ap countOf (s .0), s .1)))
+returns c = let s = c .before .before .before .before .before .compile .ensures in (compile-left _ _ _ _ _ _ _ (s .0) (c .before .before .compile-bytes .ensures) (c .before .compile-packets .ensures) (c .compile-number .ensures), compile-accepted _ _ _ _ _ _ _ (s .0) (Demand3 _ _) (s .1) (c .before .before .compile-bytes .ensures) (c .before .compile-packets .ensures) (c .compile-number .ensures))
 
 pub head-compile-spec : {M : Type 1} → statement M
 head-compile-spec =

@@ -1,8 +1,7 @@
 use borrow.Author.Needs.{needs}
 use Rattle.head.proofs.head_spi.Statement.{statement}
 use Rattle.head.proofs.head_spi.Tie as tie
-use mathlib.Core.Path.{ap, _∙_}
-use Rattle.head.specs.Exports.{numberOf, valueOf}
+use Rattle.head.proofs.ExportLaws.{spi-left}
 
 burst-requires : tie.Need-burst-requires
 burst-requires c κs = search needs
@@ -20,7 +19,7 @@ same-length-2 : tie.Need-same-length-2
 same-length-2 c = search needs
 
 returns : tie.Need-returns
-returns c = let s = c .before .before .before .before .before .before .burst .ensures in (c .burst-number .ensures ∙ ap numberOf (s .0), (c .before .burst-value .ensures ∙ ap valueOf (s .0), s .1))
+returns c = spi-left _ _ _ _ _ _ _ _ (c .before .before .before .before .before .before .burst .ensures) (c .before .burst-value .ensures) (c .burst-number .ensures)
 
 pub head-spi-spec : {M : Type 1} → statement M
 head-spi-spec =

@@ -23,10 +23,10 @@ put-refusal-requires : tie.Need-put-refusal-requires
 put-refusal-requires c κs = search needs
 
 returns-2 : tie.Need-returns-2
-returns-2 c = let b = c .before .before .before in output-reported _ _ (omega arith) (omega arith) _ _ (b .compile .ensures .0) (b .compile .ensures .1 .0) _ _ (c .before .bytes .given .1)
+returns-2 c = let b = c .before .before .before in output-reported _ _ (omega arith) (omega arith) _ _ (b .compile .ensures .0) _ _ (c .before .bytes .given .1)
 
 returns-3 : tie.Need-returns-3
-returns-3 c = let b = c .before .before .before .before .before in refusal-reported _ _ (omega arith) (omega arith) _ _ (b .compile .ensures .0) (b .compile .ensures .1 .0) _ _ _ (c .before .before .before .r .given .1) (c .put-refusal .ensures)
+returns-3 c = let b = c .before .before .before .before .before in refusal-reported _ _ (omega arith) (omega arith) _ _ (b .compile .ensures .0) _ _ _ (c .before .before .before .r .given .1) (c .put-refusal .ensures)
 
 pub report-spec : {M : Type 1} → statement M
 report-spec =

@@ -3,6 +3,7 @@ use Rattle.card.proofs.run.run.Tie as tie
 use borrow.Author.Needs.{needs}
 use mathlib.Core.Path.{refl, sym, ap, _∙_}
 use Rattle.packet.specs.Verdict.{verdictListed}
+use Rattle.card.specs.Run.{counted}
 use Rattle.card.proofs.AnswerLaws.{may-run, other-room, run-refused, run-done}
 
 refused-requires : tie.Need-refused-requires
@@ -35,6 +36,10 @@ clear-unlock-requires : tie.Need-clear-unlock-requires
 unfolding verdictListed
 clear-unlock-requires c κs = c .before .before .before .before .before .perform .kept .1 .0 ∙ may-run _ _ _ (c .before .before .before .before .before .before .before .before .before .answer .given .0 .0) (ap verdictListed (sym (c .before .before .before .before .before .before .before .before .before .answer .given .1)) ∙ c .before .before .before .before .before .before .before .before .before .before .before .check .ensures) .1
 
+count-packet-requires : tie.Need-count-packet-requires
+unfolding verdictListed
+count-packet-requires c κs = c .before .before .before .clear-unlock .kept .0 ∙ c .before .before .before .before .before .before .before .before .before .perform .kept .1 .0 ∙ may-run _ _ _ (c .before .before .before .before .before .before .before .before .before .before .before .before .before .answer .given .0 .0) (ap verdictListed (sym (c .before .before .before .before .before .before .before .before .before .before .before .before .before .answer .given .1)) ∙ c .before .before .before .before .before .before .before .before .before .before .before .before .before .before .before .check .ensures) .1
+
 same-length-2 : tie.Need-same-length-2
 same-length-2 c = search needs
 
@@ -43,7 +48,7 @@ same-length-3 c = search needs
 
 returns-3 : tie.Need-returns-3
 unfolding verdictListed
-returns-3 c = run-done _ _ _ _ (c .before .before .before .before .before .before .before .before .before .before .before .before .before .before .before .before .if1 .left) (c .before .before .before .before .before .before .before .before .before .before .before .before .answer .given .0 .0) _ _ _ refl (ap verdictListed (sym (c .before .before .before .before .before .before .before .before .before .before .before .before .answer .given .1)) ∙ c .before .before .before .before .before .before .before .before .before .before .before .before .before .before .check .ensures) (c .before .before .before .before .before .before .before .before .perform .ensures) _ (c .before .before .clear-unlock .ensures)
+returns-3 c = run-done _ _ _ _ (c .before .before .before .before .before .before .before .before .before .before .before .before .before .before .before .before .before .before .before .before .if1 .left) (c .before .before .before .before .before .before .before .before .before .before .before .before .before .before .before .before .answer .given .0 .0) _ _ _ refl (ap verdictListed (sym (c .before .before .before .before .before .before .before .before .before .before .before .before .before .before .before .before .answer .given .1)) ∙ c .before .before .before .before .before .before .before .before .before .before .before .before .before .before .before .before .before .before .check .ensures) (c .before .before .before .before .before .before .before .before .before .before .before .before .perform .ensures) _ (c .before .before .count-packet .ensures ∙ ap counted (c .before .before .before .before .before .before .clear-unlock .ensures))
 
 pub run-spec : {M : Type 1} → statement M
 run-spec =
@@ -58,6 +63,7 @@ run-spec =
     returns-2
     perform-requires
     clear-unlock-requires
+    count-packet-requires
     same-length-2
     same-length-3
     returns-3)
