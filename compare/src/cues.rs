@@ -1,7 +1,7 @@
 //! Makes random cue lists: good ones, ones at a limit, and ones with faults of every kind.
 
 use crate::rng::Rng;
-use model::store::{Space, UNLOCK_ADDRESS};
+use model::store::{Space, COUNT_ADDRESS, UNLOCK_ADDRESS};
 use model::PACKET_BYTES;
 
 /// A list in the making.
@@ -169,7 +169,7 @@ fn rising_spaces(rng: &mut Rng, list: &mut List, count: usize) {
     let mut address = 0;
     for _ in 0..count {
         let space = rng.pick(&[Space::Status, Space::Information, Space::Information]);
-        address = off_the_unlock(space, address);
+        address = allowed(space, address);
         access(rng, list, space, false, address);
         address = next(space, false, address);
     }
@@ -308,14 +308,14 @@ fn address(rng: &mut Rng, space: Space, write: bool) -> u32 {
         2 => first + element * rng.below(12) as u32,
         _ => element * rng.below((space.bytes() / element) as usize) as u32,
     };
-    off_the_unlock(space, drawn.clamp(first, space.bytes() - element))
+    allowed(space, drawn.clamp(first, space.bytes() - element))
 }
 
 /// The neighbouring element's address.
 fn next(space: Space, write: bool, address: u32) -> u32 {
     let next = address + space.element();
     match next < space.bytes() {
-        true => off_the_unlock(space, next),
+        true => allowed(space, next),
         false => lowest(space, write),
     }
 }
@@ -327,8 +327,9 @@ fn lowest(space: Space, write: bool) -> u32 {
     }
 }
 
-fn off_the_unlock(space: Space, address: u32) -> u32 {
-    match space == Space::Status && address == UNLOCK_ADDRESS {
+/// The address, or the next one where no list may name it.
+fn allowed(space: Space, address: u32) -> u32 {
+    match space.kept_from_lists(address) {
         true => address + 2,
         false => address,
     }
@@ -357,7 +358,10 @@ fn bad_record(rng: &mut Rng) -> Vec<u8> {
             }
             4 => bytes = record(true, 7, 2 * rng.below(16) as u16, value),
             5 => bytes = record(true, 2, 2 * rng.below(16) as u16, value),
-            6 => bytes = record(rng.coin(), 6, 0x1A, value),
+            6 => {
+                let address = rng.pick(&[COUNT_ADDRESS, UNLOCK_ADDRESS]);
+                bytes = record(rng.coin(), 6, address as u16, value);
+            }
             7 => bytes[3] = rng.pick(&[1, 0x80, 0xFF]),
             _ => {
                 let high = rng.pick(&[0x1_0000, 0x8000_0000, 0xFFFF_0000]);

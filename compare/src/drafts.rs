@@ -1,7 +1,7 @@
 //! Makes random packets: legal ones, ones at a limit, and ones with faults of every kind.
 
 use crate::rng::Rng;
-use model::store::{Space, UNLOCK_ADDRESS, UNLOCK_VALUE};
+use model::store::{Space, COUNT_ADDRESS, UNLOCK_ADDRESS, UNLOCK_VALUE};
 use model::words::Fields;
 use model::PACKET_BYTES;
 
@@ -442,11 +442,14 @@ impl<'r> Packet<'r> {
         }
     }
 
-    /// Makes some of the values written to the status space ones that open the unlock.
+    /// Makes some of the values written to the status space ones that open the unlock, and some
+    /// the highest, from which the packet count goes to 0.
     fn status_values(&mut self, start: usize) {
         for value in self.bytes[start..].chunks_exact_mut(2) {
-            if self.rng.one_in(4) {
-                value.copy_from_slice(&UNLOCK_VALUE.to_le_bytes());
+            match self.rng.below(16) {
+                0..=3 => value.copy_from_slice(&UNLOCK_VALUE.to_le_bytes()),
+                4 => value.fill(0xFF),
+                _ => {}
             }
         }
     }
@@ -478,7 +481,7 @@ impl<'r> Packet<'r> {
             0 => first,
             1 => last,
             2 => last - element * self.rng.below(12) as u32,
-            3 => 0x1A,
+            3 => self.rng.pick(&[COUNT_ADDRESS, UNLOCK_ADDRESS]),
             4 => 0x20,
             5 => element * self.rng.below(64) as u32,
             _ => element * self.rng.below((space.bytes() / element) as usize) as u32,

@@ -17,6 +17,9 @@ pub mod shows;
 pub mod tally;
 pub mod words;
 
+use model::store::{Space, COUNT_ADDRESS};
+use std::ops::Range;
+
 /// What a part found: how often it met which ending, or the first difference in words.
 pub type Outcome = Result<Vec<tally::Tally>, String>;
 
@@ -60,6 +63,18 @@ pub fn same_input<T: PartialEq>(lent: &[T], given: &[T]) -> Result<(), String> {
         return Ok(());
     }
     Err("the library changed its input".to_string())
+}
+
+/// The bytes of the store that a status cell stands in.
+pub fn status_cell(address: u32) -> Range<usize> {
+    let first = Space::Status.place(address);
+    first..first + 2
+}
+
+/// The packet count that a store holds.
+pub fn packet_count(store: &[u8]) -> u16 {
+    let cell = store[status_cell(COUNT_ADDRESS)].try_into();
+    u16::from_le_bytes(cell.expect("two bytes"))
 }
 
 /// Bytes as they stand in the documents, the middle of long ones left out.

@@ -7,12 +7,13 @@ use crate::tally::Tally;
 use crate::{hex, numbers, same_answer, same_input, Answer, Outcome};
 use head::exports;
 use model::packing::compile;
+use model::store::{Space, COUNT_ADDRESS, UNLOCK_ADDRESS};
 use model::words::Fields;
 use model::{HIGHEST_COUNT, PACKET_BYTES};
 
 const ENDINGS: [u32; 6] = [0, 21, 22, 23, 24, 26];
 
-const SITUATIONS: [&str; 12] = [
+const SITUATIONS: [&str; 14] = [
     EMPTY,
     HUNDRED_THOUSAND,
     SHORT_BY_ONE,
@@ -22,6 +23,8 @@ const SITUATIONS: [&str; 12] = [
     FULL_PACKET,
     FULL_REPLY,
     UNLOCKS,
+    NAMES_UNLOCK,
+    NAMES_COUNT,
     LATER[0],
     LATER[1],
     LATER[2],
@@ -35,6 +38,8 @@ const FULL_COMMAND: &str = "command of 127 elements";
 const FULL_PACKET: &str = "packet of 1,472 bytes";
 const FULL_REPLY: &str = "packet with a reply of 1,472 bytes";
 const UNLOCKS: &str = "unlock in more than one packet";
+const NAMES_UNLOCK: &str = "refused for a record that names the unlock cell";
+const NAMES_COUNT: &str = "refused for a record that names the packet count";
 /// Numbers 22 to 24 at a record that isn't the first.
 const LATER: [&str; 3] = [
     "refused 22 past the first record",
@@ -113,6 +118,11 @@ impl Part {
         if (22..=24).contains(&number) {
             tally.situation(LATER[number as usize - 22], value > 0);
         }
+        if number == 23 {
+            let record = from_record(list, value);
+            tally.situation(NAMES_UNLOCK, names(record, UNLOCK_ADDRESS));
+            tally.situation(NAMES_COUNT, names(record, COUNT_ADDRESS));
+        }
         if number == 0 {
             tally.situation(EMPTY, list.is_empty());
             tally.situation(EXACT_ROOM, room == needed && needed > 0);
@@ -143,6 +153,22 @@ impl Part {
         self.tally.situation(HUNDRED_THOUSAND, hundred_thousand);
         self.tally.situation(UNLOCKS, unlocks > 1);
     }
+}
+
+/// The list's bytes from a record on.
+fn from_record(list: &[u8], index: u64) -> &[u8] {
+    let mut rest = list;
+    for _ in 0..index {
+        let bytes = if rest.starts_with(b"RD") { 6 } else { 10 };
+        rest = &rest[bytes..];
+    }
+    rest
+}
+
+/// Whether a record names the cell at this address of the status space.
+fn names(record: &[u8], address: u32) -> bool {
+    let [low, high] = (address as u16).to_le_bytes();
+    record[2] == Space::Status.number() && record[4..6] == [low, high]
 }
 
 fn same_count(packets: u64, expected: u64) -> Result<(), String> {

@@ -5,14 +5,16 @@ use crate::drafts;
 use crate::lent::Lent;
 use crate::rng::Rng;
 use crate::tally::Tally;
-use crate::{hex, numbers, same_answer, same_input, wrapped, Answer, Outcome};
+use crate::{
+    hex, numbers, packet_count, same_answer, same_input, status_cell, wrapped, Answer, Outcome,
+};
 use model::packet::{check, run};
-use model::store::{Space, STORE_BYTES, UNLOCK_ADDRESS, UNLOCK_VALUE};
+use model::store::{Space, COUNT_ADDRESS, STORE_BYTES, UNLOCK_ADDRESS, UNLOCK_VALUE};
 use model::PACKET_BYTES;
 
 const ENDINGS: [u32; 13] = [0, 1, 2, 3, 4, 5, 6, 7, 8, 9, 10, 11, 12];
 
-const SITUATIONS: [&str; 20] = [
+const SITUATIONS: [&str; 23] = [
     EMPTY,
     FULL_PACKET,
     FULL_REPLY,
@@ -33,6 +35,9 @@ const SITUATIONS: [&str; 20] = [
     LATER[8],
     LATER[9],
     HUGE_POINTER,
+    COUNT_TO_0,
+    COUNT_WRITTEN,
+    COUNT_WRITTEN_TO_0,
 ];
 const EMPTY: &str = "empty packet accepted";
 const FULL_PACKET: &str = "packet of 1,472 bytes accepted";
@@ -44,6 +49,9 @@ const POINTER_AT_END: &str = "pointer moved to its space's end";
 const POINTER_ODD: &str = "packet accepted beside a misaligned pointer";
 const TOO_LONG_BY_ONE: &str = "packet of 1,473 bytes refused";
 const HUGE_POINTER: &str = "pointer of 4,294,967,295 refused";
+const COUNT_TO_0: &str = "packet count from 65,535 to 0";
+const COUNT_WRITTEN: &str = "packet count written by the packet";
+const COUNT_WRITTEN_TO_0: &str = "packet count written as 65,535, and 0 afterwards";
 const CHECK_SITUATIONS: [&str; 2] = [ACCEPTED_BUT_ROOM, REFUSED_AFTER_ROOM];
 const ACCEPTED_BUT_ROOM: &str = "accepted, and run with a wrong reply room";
 const REFUSED_AFTER_ROOM: &str = "refused above 1, and run with a wrong reply room";
@@ -199,7 +207,14 @@ impl Part {
         }
         if rng.one_in(8) {
             let value = rng.pick(&[UNLOCK_VALUE, UNLOCK_VALUE, 0xFFFF, 0x0100, 0x0001]);
-            self.store.put(unlock_cell(), &value.to_le_bytes());
+            let cell = status_cell(UNLOCK_ADDRESS);
+            self.store.put(cell.start, &value.to_le_bytes());
+        }
+        if rng.one_in(8) {
+            let any = rng.number() as u16;
+            let value = rng.pick(&[any, any, 0xFFFF, 0xFFFE, 0x00FF]);
+            let cell = status_cell(COUNT_ADDRESS);
+            self.store.put(cell.start, &value.to_le_bytes());
         }
         for space in Space::ALL {
             if self.rng.one_in(8) {
@@ -276,6 +291,8 @@ impl Part {
     fn count_accepted(&mut self, packet: &[u8], length: u64) {
         let eeprom = Space::Eeprom.start()..Space::Status.start();
         let changed = self.store.before()[eeprom.clone()] != self.store.model()[eeprom];
+        let count = packet_count(self.store.before());
+        let count_after = packet_count(self.store.model());
         let before = self.pointers.before();
         let after = self.pointers.model();
         let at = |space: &Space| space.index();
@@ -291,10 +308,14 @@ impl Part {
         tally.situation(EEPROM_WRITTEN, changed);
         tally.situation(POINTER_AT_END, moved_to_end);
         tally.situation(POINTER_ODD, odd && !packet.is_empty());
+        let written = count_after != count.wrapping_add(1);
+        tally.situation(COUNT_TO_0, count == 0xFFFF && count_after == 0);
+        tally.situation(COUNT_WRITTEN, written);
+        tally.situation(COUNT_WRITTEN_TO_0, written && count_after == 0);
     }
 
     fn count_refused(&mut self, packet: &[u8], number: u32, place: u64) {
-        let cell = &self.store.before()[unlock_cell()..][..2];
+        let cell = &self.store.before()[status_cell(UNLOCK_ADDRESS)];
         let stale = cell == UNLOCK_VALUE.to_le_bytes();
         let unlock = UNLOCK_VALUE.to_le_bytes();
         let before_it = &packet[..place as usize];
@@ -309,10 +330,6 @@ impl Part {
             tally.situation(LATER[number as usize - 3], place > 0);
         }
     }
-}
-
-fn unlock_cell() -> usize {
-    Space::Status.place(UNLOCK_ADDRESS)
 }
 
 /// A pointer that no rule turns away: aligned or not, in the space or at its end.

@@ -1,20 +1,20 @@
 //! Plays whole shows: a list compiled and run by the library, beside its records done one by one.
 
 use crate::cues;
-use crate::hex;
 use crate::lists::packets;
 use crate::rng::Rng;
 use crate::tally::Tally;
-use crate::Outcome;
+use crate::{hex, packet_count, status_cell, Outcome};
 use model::cue::Records;
-use model::store::{Space, STORE_BYTES, UNLOCK_ADDRESS};
+use model::store::{Space, COUNT_ADDRESS, STORE_BYTES, UNLOCK_ADDRESS};
 use model::PACKET_BYTES;
 
-const SITUATIONS: [&str; 4] = [EMPTY, SEVERAL, READ, EEPROM];
+const SITUATIONS: [&str; 5] = [EMPTY, SEVERAL, READ, EEPROM, COUNT_PAST_0];
 const EMPTY: &str = "show without a packet";
 const SEVERAL: &str = "show of several packets";
 const READ: &str = "show that reads more than one reply holds";
 const EEPROM: &str = "show that changes the EEPROM";
+const COUNT_PAST_0: &str = "show whose packet count goes past 65,535";
 
 pub fn compare(seed: u64, count: u64) -> Outcome {
     let mut rng = Rng::new(seed);
@@ -30,6 +30,10 @@ pub fn compare(seed: u64, count: u64) -> Outcome {
 fn play(rng: &mut Rng, tally: &mut Tally, list: &[u8]) -> Result<(), String> {
     let mut start = vec![0; STORE_BYTES];
     rng.fill(&mut start);
+    if rng.one_in(4) {
+        let count = 0xFFFF - rng.below(4) as u16;
+        start[status_cell(COUNT_ADDRESS)].copy_from_slice(&count.to_le_bytes());
+    }
 
     let mut one_by_one = start.clone();
     let mut values = Vec::new();
@@ -50,15 +54,15 @@ fn play(rng: &mut Rng, tally: &mut Tally, list: &[u8]) -> Result<(), String> {
             hex(&values)
         ));
     }
-    let ran = !packets.is_empty();
-    stores_agree(&played, one_by_one, ran)?;
+    stores_agree(&played, one_by_one, packets.len())?;
 
     let eeprom = Space::Eeprom.start()..Space::Status.start();
     tally.ending(0);
-    tally.situation(EMPTY, !ran);
+    tally.situation(EMPTY, packets.is_empty());
     tally.situation(SEVERAL, packets.len() > 1);
     tally.situation(READ, replies.len() > PACKET_BYTES);
     tally.situation(EEPROM, played[eeprom.clone()] != start[eeprom]);
+    tally.situation(COUNT_PAST_0, packet_count(&played) < packet_count(&start));
     Ok(())
 }
 
@@ -97,12 +101,14 @@ fn run_all(rng: &mut Rng, packets: &[&[u8]], store: &mut [u8]) -> Result<Vec<u8>
     Ok(replies)
 }
 
-/// The stores must agree but for the unlock cell, which a packet leaves at 0.
-fn stores_agree(played: &[u8], mut expected: Vec<u8>, ran: bool) -> Result<(), String> {
-    if ran {
-        let unlock = Space::Status.place(UNLOCK_ADDRESS);
-        expected[unlock..unlock + 2].fill(0);
+/// The stores must agree but for the unlock cell, which a packet leaves at 0, and the packet count,
+/// which goes up by the number of packets.
+fn stores_agree(played: &[u8], mut expected: Vec<u8>, packets: usize) -> Result<(), String> {
+    if packets > 0 {
+        expected[status_cell(UNLOCK_ADDRESS)].fill(0);
     }
+    let count = packet_count(&expected).wrapping_add(packets as u16);
+    expected[status_cell(COUNT_ADDRESS)].copy_from_slice(&count.to_le_bytes());
     let mut pairs = played.iter().zip(&expected);
     match pairs.position(|(played, expected)| played != expected) {
         None => Ok(()),

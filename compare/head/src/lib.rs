@@ -86,7 +86,9 @@ pub fn check(packet: &[u8], store: &[u8], pointers: &[u32]) -> Result<usize, Ref
 ///
 /// What [`check`] refuses in the state that the run starts from is refused alike; it need not have
 /// been called. `store` and `pointers` are as there, and are what the next packet starts from.
-/// `reply` must have [`PACKET_BYTES`]; beyond the answered length it is left as it was.
+/// `reply` must have [`PACKET_BYTES`]; beyond the answered length it is left as it was. An accepted
+/// packet clears the unlock cell at its end and then raises the packet count, the cell at 0x0A of
+/// space 6, by one, from 65,535 to 0.
 pub fn run(
     packet: &[u8],
     store: &mut [u8],

@@ -60,6 +60,22 @@ fn wrong_reply_room_is_refused_by_the_run_alone() {
 }
 
 #[test]
+fn accepted_packets_are_counted() {
+    let mut store = vec![0xFF; STORE_BYTES];
+    let mut pointers = [0; 4];
+    let mut reply = [0; PACKET_BYTES];
+    let read = [0x01, 0x59, 0x0A, 0x00];
+    for count in [0xFFFF_u16, 0, 1] {
+        let answer = head::run(&read, &mut store, &mut pointers, &mut reply);
+        assert_eq!(answer, Ok(2));
+        assert_eq!(reply[..2], count.to_le_bytes());
+        let refusal = head::run(&[0], &mut store, &mut pointers, &mut reply).unwrap_err();
+        assert_eq!(refusal.to_string(), "refused 3 at 0");
+    }
+    assert_eq!(store[65_674..65_676], [2, 0]);
+}
+
+#[test]
 fn burst() {
     let mut store = vec![0; STORE_BYTES];
     let mut answer = [7; 4];

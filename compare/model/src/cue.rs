@@ -1,6 +1,6 @@
 //! Cue lists: reading their records, and doing a record alone.
 
-use crate::store::{Space, UNLOCK_ADDRESS};
+use crate::store::Space;
 use crate::Refusal;
 
 /// The most records that a list may have.
@@ -105,7 +105,7 @@ fn check(record: &[u8]) -> Result<Record, u32> {
     if address % space.element() != 0
         || address + space.element() > space.bytes()
         || record.is_write() && space.read_only_at(address)
-        || space == Space::Status && address == UNLOCK_ADDRESS
+        || space.kept_from_lists(address)
     {
         return Err(23);
     }

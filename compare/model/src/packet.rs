@@ -1,6 +1,6 @@
 //! Checking one packet, and running it on a card store.
 
-use crate::store::{Space, STORE_BYTES, UNLOCK_ADDRESS, UNLOCK_VALUE};
+use crate::store::{Space, COUNT_ADDRESS, STORE_BYTES, UNLOCK_ADDRESS, UNLOCK_VALUE};
 use crate::words::Fields;
 use crate::{Refusal, PACKET_BYTES};
 use std::ops::Range;
@@ -35,10 +35,16 @@ pub fn run(
         let command = walk.command()?;
         replied += command.run(store, &mut reply[replied..]);
     }
-    let unlock = Space::Status.place(UNLOCK_ADDRESS);
-    store[unlock..unlock + 2].fill(0);
+    *status_cell(store, UNLOCK_ADDRESS) = [0; 2];
+    let count = status_cell(store, COUNT_ADDRESS);
+    *count = u16::from_le_bytes(*count).wrapping_add(1).to_le_bytes();
     pointers.copy_from_slice(&walk.pointers);
     Ok(replied)
+}
+
+fn status_cell(store: &mut [u8], address: u32) -> &mut [u8; 2] {
+    let cell = store[Space::Status.place(address)..].first_chunk_mut();
+    cell.expect("a cell of the store")
 }
 
 /// A walk from the packet's first command, unless 1 or 2 refuses it.

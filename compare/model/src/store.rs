@@ -3,6 +3,9 @@
 /// The store's length: the four spaces, one after the other.
 pub const STORE_BYTES: usize = 65_728;
 
+/// Where the count of accepted packets, RXUDPCount, stands in the status space.
+pub const COUNT_ADDRESS: u32 = 0x0A;
+
 /// Where the EEPROM unlock cell stands in the status space.
 pub const UNLOCK_ADDRESS: u32 = 0x1A;
 
@@ -93,6 +96,11 @@ impl Space {
     /// Whether a write to `address` goes to a cell that is read only.
     pub fn read_only_at(self, address: u32) -> bool {
         self.first_writable().is_none_or(|first| address < first)
+    }
+
+    /// Whether `address` is that of a cell which every packet changes, and no list may name.
+    pub fn kept_from_lists(self, address: u32) -> bool {
+        self == Space::Status && [COUNT_ADDRESS, UNLOCK_ADDRESS].contains(&address)
     }
 
     /// The place in the store of the byte at `address`.

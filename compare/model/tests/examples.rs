@@ -51,6 +51,12 @@ impl Card {
         run(packet, &mut self.store, &mut self.pointers, &mut self.reply)
     }
 
+    /// The packet count.
+    fn count(&self) -> u16 {
+        let cell = 65_664 + 0x0A;
+        u16::from_le_bytes([self.store[cell], self.store[cell + 1]])
+    }
+
     /// Runs a packet that must be refused and change nothing.
     fn refuses(packet: &[u8], number: u32, place: u64) {
         let mut card = Card::new();
@@ -239,12 +245,13 @@ fn room_too_small_by_one() {
 }
 
 #[test]
-fn empty_packet_clears_the_unlock_cell() {
+fn empty_packet_clears_the_unlock_cell_and_counts() {
     let mut card = Card::new();
     assert_eq!(card.run(&[]), Ok(0));
     let mut fresh = Card::new();
-    let cell = 65_664 + 0x1A;
-    fresh.store[cell..cell + 2].fill(0);
+    let count = (fresh.count() + 1).to_le_bytes();
+    fresh.store[65_674..65_676].copy_from_slice(&count);
+    fresh.store[65_690..65_692].fill(0);
     assert!(card.store == fresh.store);
 }
 
@@ -374,4 +381,56 @@ fn a_wrong_reply_room_is_refused_by_the_run_alone() {
     assert_eq!(card.run(&[0x81, 0x02]), Err(Refusal::whole(1)));
     assert_eq!(card.check(&[0; 1_473]), Err(Refusal::whole(2)));
     assert_eq!(card.run(&[0; 1_473]), Err(Refusal::whole(1)));
+}
+
+#[test]
+fn the_packet_count_goes_from_65535_to_0() {
+    let mut card = Card::new();
+    card.store[65_674..65_676].fill(0xFF);
+    assert_eq!(card.run(&[]), Ok(0));
+    assert_eq!(card.count(), 0);
+    // What a packet writes there is what it goes up from.
+    assert_eq!(card.run(&[0x81, 0xD9, 0x0A, 0x00, 0xFF, 0xFF]), Ok(0));
+    assert_eq!(card.count(), 0);
+    assert_eq!(card.run(&[0x81, 0xD9, 0x0A, 0x00, 0xFF, 0x00]), Ok(0));
+    assert_eq!(card.count(), 0x0100);
+}
+
+#[test]
+fn a_packet_reads_the_count_before_itself() {
+    let mut card = Card::new();
+    card.store[65_674..65_676].copy_from_slice(&[5, 0]);
+    let read = [0x01, 0x59, 0x0A, 0x00];
+    assert_eq!(card.run(&[read, read].concat()), Ok(4));
+    assert_eq!(card.reply[..4], [5, 0, 5, 0]);
+    // A refused packet between two reads doesn't count.
+    assert_eq!(card.run(&[0]), Err(Refusal::whole(3)));
+    assert_eq!(card.run(&read), Ok(2));
+    assert_eq!(card.reply[..2], [6, 0]);
+    assert_eq!(card.count(), 7);
+}
+
+#[test]
+fn a_list_may_not_name_the_count() {
+    let refusal = Refusal {
+        number: 23,
+        place: 1,
+    };
+    for record in [read(6, 0x0A), write(6, 0x0A, 1), read(6, 0x1A)] {
+        assert_eq!(compiled(&[read(6, 0x08), record].concat()), Err(refusal));
+    }
+    assert!(compiled(&[read(6, 0x0C), read(7, 0x0A)].concat()).is_ok());
+}
+
+#[test]
+fn a_show_raises_the_count_by_its_packets() {
+    let list: Vec<u8> = (0..800).flat_map(|k| read(0, 4 * k)).collect();
+    let (output, count) = compiled(&list).unwrap();
+    assert_eq!(count, 3);
+    let mut card = Card::new();
+    let before = card.count();
+    for packet in packets(&output) {
+        card.run(packet).unwrap();
+    }
+    assert_eq!(card.count(), before + 3);
 }
