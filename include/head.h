@@ -32,8 +32,8 @@ extern "C" {
 /* The most bytes that a packet or its reply may have: 1,500 less 28 of IP and UDP headers. */
 #define HEAD_REPLY_BYTES 1472
 
-/* The address pointers: those of spaces 0, 2, 6 and 7, in this order. */
-#define HEAD_POINTERS 4
+/* The address pointers: those of spaces 0, 2, 6 and 7, in this order, then those of their info areas. */
+#define HEAD_POINTERS 8
 
 /* The bytes of a command word's fields. */
 #define HEAD_FIELDS 7
@@ -43,7 +43,7 @@ extern "C" {
  *
  *   packet    the commands, packet_length bytes; may be empty
  *   store     65,728 bytes
- *   pointers  4 numbers, each at most its space's size
+ *   pointers  8 numbers, each at most its space's size, or 16 for an info area
  *   value     takes the reply length in bytes, or the refusal's place
  *
  * Returns 0 if the packet would be run, else the number of the refusal: 1 (of store and pointers) to 12, as below.
@@ -58,7 +58,7 @@ uint32_t head_check(const uint8_t *packet, size_t packet_length,
  *
  *   packet    the commands, packet_length bytes; may be empty
  *   store     65,728 bytes
- *   pointers  4 numbers, each at most its space's size; 0 in a fresh card
+ *   pointers  8 numbers, each at most its space's size, or 16 for an info area; 0 in a fresh card
  *   reply     room for 1,472 bytes
  *   value     takes the reply length in bytes, or the refusal's place
  *
@@ -68,14 +68,15 @@ uint32_t head_check(const uint8_t *packet, size_t packet_length,
  * count like any cell. A refused packet does not count.
  * Refused: the place is the offset of the command's first byte in the packet, but 0 for 1 and 2.
  *
- *    1  store not 65,728 bytes, reply not 1,472 bytes, not 4 pointers, or a pointer above its space's size
+ *    1  store not 65,728 bytes, reply not 1,472 bytes, not 8 pointers, or a pointer above its space's size or above 16 for
+ *       an info area
  *    2  packet above 1,472 bytes
  *    3  command word or its address cut off
- *    4  info bit set
+ *    4  info bit set in a write
  *    5  space 1, 3, 4 or 5
- *    6  element size not the space's
+ *    6  element size not the space's, or not 2 bytes in an info read
  *    7  count 0
- *    8  address not a multiple of the element size, or an element past the space's end
+ *    8  address not a multiple of the element size, or an element past the end of the space or of the info area
  *    9  write to space 7, or to space 2 below 0x20
  *   10  write to space 2 while the unlock is closed
  *   11  write data cut off

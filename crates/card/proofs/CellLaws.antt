@@ -9,17 +9,19 @@ use native.Mathlib.Nat.{zero-add}
 use native.Mathlib.Numerals.{add-one}
 use lib.ListN.{length, take, drop, getD, set, replicate, length-set, replicate-append-replicate, drop-of-length-le}
 use lib.Seq.{sets, drop-cons, take-suc-set, take-all, take-at, drop-at, length-sets}
-use Rattle.lbp16.specs.Space.{Space, registers, row, storeBytes}
+use Rattle.lbp16.specs.Space.{Space, registers, row, areaRow, storeBytes}
 use Rattle.packet.specs.Bytes.{number, bytesOf}
-use Rattle.packet.specs.Step.{Kind, read, write, at, carried, answered, stored, after, seen, storeAfter, valuesRead}
+use Rattle.packet.specs.Step.{Kind, read, write, isInfo, rowBy, at, carried, answered, source, stored, after, seen}
+use Rattle.packet.specs.Step.{storeAfter, valuesRead}
 use Rattle.packet.specs.Rules.{any, pastEnd}
-use Rattle.packet.specs.Command.{elements}
+use Rattle.packet.specs.Command.{payload, elements}
+use Rattle.packet.proofs.StepLaws.{row-plain}
 use Rattle.packet.proofs.ByteLaws.{length-bytes}
 use Rattle.packet.proofs.StoreLaws.{getD-sets}
 use Rattle.card.specs.Spi.{bytesOfWords, wordsOfBytes}
 use Rattle.card.specs.Cells.{Cells, cells, filled}
 use Rattle.card.proofs.ElementLaws.{length-part}
-use Rattle.card.proofs.StepBlockLaws.{within-store}
+use Rattle.card.proofs.StepBlockLaws.{within-bytes}
 
 pub length-elements : (k : Kind) (s : Space) (n a d : ℕ) (bs : List ℕ) → length (elements k s n a d bs) ≡ n
 unfolding elements
@@ -27,9 +29,12 @@ length-elements k s zero a d bs = refl
 length-elements k s (suc n) a d bs = ap suc (length-elements k s n (a + d) d _)
 
 -- The cells are the burst's steps.
-pub steps-within : (k : Kind) (n a d : ℕ) (bs : List ℕ) → any pastEnd (elements k registers n a d bs) ≡ false → Cells n a d
+pub steps-within : (k : Kind) (n a d : ℕ) (bs : List ℕ) → isInfo k ≡ false
+    → any pastEnd (elements k registers n a d bs) ≡ false → Cells n a d
 unfolding row
-steps-within k n a d bs e = rw zero-add at (within-store k registers n a d 65536 bs e (omega arith))
+steps-within k n a d bs p e =
+    let r = row-plain k registers p in
+    rw (r, zero-add) at (within-bytes k registers n a d 65536 bs e (rw r (omega arith)))
 
 -- and so do fewer of them
 pub cells-fewer : (n m a d : ℕ) → n ≤ m → Cells m a d → Cells n a d
@@ -39,7 +44,7 @@ cells-fewer (suc n) (suc m) a d h w = (w .0, cells-fewer n m (a + d) d (omega ar
 
 pub reads-cells : (n a d : ℕ) (bs store : List ℕ) → length store ≡ storeBytes → Cells n a d
     → wordsOfBytes n (valuesRead (elements read registers n a d bs) store) ≡ cells n a d store
-unfolding wordsOfBytes valuesRead elements seen after stored at answered row cells
+unfolding wordsOfBytes valuesRead elements payload seen source after stored at answered rowBy isInfo areaRow row cells
 reads-cells zero a d bs store l w = refl
 reads-cells (suc n) a d bs store l w =
     let four : length (take 4 (drop a store)) ≡ 4 = length-part 4 store a (omega arith) in
@@ -49,7 +54,7 @@ reads-cells (suc n) a d bs store l w =
 
 pub writes-fill : (ws : List ℕ) (a d : ℕ) (store : List ℕ)
     → storeAfter (elements write registers (length ws) a d (bytesOfWords ws)) store ≡ filled ws a d store
-unfolding storeAfter elements after stored at carried row bytesOfWords filled
+unfolding storeAfter elements payload after stored at carried rowBy isInfo areaRow row bytesOfWords filled
 writes-fill [] a d store = refl
 writes-fill (w ∷ ws) a d store =
     let four : length (bytesOf 4 w) ≡ 4 = length-bytes 4 w in

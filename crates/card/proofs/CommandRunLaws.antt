@@ -7,36 +7,59 @@ use native.Mathlib.Omega.{arith}
 use native.Mathlib.Nat.{le-refl, le-trans}
 use lib.ListN.{length, take, drop, length-drop, drop-of-length-le, take-append-drop}
 use lib.Dec.{eqb}
-use Rattle.lbp16.specs.Space.{spaceOf, row, storeBytes}
+use Rattle.lbp16.specs.Space.{spaceOf, areaRow, storeBytes}
+use Rattle.lbp16.specs.Pointer.{pointerOf}
 use Rattle.lbp16.specs.declared.pointer.Pointers.{Pointers}
 use Rattle.lbp16.specs.declared.word.Fields.{Fields}
-use Rattle.lbp16.proofs.SpaceLaws.{row-end, element-le}
+use Rattle.lbp16.proofs.SpaceLaws.{row-end}
 use Rattle.packet.proofs.SliceLaws.{tail-whole}
-use Rattle.packet.specs.Step.{Kind, read, write, carried, answered, storeAfter, valuesRead}
+use Rattle.packet.specs.Step.{Kind, read, write, infoRead, isInfo, isWrite, rowBy, carried, answered, source, storeAfter}
+use Rattle.packet.specs.Step.{valuesRead}
 use Rattle.packet.specs.declared.command.Which.{Which}
 use Rattle.packet.specs.declared.command.Which.the-variants.{Refused}
-use Rattle.packet.proofs.ElementLaws.{which-writes}
-use Rattle.packet.specs.Command.{whichOf, writes, kindOf, headerBytes, commandBytes, addressUsed, stride, elements, stepsAt}
+use Rattle.packet.proofs.ElementLaws.{which-writes, write-kind, row-le, carried-write, answered-read}
+use Rattle.packet.proofs.InfoLaws.{source-whole}
+use Rattle.packet.specs.Command.{whichOf, writes, kindOf, rowOf, headerBytes, commandBytes, addressUsed, stride, elements, areaBytes}
+use Rattle.packet.specs.Command.{handed, stepsAt}
 use Rattle.packet.specs.declared.command.Progress.{Progress}
 use Rattle.packet.proofs.CommandLaws.{Passed, stride-le}
 use Rattle.card.specs.Inside.{Within, moved, laid, spanAt}
 use Rattle.card.specs.declared.run.Span.{Span}
-use Rattle.card.proofs.StepBlockLaws.{element-wide, within-store, within-row, writes-done, writes-read-nothing}
+use Rattle.card.proofs.StepBlockLaws.{element-wide, within-bytes, within-row, writes-done, writes-read-nothing}
 use Rattle.card.proofs.StepBlockLaws.{reads-keep, reads-done}
-
-kind-read : (f : Fields) → f .write ≡ false → kindOf f ≡ read
-unfolding kindOf
-kind-read f e = rw e refl
 
 kind-write : (f : Fields) → f .write ≡ true → kindOf f ≡ write
 unfolding kindOf
 kind-write f e = rw e refl
 
+-- A plain command is read from the store, an info read from the area made of its space's plain pointer.
+plain-source : (k : Kind) (bs store : List ℕ) → isInfo k ≡ false → store ≡ source k bs store
+unfolding source isInfo
+plain-source read bs store e = refl
+plain-source write bs store e = refl
+plain-source infoRead bs store e = let z : _≡_ {A = ℕ} 0 1 = cc in absurd (omega arith)
+
+info-source : (k : Kind) (bs store : List ℕ) → isInfo k ≡ true → bs ≡ source k bs store
+unfolding source isInfo
+info-source read bs store e = let z : _≡_ {A = ℕ} 0 1 = cc in absurd (omega arith)
+info-source write bs store e = let z : _≡_ {A = ℕ} 0 1 = cc in absurd (omega arith)
+info-source infoRead bs store e = refl
+
+pub from-store : (p : Pointers) (f : Fields) (rest store : List ℕ) → isInfo (kindOf f) ≡ false
+    → store ≡ source (kindOf f) (handed p f rest) store
+from-store p f rest store e = plain-source (kindOf f) _ store e
+
+pub from-area : (p : Pointers) (f : Fields) (rest store area : List ℕ) (n : ℕ) → isInfo (kindOf f) ≡ true
+    → n ≡ pointerOf p false (spaceOf (f .space)) → area ≡ areaBytes (spaceOf (f .space)) n
+    → area ≡ source (kindOf f) (handed p f rest) store
+unfolding handed
+from-area p f rest store area n e q a = rw (← info-source (kindOf f) (handed p f rest) store e, e, a, q) refl
+
 -- the bytes that a command's elements are moved in
 abbrev pub wideOf : ℕ → ℕ
 wideOf n = cond (eqb n 4) 4 2
 
--- What moving the elements asks of a list that holds them in the store, and of one that holds them in a row.
+-- What moving the elements asks of the list that holds them d apart, and of one that holds them in a row.
 pub record Asked (n w i d bytes j row : ℕ) (line : ℕ) : Type 0 where
   pub step : d ≤ 4
   pub width : w ≤ 4
@@ -45,55 +68,62 @@ pub record Asked (n w i d bytes j row : ℕ) (line : ℕ) : Type 0 where
 
 module _ (g : Progress) (f : Fields) (rest : List ℕ) (h : Passed (g .pointers) (g .unlocked) (g .reply) f rest) (s : Span)
     (e : s ≡ spanAt (g .pointers) f rest) where
-  wide : wideOf (row (spaceOf (f .space)) .element) ≡ row (spaceOf (f .space)) .element
-  wide = element-wide _ (h .present)
+  wide : wideOf (rowOf f .element) ≡ rowOf f .element
+  unfolding rowOf rowBy
+  wide = element-wide _ _ (h .present)
 
-  pub asked : (bytes j line : ℕ) → bytes ≡ storeBytes → j + f .count * row (spaceOf (f .space)) .element ≤ line
+  asked : (bytes j line : ℕ) → rowOf f .place + rowOf f .bytes ≤ bytes → j + f .count * rowOf f .element ≤ line
       → Asked (s .count) (s .element) (s .at) (s .step) bytes j (wideOf (s .element)) line
-  unfolding stepsAt spanAt
+  unfolding stepsAt spanAt rowOf
   asked bytes j line b l =
       rw (e, wide)
       (record {
-        step = le-trans (stride-le f) (element-le _);
-        width = element-le _;
-        spread = within-store _ _ _ _ _ _ _ (h .inside) (rw b (row-end _));
+        step = le-trans (stride-le f) (row-le f);
+        width = row-le f;
+        spread = within-bytes _ _ _ _ _ _ _ (h .inside) b;
         lined = within-row _ _ _ _ l;
       })
 
-  pub read-fits : (line : ℕ) → f .write ≡ false → f .count * answered (kindOf f) (spaceOf (f .space)) ≤ line
-      → 0 + f .count * row (spaceOf (f .space)) .element ≤ line
-  unfolding answered
-  read-fits line e l = let q = rw (kind-read f e) at l in omega arith
+  -- `src` is what the command is read from
+  module _ (store src tail : List ℕ) (k : f .write ≡ false) (b : length store ≡ storeBytes)
+      (l : f .count * answered (kindOf f) (spaceOf (f .space)) ≤ length tail)
+      (q : src ≡ source (kindOf f) (handed (g .pointers) f rest) store) where
+    fits : f .count * rowOf f .element ≤ length tail
+    fits = rw (answered-read f k) at l
 
-  pub write-fits : (hd : ℕ) → f .write ≡ true → hd ≡ headerBytes f
-      → hd + f .count * row (spaceOf (f .space)) .element ≤ length rest
-  unfolding commandBytes carried
-  write-fits hd e q = rw q (rw (kind-write f e) at (h .whole))
+    pub read-asked : Asked (s .count) (s .element) (s .at) (s .step) (length src) 0 (wideOf (s .element)) (length tail)
+    read-asked = asked (length src) 0 (length tail) (rw q (source-whole _ f rest store b)) (omega (arith, fits))
 
-  pub read-done : (store tail out : List ℕ) → f .write ≡ false → length store ≡ storeBytes
-      → f .count * answered (kindOf f) (spaceOf (f .space)) ≤ length tail
-      → out ≡ moved (s .count) (wideOf (s .element)) store (s .at) (s .step) tail 0 (s .element)
-      → out ≡ valuesRead (stepsAt (g .pointers) f rest) store
-      ++ drop (length (valuesRead (stepsAt (g .pointers) f rest) store)) tail
-  unfolding stepsAt spanAt
-  read-done store tail out k b l o =
-      let q = asked (length store) 0 (length tail) b (read-fits (length tail) k l) .spread in
-      let z : f .count * row (spaceOf (f .space)) .element ≤ length tail = omega (arith, read-fits (length tail) k l) in
-      let (count, same) =
-      reads-done (spaceOf (f .space)) (f .count) _ _ (drop (headerBytes f) rest) store [] tail (rw (e, wide) at q) z in
-      rw (kind-read f k, count) (o ∙ rw (e, wide) same)
+    pub read-done : (out : List ℕ)
+        → out ≡ moved (s .count) (wideOf (s .element)) src (s .at) (s .step) tail 0 (s .element)
+        → out ≡ valuesRead (stepsAt (g .pointers) f rest) store
+        ++ drop (length (valuesRead (stepsAt (g .pointers) f rest) store)) tail
+    unfolding stepsAt spanAt rowOf
+    read-done out o =
+        let (count, same) =
+        reads-done (kindOf f) (spaceOf (f .space)) (write-kind f ∙ k) (f .count) _ _ (handed (g .pointers) f rest) store [] tail
+        (rw (e, wide, q) at (read-asked .spread))
+        fits in
+        rw count (o ∙ rw (e, wide, q) same)
 
-  pub write-done : (store out : List ℕ) (hd : ℕ) → f .write ≡ true → hd ≡ headerBytes f
-      → out ≡ moved (s .count) (wideOf (s .element)) rest hd (s .element) store (s .at) (s .step)
-      → out ≡ storeAfter (stepsAt (g .pointers) f rest) store
-  unfolding stepsAt spanAt
-  write-done store out hd k q o = rw (kind-write f k) (o ∙ rw (e, wide, q) (writes-done _ _ _ _ _ rest store))
+  module _ (hd : ℕ) (k : f .write ≡ true) (q : hd ≡ headerBytes f) where
+    pub write-asked : (bytes : ℕ) → bytes ≡ storeBytes
+        → Asked (s .count) (s .element) (s .at) (s .step) bytes hd (wideOf (s .element)) (length rest)
+    unfolding commandBytes rowOf rowBy isInfo areaRow
+    write-asked bytes b =
+        asked bytes hd (length rest) (rw (b, kind-write f k) (row-end (spaceOf (f .space))))
+        (rw q (rw (carried-write f k) at (h .whole)))
+
+    pub write-done : (store out : List ℕ) → out ≡ moved (s .count) (wideOf (s .element)) rest hd (s .element) store (s .at) (s .step)
+        → out ≡ storeAfter (stepsAt (g .pointers) f rest) store
+    unfolding stepsAt spanAt handed rowOf rowBy isInfo areaRow
+    write-done store out o = rw (kind-write f k) (o ∙ rw (e, wide, q, kind-write f k) (writes-done _ _ _ _ _ rest store))
 
 -- A read leaves the store, and a write reads nothing.
 pub read-keeps : (p : Pointers) (f : Fields) (rest store : List ℕ) → f .write ≡ false
     → storeAfter (stepsAt p f rest) store ≡ store
 unfolding stepsAt
-read-keeps p f rest store e = rw (kind-read f e) (reads-keep _ _ _ _ _ store)
+read-keeps p f rest store e = reads-keep _ _ (write-kind f ∙ e) _ _ _ _ store
 
 pub write-reads : (p : Pointers) (f : Fields) (rest store : List ℕ) → f .write ≡ true
     → valuesRead (stepsAt p f rest) store ≡ []
@@ -121,3 +151,4 @@ pub found-passed : (k : Kind) (x : Which) (n : ℕ) → x ≡ whichOf 0 k → x 
 unfolding whichOf
 found-passed read x n e q = let z : _≡_ {A = ℕ} 0 1 = cc in omega arith
 found-passed write x n e q = let z : _≡_ {A = ℕ} 0 1 = cc in omega arith
+found-passed infoRead x n e q = let z : _≡_ {A = ℕ} 0 1 = cc in omega arith

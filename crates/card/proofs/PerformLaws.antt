@@ -16,6 +16,7 @@ use Rattle.packet.specs.declared.command.Command.{Command}
 use Rattle.packet.proofs.StepLaws.{reply-append}
 use Rattle.packet.proofs.StoreLaws.{length-after, length-values, store-after-append, values-read-append}
 use Rattle.packet.proofs.CommandLaws.{Passed, passes, reply-of-command}
+use Rattle.packet.proofs.InfoLaws.{command-whole}
 use Rattle.packet.proofs.LoopLaws.{At, Turn, at-begin, at-end, at-passed, at-accepted, at-step}
 use Rattle.card.specs.Inside.{IsAccepted, Performed, laid}
 
@@ -129,7 +130,7 @@ module _ {p : Pointers} {packet store₀ reply₀ store reply : List ℕ} {g : P
         rw (e, ap (λ (g : Progress). g .pointers) same) at e₂ in
         let inside = rw (ap (λ (g : Progress). g .pointers) same) at (pass .inside) in
         let bytes : length (valuesRead steps store) ≡ replyBytes steps =
-        length-values steps store (length-store ∙ s .store-bytes) inside in
+        length-values steps store (length-store ∙ s .store-bytes) (command-whole (c .pointers) (fieldsAt rest) rest) inside in
         let seen : valuesRead (c .steps ++ steps) store₀ ≡ valuesRead (c .steps) store₀ ++ valuesRead steps store =
         rw (s .store-is) (values-read-append (c .steps) steps store₀) in (
           turn,

@@ -12,22 +12,25 @@ use lib.ListN.{length, take, drop, getD, set, length-set}
 use lib.Seq.{sets, sets-eq, length-sets, length-take-le, getD-set-same, getD-set-other, take-at, drop-at}
 use borrow.Author.Tests.{eqb-true, eqb-false, eq-eqb, ne-eqb, ltb-true, ltb-false, not-false, le-ltb}
 use Rattle.lbp16.proofs.BoolLaws.{or-false}
+use Rattle.lbp16.proofs.PointerLaws.{pointer-le}
 use Rattle.lbp16.specs.Answer.{Answer}
-use Rattle.lbp16.specs.Space.{storeBytes, row}
-use Rattle.lbp16.specs.Pointer.{aboveSize}
+use Rattle.lbp16.specs.Space.{Space, storeBytes, row, areaRow}
+use Rattle.lbp16.specs.Pointer.{aboveSize, pointerOf}
 use Rattle.lbp16.specs.declared.pointer.Pointers.{Pointers}
-use Rattle.packet.specs.Step.{at, statusWrite, storeAfter, valuesRead, replyBytes}
+use Rattle.packet.specs.Step.{at, isInfo, rowBy, statusWrite, storeAfter, valuesRead, replyBytes}
 use Rattle.packet.specs.Command.{limit}
 use Rattle.packet.specs.Judge.{Carried, Verdict, refused, accepted, judge}
 use Rattle.packet.specs.Verdict.{answerTo}
 use Rattle.packet.specs.Bytes.{number, bytesOf}
 use Rattle.packet.proofs.StoreLaws.{Spared, getD-sets, slice-sets, spared-byte, length-after, length-values}
+use Rattle.packet.proofs.InfoLaws.{accepted-whole}
+use Rattle.packet.proofs.JudgeLaws.{pointers-kept}
 use Rattle.packet.proofs.RefusalLaws.{RefusedAt, refused-in-table, accepted-within, accepted-inside}
 use Rattle.card.specs.Run.{unlockCell, countCell, cleared, countBytes, counted, badState, checked, outcome, runVerdict, runPacket}
 
 -- the unlock cell is address 0x1A of space 6
 pub unlock-cell : unlockCell ≡ at (statusWrite 0x1A [])
-unfolding at row
+unfolding at rowBy isInfo areaRow row
 unlock-cell = refl
 
 pub length-cleared : (store : List ℕ) → length (cleared store) ≡ length store
@@ -57,7 +60,7 @@ cleared-inside store i n h k = go (decLe i unlockCell)
 
 -- the packet count is address 0x0A of space 6
 pub count-cell : countCell ≡ at (statusWrite 0x0A [])
-unfolding at row
+unfolding at rowBy isInfo areaRow row
 count-cell = refl
 
 pub length-counted : (store : List ℕ) → length (counted store) ≡ length store
@@ -158,7 +161,7 @@ run-accepted packet store p reply c h r n j =
 pub values-counted : (packet store : List ℕ) (p : Pointers) (c : Carried) → badState store p ≡ false
     → judge p packet ≡ accepted c → length (valuesRead (c .steps) store) ≡ replyBytes (c .steps)
 values-counted packet store p c h e =
-    length-values (c .steps) store (good-state store p h .0) (accepted-inside p packet c e)
+    length-values (c .steps) store (good-state store p h .0) (accepted-whole p packet c e) (accepted-inside p packet c e)
 
 module _ (packet store : List ℕ) (p : Pointers) where
   -- What holds of refusal 1, of refusal 2 and of the commands' check holds of every check.
@@ -183,6 +186,15 @@ module _ (packet store : List ℕ) (p : Pointers) where
       (λ _ e. let z : _≡_ {A = ℕ} 0 1 = cc in absurd (omega arith))
       (λ _ _ e. let z : _≡_ {A = ℕ} 0 1 = cc in absurd (omega arith))
       (λ state _ e. (values-counted packet store p c state e, accepted-within p packet c e))
+
+  -- No pointer is left above its space's size, and none of an info area above 16.
+  pub pointers-within : (c : Carried) → checked packet store p ≡ accepted c → (i : Bool) (s : Space)
+      → pointerOf (c .pointers) i s ≤ areaRow i s .bytes
+  pointers-within c =
+      checked-cases (λ v. v ≡ accepted c → (i : Bool) (s : Space) → pointerOf (c .pointers) i s ≤ areaRow i s .bytes)
+      (λ _ e. let z : _≡_ {A = ℕ} 0 1 = cc in absurd (omega arith))
+      (λ _ _ e. let z : _≡_ {A = ℕ} 0 1 = cc in absurd (omega arith))
+      (λ state _ e. pointer-le (c .pointers) (pointers-kept p packet c (good-state store p state .1) e))
 
   -- A check's refusal is number 1 or 2 in its case, at place 0, or else that of the earliest command that fails.
   pub data CheckRefused (n place : ℕ) : Type 0 where

@@ -14,20 +14,21 @@ use borrow.Author.Tests.{ltb-false, le-ltb, eqb-true, ne-eqb, not-false}
 use Rattle.lbp16.specs.Answer.{Answer}
 use Rattle.lbp16.specs.Space.{Space, registers, row, storeBytes}
 use Rattle.packet.specs.Bytes.{number, bytesOf}
-use Rattle.packet.specs.Step.{Kind, read, write, Step, carried, answered, storeAfter, valuesRead}
+use Rattle.packet.specs.Step.{Kind, read, write, infoRead, Step, isInfo, isWrite, carried, answered, storeAfter, valuesRead}
 use Rattle.packet.specs.Rules.{any, misaligned, pastEnd}
-use Rattle.packet.specs.Command.{elements}
+use Rattle.packet.specs.Command.{payload, elements}
 use Rattle.packet.proofs.ByteLaws.{length-bytes}
 use Rattle.packet.proofs.StoreLaws.{length-after, length-values, store-after-append, values-read-append}
 use Rattle.packet.proofs.CommandLaws.{reply-of-elements}
+use Rattle.packet.proofs.InfoLaws.{plain-whole}
 use Rattle.card.specs.declared.spi.Header.{Header}
 use Rattle.card.specs.Spi.{writeCommand, headerOf, headerWord, firstWord, bytesOfWords, wordsOfBytes, burstKind, burstSteps, came, burstWords}
 use Rattle.card.specs.Spi.{Burst, burstRefusals, burstOutcome, runBurst}
-use Rattle.card.proofs.SpiLaws.{past-quick, Sound, sound-passes, accepted-sound, header-of-word}
+use Rattle.card.proofs.SpiLaws.{burst-plain, past-quick, Sound, sound-passes, accepted-sound, header-of-word}
 
 -- A read takes no bytes.
 reads-take-none : (s : Space) (n a d : ℕ) (bs cs : List ℕ) → elements read s n a d bs ≡ elements read s n a d cs
-unfolding elements carried
+unfolding elements payload carried
 reads-take-none s zero a d bs cs = refl
 reads-take-none s (suc n) a d bs cs =
     ap (λ (t : List Step). record { kind = read; space = s; address = a; bytes = [] } ∷ t) (reads-take-none s n (a + d) d bs cs)
@@ -35,18 +36,18 @@ reads-take-none s (suc n) a d bs cs =
 one-more : (a d n : ℕ) → a + d + n * d ≡ a + suc n * d
 one-more a d n = rw suc-mul (omega arith)
 
-words-split : (k : Kind) (xs ys : List ℕ) (a d : ℕ)
+words-split : (k : Kind) → isInfo k ≡ false → (xs ys : List ℕ) (a d : ℕ)
     → elements k registers (length (xs ++ ys)) a d (bytesOfWords (xs ++ ys))
     ≡ elements k registers (length xs) a d (bytesOfWords xs)
     ++ elements k registers (length ys) (a + length xs * d) d (bytesOfWords ys)
-unfolding elements carried bytesOfWords row
-words-split k [] ys a d = rw zero-mul (ap (λ (b : ℕ). elements k registers (length ys) b d (bytesOfWords ys)) (omega arith))
-words-split read (x ∷ xs) ys a d =
+unfolding elements payload carried isInfo bytesOfWords row
+words-split k p [] ys a d = rw zero-mul (ap (λ (b : ℕ). elements k registers (length ys) b d (bytesOfWords ys)) (omega arith))
+words-split read p (x ∷ xs) ys a d =
     ap (λ (t : List Step). record { kind = read; space = registers; address = a; bytes = [] } ∷ t)
     (reads-take-none registers (length (xs ++ ys)) (a + d) d _ (bytesOfWords (xs ++ ys))
-    ∙ words-split read xs ys (a + d) d
+    ∙ words-split read p xs ys (a + d) d
     ∙ rw (one-more a d (length xs), reads-take-none registers (length xs) (a + d) d (bytesOf 4 x ++ bytesOfWords xs) (bytesOfWords xs)))
-words-split write (x ∷ xs) ys a d =
+words-split write p (x ∷ xs) ys a d =
     let four : length (bytesOf 4 x) ≡ 4 = length-bytes 4 x in
     rw (
       take-at (bytesOf 4 x) (bytesOfWords (xs ++ ys)) 4 four,
@@ -55,7 +56,8 @@ words-split write (x ∷ xs) ys a d =
       drop-at (bytesOf 4 x) (bytesOfWords xs) 4 four,
     )
     (ap (λ (t : List Step). record { kind = write; space = registers; address = a; bytes = bytesOf 4 x } ∷ t)
-    (words-split write xs ys (a + d) d ∙ rw (one-more a d (length xs))))
+    (words-split write p xs ys (a + d) d ∙ rw (one-more a d (length xs))))
+words-split infoRead p (x ∷ xs) ys a d = let z : _≡_ {A = ℕ} 0 1 = cc in absurd (omega arith)
 
 -- the header of m elements that follow n of h's
 abbrev pub restOf : Header → ℕ → ℕ → Header
@@ -65,7 +67,7 @@ module _ (h : Header) (w w' : ℕ) (xs ys : List ℕ) where
   pub steps-split : burstSteps h (length (xs ++ ys)) (w ∷ (xs ++ ys))
       ≡ burstSteps h (length xs) (w ∷ xs) ++ burstSteps (restOf h (length xs) (length ys)) (length ys) (w' ∷ ys)
   unfolding burstSteps burstKind
-  steps-split = words-split (burstKind h) xs ys (h .address) (cond (h .increment) 4 0)
+  steps-split = words-split (burstKind h) (burst-plain h) xs ys (h .address) (cond (h .increment) 4 0)
 
   -- So the second part, on the store that the first leaves, leaves the store and reads the values of the whole.
   pub store-split : (store : List ℕ)
@@ -124,11 +126,12 @@ words-of-bytes-split (suc n) m vs us l =
     rw (suc-add, take-append-le 4 vs us four, drop-append-le 4 vs us four)
     (ap (λ (t : List ℕ). number (take 4 vs) ∷ t) (words-of-bytes-split n m (drop 4 vs) us rest))
 
-answers-split : (k : Kind) (n m : ℕ) (vs us : List ℕ) → length vs ≡ n * answered k registers
+answers-split : (k : Kind) → isInfo k ≡ false → (n m : ℕ) (vs us : List ℕ) → length vs ≡ n * answered k registers
     → burstWords k (n + m) (vs ++ us) ≡ burstWords k n vs ++ drop 1 (burstWords k m us)
-unfolding burstWords answered row
-answers-split read n m vs us l = ap (λ (t : List ℕ). 0 ∷ t) (words-of-bytes-split n m vs us l)
-answers-split write n m vs us l = ap (λ (t : List ℕ). 0 ∷ t) (sym (replicate-append-replicate {A = ℕ} n m 0))
+unfolding burstWords isWrite isInfo answered row
+answers-split read p n m vs us l = ap (λ (t : List ℕ). 0 ∷ t) (words-of-bytes-split n m vs us l)
+answers-split write p n m vs us l = ap (λ (t : List ℕ). 0 ∷ t) (sym (replicate-append-replicate {A = ℕ} n m 0))
+answers-split infoRead p n m vs us l = let z : _≡_ {A = ℕ} 0 1 = cc in absurd (omega arith)
 
 -- the two parts of a burst do what the whole does
 pub record InTwo (all first second : Burst) : Type 0 where
@@ -149,7 +152,7 @@ runs-as words store room s = rw (sound-passes words store room s)
 -- The header alone is a burst of no elements: no cell changes, and the answer is the one word 0.
 pub header-alone : (w : ℕ) (store room : List ℕ) → runBurst (w ∷ []) store room .answer ≡ Answer.accepted []
     → runBurst (w ∷ []) store room ≡ record { answer = Answer.accepted []; store = store; room = 0 ∷ [] }
-unfolding burstOutcome burstSteps elements storeAfter valuesRead burstWords wordsOfBytes
+unfolding burstOutcome burstSteps elements storeAfter valuesRead burstWords isWrite wordsOfBytes
 header-alone w store room e = runs-as (w ∷ []) store room (accepted-sound (w ∷ []) store room e) ∙ go (burstKind (headerOf (firstWord (w ∷ []))))
   where
     go : (k : Kind)
@@ -157,6 +160,7 @@ header-alone w store room e = runs-as (w ∷ []) store room (accepted-sound (w �
         (record { answer = Answer.accepted []; store = store; room = 0 ∷ [] })
     go read = refl
     go write = refl
+    go infoRead = refl
 
 -- On a read the contents of the words sent are ignored.
 module _ (w : ℕ) (xs ys store room : List ℕ) (l : length xs ≡ length ys) (reads : headerOf w .command ≢ writeCommand) where
@@ -247,6 +251,7 @@ module _ (w : ℕ) (xs ys store room : List ℕ) (s : Sound (w ∷ (xs ++ ys)) s
       _
       store
       (s .whole)
+      (plain-whole _ _ _ _ _ _ (burst-plain (headerOf w)))
       (within-end (headerOf w) (length xs) (w ∷ xs) bound-first)
       ∙ reply-of-elements _ _ _ _ _ _
 
@@ -267,7 +272,7 @@ module _ (w : ℕ) (xs ys store room : List ℕ) (s : Sound (w ∷ (xs ++ ys)) s
             (sym (store-split (headerOf w) w v xs ys store));
         answer =
             rw (came-cons w (xs ++ ys), came-cons w xs, came-cons v ys, same, values-split (headerOf w) w v xs ys store, length-append)
-            (answers-split (burstKind (headerOf w)) (length xs) (length ys) _ _ values-length);
+            (answers-split (burstKind (headerOf w)) (burst-plain (headerOf w)) (length xs) (length ys) _ _ values-length);
       }
 
 -- A burst that is accepted may be sent in two: its header with the first words, and then the rest from the

@@ -13,11 +13,12 @@ use Rattle.lbp16.proofs.WordLaws.{bit-le, bit-read, bit-written}
 use Rattle.lbp16.specs.Answer.{Answer}
 use Rattle.lbp16.specs.Space.{registers, row, storeBytes}
 use Rattle.lbp16.specs.Word.{bit}
-use Rattle.packet.specs.Step.{Kind, read, write, storeAfter, valuesRead}
+use Rattle.packet.specs.Step.{Kind, read, write, infoRead, isInfo, isWrite, storeAfter, valuesRead}
 use Rattle.packet.specs.Rules.{Rule, first, any, misaligned, pastEnd}
 use Rattle.packet.specs.Command.{elements}
 use Rattle.packet.proofs.RuleLaws.{none-holds, first-of-none, FirstHolds, first-holds, Lowest, first-lowest}
 use Rattle.packet.proofs.ElementLaws.{past-span}
+use Rattle.packet.proofs.StepLaws.{pick-plain, row-plain}
 use Rattle.packet.proofs.StoreLaws.{length-after}
 use Rattle.card.specs.declared.spi.Header.{Header}
 use Rattle.card.specs.Spi.{readCommand, writeCommand, headerOf, headerWord, otherCommand, answerOf, headerWritten}
@@ -140,11 +141,18 @@ unfolding firstWord
 word-first [] h = absurd (h refl)
 word-first (w ∷ ws) h = refl
 
+-- a burst has no info reads
+pub burst-plain : (h : Header) → isInfo (burstKind h) ≡ false
+unfolding burstKind
+burst-plain h = pick-plain (eqb (h .command) writeCommand)
+
 -- Rule 35 as the code tests it.
 pub past-quick : (h : Header) (n : ℕ) (words : List ℕ)
     → any pastEnd (burstSteps h n words) ≡ (not (eqb n 0) && ltb 65536 (h .address + cond (h .increment) (n * 4) 4))
 unfolding burstSteps row
-past-quick h n words = past-span _ registers n _ (h .increment) _
+past-quick h n words =
+    let r = row-plain (burstKind h) registers (burst-plain h) in
+    rw r at (past-span (burstKind h) registers n (h .address) (h .increment) (bytesOfWords (drop 1 words)))
 
 -- the header of the words sent
 abbrev pub headerIn : List ℕ → Header
@@ -158,7 +166,7 @@ pub record Sound (words store room : List ℕ) : Type 0 where
   pub some : 1 ≤ headerIn words .count
   pub headed : 1 ≤ length words
   pub sent : came words ≤ headerIn words .count
-  pub aligned : misaligned registers (headerIn words .address) ≡ false
+  pub aligned : misaligned (row registers) (headerIn words .address) ≡ false
   pub inside : any pastEnd (burstSteps (headerIn words) (headerIn words .count) words) ≡ false
 
 module _ (words store room : List ℕ) where
@@ -168,7 +176,7 @@ module _ (words store room : List ℕ) where
       let (lent, (empty, (other, (none, (sent, (place, end)))))) =
       none-holds (burstRefusals words store room) (omega arith) e in
       let (whole, fits) = or-false _ _ lent in
-      let (aligned, inside) = or-false (misaligned registers (headerIn words .address)) _ place in
+      let (aligned, inside) = or-false (misaligned (row registers) (headerIn words .address)) _ place in
       record {
         whole = eqb-true _ _ (not-false _ whole);
         fits = eqb-true _ _ (not-false _ fits);
@@ -202,7 +210,7 @@ module _ (words store room : List ℕ) where
   pub sound-cells : Sound words store room
       → Cells (came words) (headerIn words .address) (cond (headerIn words .increment) 4 0)
   unfolding burstSteps
-  sound-cells s = cells-fewer _ _ _ _ (s .sent) (steps-within _ _ _ _ _ (s .inside))
+  sound-cells s = cells-fewer _ _ _ _ (s .sent) (steps-within _ _ _ _ _ (burst-plain _) (s .inside))
 
 -- A burst that is not refused, with its header and the way from cell to cell.
 pub record Ready (words store room : List ℕ) (h : Header) (stride : ℕ) : Type 0 where
@@ -224,15 +232,15 @@ module _ (words store room : List ℕ) (h : Header) (stride : ℕ) (ready : Read
   pub burst-reads : (h .command ≡ writeCommand → ⊥) → (after : List ℕ)
       → after ≡ 0 ∷ cells (length room - 1) (h .address) stride store
       → runBurst words store room ≡ record { answer = Answer.accepted []; store = store; room = after }
-  unfolding runBurst burstOutcome burstWords burstKind burstSteps
+  unfolding runBurst burstOutcome burstWords burstKind burstSteps isWrite
   burst-reads k after e =
       let c = reads-cells (came words) (h .address) stride (bytesOfWords (drop 1 words)) store (ready-sound .whole) ready-within in
-      rw (ready .passed, ← ready .header, ne-eqb _ _ k, ← ready .apart, reads-keep, c, e, ready-sound .fits)
+      rw (ready .passed, ← ready .header, ne-eqb _ _ k, ← ready .apart, reads-keep read registers refl, c, e, ready-sound .fits)
 
   pub burst-writes : h .command ≡ writeCommand → (after room' : List ℕ)
       → after ≡ filled (drop 1 words) (h .address) stride store → room' ≡ replicate (length room) 0
       → runBurst words store room ≡ record { answer = Answer.accepted []; store = after; room = room' }
-  unfolding runBurst burstOutcome burstWords burstKind burstSteps
+  unfolding runBurst burstOutcome burstWords burstKind burstSteps isWrite
   burst-writes k after room' e f =
       let n : came words ≡ length (drop 1 words) = sym (length-drop 1 words) in
       let m : length room ≡ suc (length (drop 1 words)) = rw (← n) (omega (arith, ready-sound .headed, ready-sound .fits)) in
@@ -266,7 +274,7 @@ store-length (suc k) words store room = refl
 
 store-outside : (k : ℕ) (words store room : List ℕ) → (k ≡ 0 → Sound words store room) → (i : ℕ) → 65536 ≤ i
     → getD (burstOutcome k words store room .store) i 0 ≡ getD store i 0
-unfolding burstOutcome burstSteps
+unfolding burstOutcome burstSteps isWrite
 store-outside zero words store room s i h = go (burstKind (headerIn words))
   where
     a : ℕ
@@ -279,8 +287,9 @@ store-outside zero words store room s i h = go (burstKind (headerIn words))
     n = sym (length-drop 1 words)
 
     go : (k : Kind) → getD (storeAfter (elements k registers (came words) a d (bytesOfWords (drop 1 words))) store) i 0 ≡ getD store i 0
-    go read = rw reads-keep
+    go read = rw (reads-keep read registers refl)
     go write = rw (n, writes-fill) (filled-outside (drop 1 words) a d store i (rw n at (sound-cells words store room (s refl))) h)
+    go infoRead = rw (reads-keep infoRead registers refl)
 store-outside (suc k) words store room s i h = refl
 
 length-words-of-bytes : (n : ℕ) (bs : List ℕ) → length (wordsOfBytes n bs) ≡ n
@@ -290,8 +299,11 @@ length-words-of-bytes (suc n) bs = ap suc (length-words-of-bytes n (drop 4 bs))
 
 length-burst-words : (k : Kind) (n : ℕ) (values : List ℕ) → length (burstWords k n values) ≡ suc n
 unfolding burstWords
-length-burst-words read n values = ap suc (length-words-of-bytes n values)
-length-burst-words write n values = ap suc (length-replicate n 0)
+length-burst-words k n values = ap suc (go (isWrite k))
+  where
+    go : (b : Bool) → length (cond b (replicate n 0) (wordsOfBytes n values)) ≡ n
+    go true = length-replicate n 0
+    go false = length-words-of-bytes n values
 
 room-length : (k : ℕ) (words store room : List ℕ) → (k ≡ 0 → Sound words store room)
     → burstOutcome k words store room .answer ≡ Answer.accepted []
@@ -307,14 +319,9 @@ zeros-or-cells : (k : ℕ) (words store room : List ℕ) → (k ≡ 0 → Sound 
     → burstOutcome k words store room .answer ≡ Answer.accepted []
     → (burstOutcome k words store room .room ≡ 0 ∷ drop 1 (burstOutcome k words store room .room))
     × (headerIn words .command ≡ writeCommand → burstOutcome k words store room .room ≡ replicate (length words) 0)
-unfolding burstOutcome burstWords burstKind
+unfolding burstOutcome burstWords burstKind isWrite
 zeros-or-cells zero words store room s e =
-    (first-zero (burstKind (headerIn words)), λ w. let n : suc (came words) ≡ length words = omega (arith, s refl .headed) in rw (eq-eqb _ _ w) (ap (λ (m : ℕ). replicate m 0) n))
-  where
-    first-zero : (k : Kind) → burstWords k (came words) (valuesRead (burstSteps (headerIn words) (came words) words) store)
-        ≡ 0 ∷ drop 1 (burstWords k (came words) (valuesRead (burstSteps (headerIn words) (came words) words) store))
-    first-zero read = refl
-    first-zero write = refl
+    (refl, λ w. let n : suc (came words) ≡ length words = omega (arith, s refl .headed) in rw (eq-eqb _ _ w) (ap (λ (m : ℕ). replicate m 0) n))
 zeros-or-cells (suc k) words store room s e = let z : _≡_ {A = ℕ} 0 1 = cc in absurd (omega arith)
 
 -- A burst is accepted exactly when no rule holds.

@@ -4,11 +4,10 @@ use mathlib.Core.List.{List, _++_}
 use lib.ListN.{length, take, drop}
 use lib.Seq.{sets}
 use mathlib.Core.Path.{_≡_}
-use Rattle.lbp16.specs.Space.{spaceOf, row}
 use Rattle.lbp16.specs.declared.pointer.Pointers.{Pointers}
 use Rattle.lbp16.specs.declared.word.Fields.{Fields}
 use Rattle.packet.specs.Step.{storeAfter, valuesRead}
-use Rattle.packet.specs.Command.{addressUsed, stride}
+use Rattle.packet.specs.Command.{rowOf, addressUsed, stride}
 use Rattle.packet.specs.Judge.{Carried, Verdict, refused, accepted, judge}
 use Rattle.card.specs.declared.run.Span.{Span}
 
@@ -33,7 +32,7 @@ IsAccepted (accepted c) = Unit {0}
 -- where a command's elements stand
 unfoldable pub spanAt : Pointers → Fields → List ℕ → Span
 spanAt p f rest =
-    let w = row (spaceOf (f .space)) in
+    let w = rowOf f in
     record { at = w .place + addressUsed p f rest; step = stride f; element = w .element; count = f .count }
 
 -- doing all commands of an accepted packet

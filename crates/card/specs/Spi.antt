@@ -6,10 +6,10 @@ use mathlib.Core.Bool.{Bool, not, _||_, _&&_, cond}
 use lib.ListN.{length, take, drop, replicate}
 use lib.Dec.{eqb, ltb}
 use Rattle.lbp16.specs.Answer.{Answer, refusal}
-use Rattle.lbp16.specs.Space.{registers, storeBytes}
+use Rattle.lbp16.specs.Space.{registers, row, storeBytes}
 use Rattle.lbp16.specs.Word.{bit}
 use Rattle.packet.specs.Bytes.{number, bytesOf}
-use Rattle.packet.specs.Step.{Kind, read, write, Step, storeAfter, valuesRead}
+use Rattle.packet.specs.Step.{Kind, Step, isWrite, storeAfter, valuesRead}
 use Rattle.packet.specs.Rules.{Rule, first, misaligned, pastEnd, any}
 use Rattle.packet.specs.Command.{elements, pickKind}
 use Rattle.card.specs.declared.spi.Header.{Header}
@@ -93,7 +93,7 @@ burstRefusals words store room =
     ∷ record { number = 32; holds = otherCommand h }
     ∷ record { number = 33; holds = eqb (h .count) 0 }
     ∷ record { number = 34; holds = ltb (1 + h .count) (length words) }
-    ∷ record { number = 35; holds = misaligned registers (h .address) || any pastEnd (burstSteps h (h .count) words) }
+    ∷ record { number = 35; holds = misaligned (row registers) (h .address) || any pastEnd (burstSteps h (h .count) words) }
     ∷ []
 
 pub record Burst : Type 0 where
@@ -103,8 +103,7 @@ pub record Burst : Type 0 where
 
 -- the answer's words, one for each sent: first 0; then on a read the cells, on a write 0
 unfoldable pub burstWords : Kind → ℕ → List ℕ → List ℕ
-burstWords read n values = 0 ∷ wordsOfBytes n values
-burstWords write n values = 0 ∷ replicate n 0
+burstWords k n values = 0 ∷ cond (isWrite k) (replicate n 0) (wordsOfBytes n values)
 
 -- An accepted burst does the elements that came.
 unfoldable pub burstOutcome : ℕ → List ℕ → List ℕ → List ℕ → Burst

@@ -3,17 +3,18 @@ use crate::block;
 use crate::check;
 use crate::element;
 use lbp16::pointer::Pointers;
-use lbp16::space;
 use lbp16::word::Fields;
 use packet::command;
 use packet::command::Progress;
 use packet::command::Which;
+use packet::info;
 use packet::judge;
 use packet::judge::Verdict;
 ghost use mathlib.Core.Path.{_≡_};
-ghost use mathlib.Core.Bool.{true, false};
+ghost use mathlib.Core.Bool.{true, false, cond};
 ghost use mathlib.Core.List.{_++_};
 ghost use Prim.Native.Nat.{_+_, _*_, _≤_};
+ghost use lib.Dec.{eqb};
 ghost use lib.ListN.{length, drop};
 ghost use Rattle.lbp16.specs.Space.{spaceOf, storeBytes};
 ghost use Rattle.packet.specs.Step.{answered, storeAfter, valuesRead};
@@ -21,9 +22,10 @@ ghost use Rattle.packet.specs.Command.{limit, kindOf, stepsAt, whichOf};
 ghost use Rattle.packet.specs.Judge.{judge};
 ghost use Rattle.packet.proofs.CommandLaws.{Passed};
 ghost use Rattle.card.specs.Run.{cleared, counted, runPacket, ran};
-ghost use Rattle.card.specs.Inside.{IsAccepted, Performed, laid, spanAt};
+ghost use Rattle.card.specs.Inside.{IsAccepted, Performed, Within, moved, laid, spanAt};
 
-// A command's elements in the store: the first one's place, from one to the next, their bytes, and how many.
+// A command's elements in the store or in the info area: the first one's place, from one to the next, their bytes, and
+// how many.
 struct Span {
     at: usize,
     step: usize,
@@ -34,7 +36,7 @@ struct Span {
 fn span_of(rest: &[u8], p: Pointers, f: Fields) -> Span
     ensures { λ r. ⌜ r ≡ spanAt p f (now (rest .entry)) ⌝ }
 {
-    let row = space::row_of(f.space);
+    let row = command::row_of(f);
     let used = command::address_used(p, f, rest) as usize;
     Span {
         at: row.place as usize + used,
@@ -44,14 +46,29 @@ fn span_of(rest: &[u8], p: Pointers, f: Fields) -> Span
     }
 }
 
-// The elements of a read, from the store to the front of the reply's unused tail.
+// Elements of a read, from where they stand in `src` to the front of the reply's unused tail.
+fn read_span(s: Span, src: &[u8], tail: &mut [u8])
+    requires { ⌜ (s .step ≤ 4) × (s .element ≤ 4) × Within (s .count) (s .at) (s .step) (cond (eqb (s .element) 4) 4 2) (length (now src)) × Within (s .count) 0 (s .element) (cond (eqb (s .element) 4) 4 2) (length (now tail)) ⌝ }
+    ensures { λ r. ⌜ now (tail .exit) ≡ moved (s .count) (cond (eqb (s .element) 4) 4 2) (now (src .entry)) (s .at) (s .step) (now (tail .entry)) 0 (s .element) ⌝ }
+{
+    let wide = s.element == 4;
+    block::move_elements(src, s.at, s.step, tail, 0, s.element, s.count, wide);
+}
+
+// The elements of a read, from the store or from the info area, which shows the pointer as it stands before the command.
 fn read_command(rest: &[u8], at: Progress, f: Fields, store: &[u8], tail: &mut [u8])
     requires { ⌜ Passed (at .pointers) (at .unlocked) (at .reply) f (now rest) × (f .write ≡ false) × (length (now store) ≡ storeBytes) × (f .count * answered (kindOf f) (spaceOf (f .space)) ≤ length (now tail)) ⌝ }
     ensures { λ r. ⌜ now (tail .exit) ≡ valuesRead (stepsAt (at .pointers) f (now (rest .entry))) (now (store .entry)) ++ drop (length (valuesRead (stepsAt (at .pointers) f (now (rest .entry))) (now (store .entry)))) (now (tail .entry)) ⌝ }
 {
-    let s = span_of(rest, at.pointers, f);
-    let wide = s.element == 4;
-    block::move_elements(store, s.at, s.step, tail, 0, s.element, s.count, wide);
+    let pointers = at.pointers;
+    let s = span_of(rest, pointers, f);
+    if command::is_info(f) {
+        let pointer = pointers.of(false, f.space);
+        let area = info::area_bytes(f.space, pointer.at);
+        read_span(s, &area, tail);
+    } else {
+        read_span(s, store, tail);
+    }
 }
 
 // The elements of a write, from the packet to the store.

@@ -7,14 +7,14 @@ use native.Mathlib.Omega.{arith}
 use native.Mathlib.Nat.{le-trans}
 use lib.ListN.{length, take, drop, length-append, length-drop}
 use lib.Seq.{take-take}
-use Rattle.lbp16.specs.Space.{Space, registers, eeprom, status, information, absent}
-use Rattle.packet.specs.Step.{Kind, read, write, Step, carried}
+use Rattle.lbp16.specs.Space.{Space, registers, eeprom, status, information, absent, spaceNumber}
+use Rattle.packet.specs.Step.{Kind, read, write, infoRead, Step, isWrite, carried}
 use Rattle.packet.specs.Rules.{first}
 use Rattle.packet.specs.Command.{pickKind}
 use Rattle.packet.proofs.StepLaws.{carried-le}
 use Rattle.cue.specs.Records.{Listed, refused, records, recordsOf, recordsFrom, recordRefusals, recordStep, valueBytes}
 use Rattle.cue.specs.Records.{recordKind, recordSpace, recordBytes}
-use Rattle.cue.specs.Packing.{Command, Open, commandsOf, started, spaceNumber, joinAll, packetBytes}
+use Rattle.cue.specs.Packing.{Command, Open, commandsOf, started, joinAll, packetBytes}
 use Rattle.cue.specs.Output.{outputOf}
 use Rattle.cue.specs.Inside.{recordAt, carriedBy, Progress, none, some, advance, finished, onward, outputBytes}
 use Rattle.cue.specs.Inside.{summary, Planned, planned, roomAfter, turnedBy, wrote, Placed, Ready}
@@ -87,9 +87,10 @@ shape-next (some css o) x u = shape-some _ _ u
 
 -- an element stands whole in its record
 element-whole : (k : Kind) (s : Space) → 6 + carried k s ≤ recordBytes k
-unfolding recordBytes carried
+unfolding recordBytes isWrite carried
 element-whole read s = omega arith
 element-whole write s = omega (arith, carried-le write s)
+element-whole infoRead s = omega arith
 
 -- the room keeps its length
 room-length : (css : List (List Command)) (room : List ℕ) → length (outputBytes css) ≤ length room
@@ -151,7 +152,7 @@ module _ (list rest room : List ℕ) (index : ℕ) (s : Progress) (p : Packer) (
   pub element-next : 6 + carriedBy (recordAt rest) ≤ length rest
   element-next =
       let w = passing index rest good-next in
-      rw (w .read, carried-brief)
+      rw (w .read, carried-brief (recordStep rest) (w .plain))
       (le-trans (element-whole (recordStep rest .kind) (recordStep rest .space)) (w .bytes))
 
   pub room-next : wrote (turnedBy p (recordAt rest)) (take (carriedBy (recordAt rest)) (drop 6 rest)) (roomOf s room)
@@ -159,7 +160,7 @@ module _ (list rest room : List ℕ) (index : ℕ) (s : Progress) (p : Packer) (
   room-next =
       let w = passing index rest good-next in
       rw (bytes-are, w .read, h .following .packer)
-      (wrote-next s _ (recordStep rest) (record { good = w .good; wide = w .wide }) (h .following .rising) room next-fits)
+      (wrote-next s _ (recordStep rest) (record { good = w .good; plain = w .plain; wide = w .wide }) (h .following .rising) room next-fits)
 
 -- What holds before a record in the second pass.
 pub record Filled (list rest old room : List ℕ) (p : Packer) : Type 0 where

@@ -126,7 +126,7 @@ held-next list rest index s p h l e = go (h .fuel) (h .enough) (h .same)
         → Held list (drop (recordBytes (recordKind rest)) rest) (index + 1) (advance s x) (turnedBy p (recordAt rest))
     go zero n q = absurd (omega arith)
     go (suc k) n q =
-        let f : Fine x = record { good = w .good; wide = w .wide } in
+        let f : Fine x = record { good = w .good; plain = w .plain; wide = w .wide } in
         let g = grown p (recordAt rest) in
         let few : index < 100000 = omega (arith, h .few, w .few) in
         record {

@@ -89,7 +89,7 @@ output-from : (o : Open) {ys : List Step} → Good ys
     → length (outputOf (map packetBytes (packFrom o ys))) ≤ 4 + length (packetBytes (commandsOf o)) + 2 * listBytes ys
 unfolding outputOf packFrom listBytes packetBytes
 output-from o Good.none = rw framed-bytes (omega arith)
-output-from o (Good.more {x} {xs = ys} bad w g) =
+output-from o (Good.more {x} {xs = ys} bad p w g) =
     let few = carried-le (x .kind) (x .space) in
     turn-cases o x
     (λ t. length (outputOf (map packetBytes (t .closed ++ packFrom (t .open?) ys)))
@@ -101,7 +101,7 @@ output-from o (Good.more {x} {xs = ys} bad w g) =
 output-le : {xs : List Step} → Good xs → length (output xs) ≤ 2 * listBytes xs
 unfolding output packed packets outputOf listBytes packetBytes
 output-le Good.none = omega arith
-output-le (Good.more {x} bad w g) = omega (arith, output-from (started [] x) g, started-bytes [] x w)
+output-le (Good.more {x} bad p w g) = omega (arith, output-from (started [] x) g, started-bytes [] x w)
 
 -- The output has at most twice the list's bytes.
 pub output-bound : (list : List ℕ) (xs : List Step) → recordsOf list ≡ records xs → length (output xs) ≤ 2 * length list

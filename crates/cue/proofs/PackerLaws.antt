@@ -7,16 +7,16 @@ use native.Mathlib.Omega.{arith}
 use lib.Dec.{eqb, ltb, leb}
 use lib.ListN.{length, length-append}
 use borrow.Author.Tests.{eqb-true, ltb-true, leb-true, lt-leb}
-use Rattle.lbp16.specs.Space.{Space, spaceOf, isAbsent, row}
+use Rattle.lbp16.specs.Space.{Space, spaceOf, spaceNumber, isAbsent, row}
 use Rattle.lbp16.proofs.BoolLaws.{or-false, and-true}
-use Rattle.packet.specs.Step.{Kind, read, write, Step, carried, answered, isWrite, isStatus, namesUnlock, replyBytes}
+use Rattle.packet.specs.Step.{Kind, Step, isInfo, carried, answered, isWrite, isStatus, namesUnlock, replyBytes}
 use Rattle.packet.specs.Step.{turned, unlocked}
 use Rattle.packet.specs.Bytes.{number}
 use Rattle.packet.specs.Rules.{misaligned, pastEnd, barred}
-use Rattle.packet.specs.Command.{pickKind, limit}
-use Rattle.packet.proofs.StepLaws.{unlocked-append, reply-append, carried-le, answered-le}
+use Rattle.packet.specs.Command.{limit}
+use Rattle.packet.proofs.StepLaws.{unlocked-append, reply-append, carried-le, answered-le, pick-again}
 use Rattle.cue.specs.Records.{reserved, badElement}
-use Rattle.cue.specs.Packing.{Command, spaceNumber, joinAll, packetBytes, elementSteps, commandSteps, packetSteps}
+use Rattle.cue.specs.Packing.{Command, joinAll, packetBytes, elementSteps, commandSteps, packetSteps}
 use Rattle.cue.specs.Packing.{unlockCommand, keepsLimits, Open, commandsOf, sameKind, joined, joins, needsUnlock}
 use Rattle.cue.specs.Packing.{started, turnBy, turn}
 use Rattle.cue.specs.Output.{outputOf}
@@ -54,25 +54,13 @@ module _ (p : Packer) (r : Record) where
       rw (z, y) l
 
 -- a record's bytes by its summary
-kind-again : (k : Kind) → pickKind (isWrite k) ≡ k
-unfolding isWrite
-kind-again read = refl
-kind-again write = refl
-
-pub carried-brief : (x : Step) → carriedBy (brief x) ≡ carried (x .kind) (x .space)
+pub carried-brief : (x : Step) → isInfo (x .kind) ≡ false → carriedBy (brief x) ≡ carried (x .kind) (x .space)
 unfolding carriedBy brief
-carried-brief x = rw (kind-again, space-again) refl
+carried-brief x p = rw (pick-again _ p, space-again) refl
 
-pub answered-brief : (x : Step) → answeredBy (brief x) ≡ answered (x .kind) (x .space)
+pub answered-brief : (x : Step) → isInfo (x .kind) ≡ false → answeredBy (brief x) ≡ answered (x .kind) (x .space)
 unfolding answeredBy brief
-answered-brief x = rw (kind-again, space-again) refl
-
-same-write : (k l : Kind) → sameKind k l ≡ Bool·beq (isWrite k) (isWrite l)
-unfolding sameKind isWrite
-same-write read read = refl
-same-write read write = refl
-same-write write read = refl
-same-write write write = refl
+answered-brief x p = rw (pick-again _ p, space-again) refl
 
 -- one element more adds one element to the reply
 reply-element : (k : Kind) (s : Space) (a d : ℕ) (es : List (List ℕ)) (e : List ℕ)
@@ -90,13 +78,14 @@ reply-joined o x = rw (last-steps, reply-append, reply-element, last-steps, repl
 -- what is known of a good record
 pub record Fine (x : Step) : Type 0 where
   pub good : badElement x ≡ false
+  pub plain : isInfo (x .kind) ≡ false
   pub wide : length (x .bytes) ≡ carried (x .kind) (x .space)
 
 not-unlock : (x : Step) → badElement x ≡ false → namesUnlock x ≡ false
 unfolding badElement reserved namesUnlock
 not-unlock x e =
     let h =
-    or-false (isAbsent (x .space) || misaligned (x .space) (x .address) || pastEnd x || barred x) (reserved x) e .1 in
+    or-false (isAbsent (x .space) || misaligned (row (x .space)) (x .address) || pastEnd x || barred x) (reserved x) e .1 in
     go (eqb (x .address) 0x1A) (eqb (x .address) 0x0A) (isStatus (x .space)) h
   where
     go : (a b s : Bool) → ((a || b) && s) ≡ false → (a && s) ≡ false
@@ -113,7 +102,7 @@ stays b x e = go (isWrite (x .kind)) (namesUnlock x) e
     go false n h = refl
 
 -- (a): the same test, and the same packet
-module _ (css : List (List Command)) (o : Open) (u : Bool) (x : Step) (f : Fine x) where
+module _ (css : List (List Command)) (o : Open) (u : Bool) (x : Step) (f : Fine x) (plain : isInfo (o .last .kind) ≡ false) where
   -- whether the last command and the record agree, by the definition
   agree : Bool
   agree =
@@ -123,8 +112,8 @@ module _ (css : List (List Command)) (o : Open) (u : Bool) (x : Step) (f : Fine 
       && ltb (length (c .elements)) 127
 
   agree-same : agrees (summary (some css o) u) (brief x) ≡ agree
-  unfolding agree agrees summary brief
-  agree-same = rw (same-write, space-again) refl
+  unfolding agree agrees summary brief sameKind
+  agree-same = rw space-again refl
 
   -- where they agree, they have the same kind and space
   agree-answered : agree ≡ true → answered (o .last .kind) (o .last .space) ≡ answered (x .kind) (x .space)
@@ -139,13 +128,13 @@ module _ (css : List (List Command)) (o : Open) (u : Bool) (x : Step) (f : Fine 
       let t = and-true k s (r .0) in
       let number : spaceNumber (c .space) ≡ spaceNumber (x .space) = eqb-true _ _ (t .1) in
       let space : c .space ≡ x .space = sym (space-again (c .space)) ∙ ap spaceOf number ∙ space-again (x .space) in
-      rw (same-kind _ _ (t .0), space) refl
+      rw (same-kind _ _ plain (f .plain) (t .0), space) refl
 
   joined-fits : agree ≡ true
       → keepsLimits (commandsOf (joined o x)) ≡ fits (joinedBy (summary (some css o) u) (brief x))
   unfolding keepsLimits fits joinedBy summary
   joined-fits e =
-      rw (joined-bytes, reply-joined, agree-answered e, f .wide, carried-brief, answered-brief) refl
+      rw (joined-bytes, reply-joined, agree-answered e, f .wide, carried-brief x (f .plain), answered-brief x (f .plain)) refl
 
   joins-same : joins o x ≡ (agrees (summary (some css o) u) (brief x) && fits (joinedBy (summary (some css o) u) (brief x)))
   unfolding joins agree
@@ -161,7 +150,7 @@ module _ (css : List (List Command)) (o : Open) (u : Bool) (x : Step) (f : Fine 
       → packetSteps (commandsOf (joined o x)) ≡ packetSteps (commandsOf o) ++ (x ∷ [])
   unfolding commandsOf joined
   joined-packet j i =
-      rw (last-steps, last-steps, joined-steps o x (joining o x j) i, append-assoc) refl
+      rw (last-steps, last-steps, joined-steps o x (joining o x plain (f .plain) j) i, append-assoc) refl
 
   pub joined-summary : joins o x ≡ true → o .last .increment ≡ true
       → joinedBy (summary (some css o) u) (brief x) ≡ summary (some css (joined o x)) false
@@ -171,9 +160,9 @@ module _ (css : List (List Command)) (o : Open) (u : Bool) (x : Step) (f : Fine 
       let steps = joined-packet j i in
       let count : length (o .last .elements) + 1 ≡ length (o₂ .last .elements) = rw length-append refl in
       let bytes : length (packetBytes (commandsOf o)) + carriedBy (brief x) ≡ length (packetBytes (commandsOf o₂)) =
-      rw (carried-brief, joined-bytes o x, f .wide) refl in
+      rw (carried-brief x (f .plain), joined-bytes o x, f .wide) refl in
       let reply : replyBytes (packetSteps (commandsOf o)) + answeredBy (brief x) ≡ replyBytes (packetSteps (commandsOf o₂)) =
-      rw (answered-brief, steps, reply-append) (omega arith) in
+      rw (answered-brief x (f .plain), steps, reply-append) (omega arith) in
       let open? : unlocked false (packetSteps (commandsOf o)) ≡ unlocked false (packetSteps (commandsOf o₂)) =
       rw (steps, unlocked-append, stays _ x (not-unlock x (f .good))) refl in
       let end : length (outputBytes css) + 4 + length (packetBytes (commandsOf o)) + carriedBy (brief x)
@@ -257,11 +246,11 @@ module _ (cs : List Command) (x : Step) (f : Fine x) where
         let o = started cs x in
         let need = unlock-same in
         let u : _≡_ {A = ℕ} (cond (unlockFor p (brief x)) 6 0) (cond (needsUnlock cs x) 6 0) = rw need refl in
-        let more : carriedBy (brief x) ≡ length (x .bytes) = rw (carried-brief, f .wide) refl in
+        let more : carriedBy (brief x) ≡ length (x .bytes) = rw (carried-brief x (f .plain), f .wide) refl in
         let bytes : p .packet + cond (unlockFor p (brief x)) 6 0 + 4 + carriedBy (brief x) ≡ length (packetBytes (commandsOf o)) =
         rw (started-length, u, more, n .packet) refl in
         let reply : p .reply + answeredBy (brief x) ≡ replyBytes (packetSteps (commandsOf o)) =
-        rw (started-reply, answered-brief, n .reply) refl in
+        rw (started-reply, answered-brief x (f .plain), n .reply) refl in
         let open? : (p .unlocked || unlockFor p (brief x)) ≡ unlocked false (packetSteps (commandsOf o)) =
         rw (started-unlocked, need, n .unlocked) refl in
         let word : p .end + cond (unlockFor p (brief x)) 6 0 ≡ length (outputBytes css) + 4 + length (packetBytes (o .before)) =
@@ -344,14 +333,15 @@ started-fits css o u x f =
     ap fits (started-summary (commandsOf o) x f (summary (some css o) u) css (knows-open css o u x f))
 
 -- What holds of a turn by (a), by (b) and by (c) holds of every turn of packer and packets.
-pub turned-cases : (css : List (List Command)) (o : Open) (u : Bool) (x : Step) (f : Fine x) (P : Packer → Progress → Type 0)
+pub turned-cases : (css : List (List Command)) (o : Open) (u : Bool) (x : Step) (f : Fine x) → isInfo (o .last .kind) ≡ false
+    → (P : Packer → Progress → Type 0)
     → (joins o x ≡ true → P (joinedBy (summary (some css o) u) (brief x)) (some css (joined o x)))
     → P (startedBy (summary (some css o) u) (brief x)) (some css (started (commandsOf o) x))
     → P (startedBy (closedBy (summary (some css o) u)) (brief x)) (some (css ++ (commandsOf o ∷ [])) (started [] x))
     → P (turnedBy (summary (some css o) u) (brief x)) (advance (some css o) x)
 unfolding turnedBy advance turn turnBy
-turned-cases css o u x f P a b c =
-    rw (← joins-same css o u x f, fits-same) (go (joins o x) (keepsLimits (commandsOf (started (commandsOf o) x))) refl)
+turned-cases css o u x f plain P a b c =
+    rw (← joins-same css o u x f plain, fits-same) (go (joins o x) (keepsLimits (commandsOf (started (commandsOf o) x))) refl)
   where
     q : Packer
     q = summary (some css o) u
@@ -366,10 +356,10 @@ turned-cases css o u x f P a b c =
     go false true e = rw append-nil b
     go false false e = c
 
--- the open packet's last command has its increment bit
+-- the open packet's last command has its increment bit, and is no info read
 abbrev pub Rising : Progress → Type 0
 Rising none = Unit
-Rising (some css o) = o .last .increment ≡ true
+Rising (some css o) = (o .last .increment ≡ true) × (isInfo (o .last .kind) ≡ false)
 
 -- The packer keeps these packets' summary.
 pub record Following (s : Progress) (p : Packer) : Type 0 where
@@ -385,20 +375,20 @@ next none u x f h =
     record {
       unlock = needsUnlock [] x;
       packer = none-turned u x ∙ started-summary [] x f _ [] (knows-none u x f);
-      rising = refl;
+      rising = (refl, f .plain);
     }
 next (some css o) u x f h =
-    turned-cases css o u x f (λ q t. Following t q)
-    (λ j. record { unlock = false; packer = joined-summary css o u x f j h; rising = h })
+    turned-cases css o u x f (h .1) (λ q t. Following t q)
+    (λ j. record { unlock = false; packer = joined-summary css o u x f (h .1) j (h .0); rising = h })
     (record {
       unlock = needsUnlock (commandsOf o) x;
       packer = started-summary (commandsOf o) x f _ css (knows-open css o u x f);
-      rising = refl;
+      rising = (refl, f .plain);
     })
     (record {
       unlock = needsUnlock [] x;
       packer = started-summary [] x f _ _ (knows-closed css o u x f);
-      rising = refl;
+      rising = (refl, f .plain);
     })
 
 -- The packer's sums stay small.

@@ -2,7 +2,7 @@
 use Prim.Native.Nat.{ℕ, _+_, _*_, _≤_, _<_}
 use mathlib.Core.Path.{_≡_, refl, sym, ap, _∙_}
 use mathlib.Core.List.{List, [], _∷_, _++_, append-assoc, append-nil}
-use mathlib.Core.Bool.{Bool, true, false, not, _&&_, cond}
+use mathlib.Core.Bool.{Bool, Bool·beq, true, false, not, _&&_, cond}
 use native.Mathlib.Omega.{arith}
 use lib.Dec.{eqb, ltb, leb}
 use lib.ListN.{length, length-append}
@@ -10,15 +10,15 @@ use lib.Seq.{append-snoc}
 use borrow.Author.Tests.{eqb-true, ltb-true, ltb-false, leb-true, le-leb}
 use Rattle.lbp16.proofs.BoolLaws.{and-true}
 use Rattle.lbp16.proofs.SpaceLaws.{bytes-le, element-pos}
-use Rattle.lbp16.specs.Space.{Space, registers, eeprom, status, information, absent, spaceOf, isAbsent, row}
-use Rattle.packet.specs.Step.{Kind, read, write, Step, carried, answered, isWrite, isStatus, namesUnlock, replyBytes}
+use Rattle.lbp16.specs.Space.{Space, registers, eeprom, status, information, absent, spaceOf, spaceNumber, isAbsent, row, areaRow}
+use Rattle.packet.specs.Step.{Kind, read, write, infoRead, Step, isInfo, rowBy, carried, answered, isWrite, isStatus, namesUnlock, replyBytes}
 use Rattle.packet.specs.Step.{turned, unlocked}
 use Rattle.packet.specs.Bytes.{number}
 use Rattle.packet.specs.Rules.{misaligned, pastEnd, barred, any}
-use Rattle.packet.specs.Command.{limit}
-use Rattle.packet.proofs.StepLaws.{unlocked-append, reply-append, any-append, any-one, carried-le, answered-le}
+use Rattle.packet.specs.Command.{pickKind, limit}
+use Rattle.packet.proofs.StepLaws.{unlocked-append, reply-append, any-append, any-one, carried-le, answered-le, pick-again, row-plain}
 use Rattle.cue.specs.Records.{badElement, recordBytes}
-use Rattle.cue.specs.Packing.{Command, spaceNumber, joinAll, packetBytes, elementSteps, commandSteps, packetSteps}
+use Rattle.cue.specs.Packing.{Command, joinAll, packetBytes, elementSteps, commandSteps, packetSteps}
 use Rattle.cue.specs.Packing.{unlockCommand, keepsLimits, Open, commandsOf, sameKind, joined, joins, needsUnlock}
 use Rattle.cue.specs.Packing.{started, Turn, turnBy, turn, packFrom, packets}
 use Rattle.cue.proofs.RecordLaws.{good-element}
@@ -41,16 +41,18 @@ pub data Packed : List (List Command) → List Step → Type 0 where
 
 -- what is known of a good record
 record Element (x : Step) : Type 0 where
+  plain : isInfo (x .kind) ≡ false
   present : isAbsent (x .space) ≡ false
-  aligned : misaligned (x .space) (x .address) ≡ false
+  aligned : misaligned (row (x .space)) (x .address) ≡ false
   inside : pastEnd x ≡ false
   allowed : barred x ≡ false
   wide : length (x .bytes) ≡ carried (x .kind) (x .space)
 
-element : (x : Step) → badElement x ≡ false → length (x .bytes) ≡ carried (x .kind) (x .space) → Element x
-element x e w =
+element : (x : Step) → badElement x ≡ false → isInfo (x .kind) ≡ false → length (x .bytes) ≡ carried (x .kind) (x .space)
+    → Element x
+element x e p w =
     let (present, aligned, inside, allowed, other) = good-element x e in
-    record { present = present; aligned = aligned; inside = inside; allowed = allowed; wide = w }
+    record { plain = p; present = present; aligned = aligned; inside = inside; allowed = allowed; wide = w }
 
 -- what rule (a) asks of a record that joins
 pub record Joining (o : Open) (x : Step) : Type 0 where
@@ -61,12 +63,15 @@ pub record Joining (o : Open) (x : Step) : Type 0 where
   pub limits : keepsLimits (commandsOf (joined o x)) ≡ true
 
 -- kinds and spaces that the tests find equal are equal
-pub same-kind : (k l : Kind) → sameKind k l ≡ true → k ≡ l
+pub same-kind : (k l : Kind) → isInfo k ≡ false → isInfo l ≡ false → sameKind k l ≡ true → k ≡ l
 unfolding sameKind
-same-kind read read e = refl
-same-kind read write e = let z : _≡_ {A = ℕ} 0 1 = cc in absurd (omega arith)
-same-kind write read e = let z : _≡_ {A = ℕ} 0 1 = cc in absurd (omega arith)
-same-kind write write e = refl
+same-kind k l p q e = sym (pick-again k p) ∙ ap pickKind (go (isWrite k) (isWrite l) e) ∙ pick-again l q
+  where
+    go : (a b : Bool) → Bool·beq a b ≡ true → a ≡ b
+    go true true e = refl
+    go true false e = sym e
+    go false true e = e
+    go false false e = refl
 
 pub space-again : (s : Space) → spaceOf (spaceNumber s) ≡ s
 unfolding spaceOf spaceNumber
@@ -76,9 +81,9 @@ space-again status = refl
 space-again information = refl
 space-again absent = refl
 
-pub joining : (o : Open) (x : Step) → joins o x ≡ true → Joining o x
+pub joining : (o : Open) (x : Step) → isInfo (o .last .kind) ≡ false → isInfo (x .kind) ≡ false → joins o x ≡ true → Joining o x
 unfolding joins
-joining o x e =
+joining o x plain plain₂ e =
     let c = o .last in
     let k = sameKind (c .kind) (x .kind) in
     let s = eqb (spaceNumber (c .space)) (spaceNumber (x .space)) in
@@ -90,7 +95,7 @@ joining o x e =
     let t = and-true k s (r .0) in
     let number : spaceNumber (c .space) ≡ spaceNumber (x .space) = eqb-true _ _ (t .1) in
     record {
-      kind = same-kind _ _ (t .0);
+      kind = same-kind _ _ plain plain₂ (t .0);
       space = sym (space-again (c .space)) ∙ ap spaceOf number ∙ space-again (x .space);
       address = eqb-true _ _ (r .1);
       few = ltb-true _ _ (q .1);
@@ -138,6 +143,7 @@ module _ (o : Open) (x : Step) (j : Joining o x) where
         before = h .before;
         last =
             record {
+              plain = c .plain;
               present = c .present;
               some = simp length-append (omega arith);
               few = simp length-append (omega (arith, j .few));
@@ -164,9 +170,10 @@ and-false true = refl
 and-false false = refl
 
 unlock-sound : (open? : Bool) → Sound open? unlockCommand
-unfolding unlockCommand isAbsent carried row misaligned commandSteps elementSteps any pastEnd barred isWrite
+unfolding unlockCommand isAbsent isInfo carried rowBy areaRow row misaligned commandSteps elementSteps any pastEnd barred isWrite
 unlock-sound open? =
     record {
+      plain = refl;
       present = refl;
       some = omega arith;
       few = omega arith;
@@ -193,7 +200,9 @@ readied open? true x e =
 address-below : (x : Step) → Element x → x .address < 65536
 unfolding pastEnd
 address-below x e =
-    let inside = ltb-false (row (x .space) .bytes) (x .address + row (x .space) .element) (e .inside) in
+    let r = row-plain (x .kind) (x .space) (e .plain) in
+    let inside : x .address + row (x .space) .element ≤ row (x .space) .bytes =
+    rw r at (ltb-false (rowBy (x .kind) (x .space) .bytes) (x .address + rowBy (x .kind) (x .space) .element) (e .inside)) in
     omega (arith, bytes-le (x .space), element-pos (x .space) (e .present))
 
 -- (b) the new command is sound, and its only step is the record
@@ -207,6 +216,7 @@ started-holds cs x xs s m e l =
       before = sound-append s (r .sound);
       last =
           record {
+            plain = e .plain;
             present = e .present;
             some = omega arith;
             few = omega arith;
@@ -233,6 +243,7 @@ new-bytes : (k : Kind) (s : Space) (a b : Bool) (n : ℕ) → n ≡ carried k s
 unfolding isWrite carried recordBytes packetBytes
 new-bytes read s a b n e = omega arith
 new-bytes write s a b n e = omega (arith, unlock-bytes (a && b), carried-le write s)
+new-bytes infoRead s a b n e = omega arith
 
 -- A new command with its unlock and the frame of a packet has at most twice the bytes of the record in the list.
 pub started-bytes : (cs : List Command) (x : Step) → length (x .bytes) ≡ carried (x .kind) (x .space)
@@ -250,8 +261,11 @@ unlock-reply false = refl
 
 pub record-bytes-le : (k : Kind) → (6 ≤ recordBytes k) × (recordBytes k ≤ 10)
 unfolding recordBytes
-record-bytes-le read = omega arith
-record-bytes-le write = omega arith
+record-bytes-le k = go (isWrite k)
+  where
+    go : (b : Bool) → (6 ≤ cond b 10 6) × (cond b 10 6 ≤ 10)
+    go true = omega arith
+    go false = omega arith
 
 fresh-reply : (x : Step) → replyBytes (packetSteps (commandsOf (started [] x))) ≤ limit
 unfolding commandsOf started commandSteps elementSteps replyBytes
@@ -288,11 +302,11 @@ turn-cases o x P a b c = go (joins o x) (keepsLimits (commandsOf (started (comma
 pack-from : (o : Open) (xs : List Step) {ys : List Step} → Holding o xs → Good ys → Packed (packFrom o ys) (xs ++ ys)
 unfolding packFrom
 pack-from o xs h Good.none = Packed.more (kept o xs h) Packed.none
-pack-from o xs h (Good.more {x} {xs = ys} bad w g) =
-    let e = element x bad w in
+pack-from o xs h (Good.more {x} {xs = ys} bad p w g) =
+    let e = element x bad p w in
     let k = kept o xs h in
     turn-cases o x (λ t. Packed (t .closed ++ packFrom (t .open?) ys) (xs ++ (x ∷ ys)))
-    (λ j. rw (← append-snoc) (pack-from (joined o x) _ (joined-holds o x (joining o x j) xs e h) g))
+    (λ j. rw (← append-snoc) (pack-from (joined o x) _ (joined-holds o x (joining o x (h .last .plain) p j) xs e h) g))
     (λ l. rw (← append-snoc) (pack-from _ _ (started-holds (commandsOf o) x xs (k .sound) (k .mixed) e l) g))
     (Packed.more k (pack-from _ _ (fresh-holds x e) g))
 
@@ -300,4 +314,4 @@ pack-from o xs h (Good.more {x} {xs = ys} bad w g) =
 pub packing-keeps : (xs : List Step) → Good xs → Packed (packets xs) xs
 unfolding packets
 packing-keeps [] g = Packed.none
-packing-keeps (x ∷ xs) (Good.more bad w g) = pack-from _ (x ∷ []) (fresh-holds x (element x bad w)) g
+packing-keeps (x ∷ xs) (Good.more bad p w g) = pack-from _ (x ∷ []) (fresh-holds x (element x bad p w)) g

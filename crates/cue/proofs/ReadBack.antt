@@ -1,26 +1,26 @@
 -- Reading back: the check of a packet that is made of sound commands accepts it and finds the commands' steps.
 use Prim.Native.Nat.{ℕ, zero, suc, _+_, _*_, _≤_}
 use mathlib.Core.Path.{_≡_, refl, sym, _∙_}
-use mathlib.Core.List.{List, _++_, append-assoc, append-nil}
+use mathlib.Core.List.{List, [], _∷_, _++_, append-assoc, append-nil}
 use mathlib.Core.Bool.{Bool, false}
 use lib.ListN.{length, drop, length-append}
 use lib.Seq.{take-at, drop-at}
 use native.Mathlib.Nat.{zero-mul, suc-mul}
 use native.Mathlib.Omega.{arith}
-use Rattle.lbp16.specs.Space.{Space, registers, eeprom, status, information, absent, spaceOf, isAbsent, row}
+use Rattle.lbp16.specs.Space.{Space, registers, eeprom, status, information, absent, spaceOf, spaceNumber, isAbsent, row}
 use Rattle.lbp16.specs.Word.{wordOf}
 use Rattle.lbp16.specs.declared.pointer.Pointers.{Pointers}
 use Rattle.lbp16.proofs.WordLaws.{InRange, fields-of-word, word-below}
 use Rattle.packet.specs.Bytes.{bytesOf}
-use Rattle.packet.specs.Step.{Kind, read, write, carried, isWrite, unlocked, replyBytes}
-use Rattle.packet.specs.Command.{limit, fieldsAt, pickKind, kindOf, commandBytes as commandLength}
-use Rattle.packet.specs.Command.{headerBytes, addressUsed, stride, elements, stepsAt}
+use Rattle.packet.specs.Step.{Kind, read, write, infoRead, isInfo, carried, isWrite, unlocked, replyBytes}
+use Rattle.packet.specs.Command.{limit, fieldsAt, kindOf, rowOf, commandBytes as commandLength}
+use Rattle.packet.specs.Command.{headerBytes, addressUsed, stride, payload, elements, handed, stepsAt}
 use Rattle.packet.specs.Judge.{Carried, accepted, begin, carry, judgeFrom, judge}
 use Rattle.packet.proofs.ByteLaws.{length-bytes}
-use Rattle.packet.proofs.StepLaws.{unlocked-append, reply-append}
+use Rattle.packet.proofs.StepLaws.{unlocked-append, reply-append, pick-again, row-plain}
 use Rattle.packet.proofs.CommandLaws.{fields-at-front, address-given, reply-of-command}
 use Rattle.packet.proofs.JudgeLaws.{PassedNext, judged-end, judged-past, pointers-kept}
-use Rattle.cue.specs.Packing.{Command, spaceNumber, commandFields, joinAll, commandBytes, packetBytes}
+use Rattle.cue.specs.Packing.{Command, commandFields, joinAll, commandBytes, packetBytes}
 use Rattle.cue.specs.Packing.{elementSteps, commandSteps, packetSteps}
 use Rattle.cue.proofs.Relations.{Wide, Sound, SoundAll, Does}
 
@@ -33,13 +33,14 @@ space-back status e = refl
 space-back information e = refl
 space-back absent e = let z : _≡_ {A = ℕ} 0 1 = cc in absurd (omega arith)
 
-kind-back : (c : Command) → kindOf (commandFields c) ≡ c .kind
-unfolding kindOf commandFields isWrite
-kind-back c = go (c .kind)
-  where
-    go : (k : Kind) → pickKind (isWrite k) ≡ k
-    go read = refl
-    go write = refl
+kind-back : (c : Command) → isInfo (c .kind) ≡ false → kindOf (commandFields c) ≡ c .kind
+unfolding kindOf commandFields
+kind-back c p = pick-again (c .kind) p
+
+-- the table's line for a command is its space's
+row-back : (c : Command) → isInfo (c .kind) ≡ false → isAbsent (c .space) ≡ false → rowOf (commandFields c) ≡ row (c .space)
+unfolding rowOf commandFields
+row-back c p e = rw (kind-back c p, space-back (c .space) e) (row-plain _ _ p)
 
 -- the bytes of elements, joined, and the steps that are read from them
 pub length-joined : {n : ℕ} {es : List (List ℕ)} → Wide n es → length (joinAll es) ≡ length es * n
@@ -47,12 +48,20 @@ unfolding joinAll
 length-joined Wide.none = rw zero-mul
 length-joined (Wide.more e w) = rw (length-append, e, length-joined w, suc-mul) (omega arith)
 
-elements-back : (k : Kind) (s : Space) (a d : ℕ) (more : List ℕ) {es : List (List ℕ)} → Wide (carried k s) es
+payload-back : (k : Kind) (s : Space) (e more : List ℕ) → isInfo k ≡ false → length e ≡ carried k s
+    → payload k s (e ++ more) ≡ e
+unfolding payload carried isInfo
+payload-back read s [] more p l = refl
+payload-back read s (b ∷ e) more p l = absurd (omega arith)
+payload-back write s e more p l = take-at e more _ l
+payload-back infoRead s e more p l = let z : _≡_ {A = ℕ} 0 1 = cc in absurd (omega arith)
+
+elements-back : (k : Kind) (s : Space) (a d : ℕ) (more : List ℕ) {es : List (List ℕ)} → isInfo k ≡ false → Wide (carried k s) es
     → elements k s (length es) a d (joinAll es ++ more) ≡ elementSteps k s a d es
 unfolding elements elementSteps joinAll
-elements-back k s a d more Wide.none = refl
-elements-back k s a d more (Wide.more {e} {es} l w) =
-    rw (append-assoc, take-at e _ _ l, drop-at e _ _ l, elements-back k s (a + d) d more w)
+elements-back k s a d more p Wide.none = refl
+elements-back k s a d more p (Wide.more {e} {es} l w) =
+    rw (append-assoc, payload-back k s e _ p l, drop-at e _ _ l, elements-back k s (a + d) d more p w)
 
 -- a command's word can be written
 row-in-range : (s : Space) → (spaceNumber s ≤ 7) × (row s .size ≤ 3)
@@ -95,16 +104,16 @@ module _ {open? : Bool} (c : Command) (h : Sound open? c) (more : List ℕ) wher
       rw (append-assoc header) (drop-at header _ 4 (simp (length-append, length-bytes)))
 
   steps-back : (p : Pointers) → stepsAt p (commandFields c) (commandBytes c ++ more) ≡ commandSteps c
-  unfolding stepsAt commandSteps commandFields stride headerBytes
+  unfolding stepsAt commandSteps commandFields stride handed headerBytes
   steps-back p =
-      rw (address-back p, kind-back c, space-back (c .space) (h .present), data-back)
-      (elements-back _ _ _ _ more (h .wide))
+      rw (address-back p, row-back c (h .plain) (h .present), kind-back c (h .plain), h .plain, space-back (c .space) (h .present), data-back)
+      (elements-back _ _ _ _ more (h .plain) (h .wide))
 
   -- its length, and what remains after it
   length-back : commandLength (commandFields c) ≡ length (commandBytes c)
   unfolding commandLength commandBytes commandFields headerBytes
   length-back =
-      simp (length-append, length-bytes, kind-back c, space-back (c .space) (h .present), length-joined (h .wide))
+      simp (length-append, length-bytes, kind-back c (h .plain), space-back (c .space) (h .present), length-joined (h .wide))
 
   remains : drop (commandLength (commandFields c)) (commandBytes c ++ more) ≡ more
   remains = drop-at (commandBytes c) more _ (sym length-back)
@@ -118,19 +127,20 @@ module _ {open? : Bool} (c : Command) (h : Sound open? c) (more : List ℕ) wher
   unfolding commandFields headerBytes commandLength
   passes-next k u l =
       let s = space-back (c .space) (h .present) in
+      let r = row-back c (h .plain) (h .present) in
       let sum = length-all in
       let steps = steps-back (k .pointers) in
       rw fields-back
       record {
         header = omega arith;
-        plain = refl;
+        served = refl;
         present = rw s (h .present);
-        sized = rw s;
+        sized = rw r;
         some = h .some;
-        aligned = rw (address-back (k .pointers), s) (h .aligned);
+        aligned = rw (address-back (k .pointers), r) (h .aligned);
         inside = rw steps (h .inside);
         allowed = rw steps (h .allowed);
-        unlocks = rw (s, u) (h .unlocks);
+        unlocks = rw (r, u) (h .unlocks);
         whole = omega arith;
         answers = rw (← reply-of-command (k .pointers) (commandFields c) (commandBytes c ++ more), steps) l;
       }

@@ -8,16 +8,16 @@ use lib.Dec.{eqb, ltb}
 use lib.ListN.{length, take, drop, getD, drop-of-length-le, length-take}
 use lib.Seq.{drop-drop}
 use borrow.Author.Tests.{eqb-true, eqb-false}
-use Rattle.lbp16.specs.Space.{Space, registers, eeprom, status, information, absent, spaceOf, isAbsent, row}
+use Rattle.lbp16.specs.Space.{Space, registers, eeprom, status, information, absent, spaceOf, spaceNumber, isAbsent, row}
 use Rattle.lbp16.proofs.BoolLaws.{or-false}
 use Rattle.packet.specs.Bytes.{number}
-use Rattle.packet.specs.Step.{carried, isWrite, isStatus}
+use Rattle.packet.specs.Step.{isInfo, carried, isWrite, isStatus}
 use Rattle.packet.specs.Rules.{first, misaligned, pastEnd, barred}
 use Rattle.packet.specs.Command.{pickKind}
+use Rattle.packet.proofs.StepLaws.{pick-plain, row-plain}
 use Rattle.packet.proofs.RuleLaws.{none-holds}
 use Rattle.cue.specs.Records.{recordStep, recordSpace, recordKind, recordBytes, recordRefusals, reserved, badElement, upperHalf}
 use Rattle.cue.specs.Records.{markAt, readMark, writeMark, valueBytes, mostRecords}
-use Rattle.cue.specs.Packing.{spaceNumber}
 use Rattle.cue.specs.Inside.{recordAt, brief}
 use Rattle.cue.proofs.RecordLaws.{whole, step-bytes}
 
@@ -63,7 +63,7 @@ pub bad-element-is : (rest : List ℕ)
     || (ltb (r .address) (s .«read_only») && r .write)
     || ((eqb (r .address) 0x1A || eqb (r .address) 0x0A) && eqb (r .space) 6))
 unfolding badElement recordStep recordSpace recordKind recordAt misaligned pastEnd barred reserved
-bad-element-is rest = rw (write-of, is-six) refl
+bad-element-is rest = rw (row-plain _ _ (pick-plain (eqb (markAt rest) writeMark)), write-of, is-six) refl
 
 -- the part of the value that an element has no room for
 middle : (l : List ℕ) → drop 2 (take 4 l) ≡ take 2 (drop 2 l)
@@ -95,7 +95,7 @@ unfolding badElement recordStep
 present rest e =
     let x = recordStep rest in
     let a = isAbsent (x .space) in
-    let b = misaligned (x .space) (x .address) in
+    let b = misaligned (row (x .space)) (x .address) in
     or-false a b (or-false (a || b) (pastEnd x) (or-false (a || b || pastEnd x) (barred x) (or-false _ (reserved x) e .0) .0) .0) .0
 
 -- The chain of tests, where that of rule 24 is the definition's wherever rule 23 does not hold.
@@ -133,6 +133,7 @@ pub record Passing (index : ℕ) (rest : List ℕ) : Type 0 where
   pub few : index ≡ mostRecords → ⊥
   pub bytes : recordBytes (recordStep rest .kind) ≤ length rest
   pub good : badElement (recordStep rest) ≡ false
+  pub plain : isInfo (recordStep rest .kind) ≡ false
   pub wide : length (recordStep rest .bytes) ≡ carried (recordStep rest .kind) (recordStep rest .space)
   pub read : recordAt rest ≡ brief (recordStep rest)
 
@@ -145,6 +146,7 @@ passing index rest e =
       few = eqb-false _ _ (n .0);
       bytes = w .bytes;
       good = w .good;
+      plain = pick-plain (eqb (markAt rest) writeMark);
       wide = step-bytes rest _ _ (w .bytes);
       read = rw (write-of, number-of (getD rest 2 0) (present rest (w .good))) refl;
     }

@@ -10,9 +10,10 @@ use lib.ListN.{length, take, drop, length-take, length-drop}
 use borrow.Author.Tests.{ltb-false, eqb-false}
 use Rattle.lbp16.proofs.BoolLaws.{or-false}
 use Rattle.lbp16.proofs.SpaceLaws.{element-le}
-use Rattle.lbp16.specs.Space.{Space, isAbsent}
-use Rattle.packet.specs.Step.{Kind, read, write, Step, carried}
+use Rattle.lbp16.specs.Space.{Space, isAbsent, row}
+use Rattle.packet.specs.Step.{Kind, read, write, infoRead, Step, isWrite, carried}
 use Rattle.packet.specs.Rules.{first, misaligned, pastEnd, barred}
+use Rattle.packet.proofs.StepLaws.{pick-plain}
 use Rattle.packet.proofs.RuleLaws.{none-holds, FirstHolds, first-holds, Rising, first-within, Lowest, first-lowest}
 use Rattle.cue.specs.Records.{Listed, refused, records, recordsOf, recordsFrom, recordRefusals, recordStep}
 use Rattle.cue.specs.Records.{recordKind, recordBytes, valueBytes, reserved, badElement, markAt, readMark, writeMark}
@@ -26,16 +27,16 @@ listBytes (x ∷ xs) = recordBytes (x .kind) + listBytes xs
 
 -- the five tests that a good record's element passes
 pub good-element : (x : Step) → badElement x ≡ false
-    → (isAbsent (x .space) ≡ false) × (misaligned (x .space) (x .address) ≡ false) × (pastEnd x ≡ false) × (barred x ≡ false)
+    → (isAbsent (x .space) ≡ false) × (misaligned (row (x .space)) (x .address) ≡ false) × (pastEnd x ≡ false) × (barred x ≡ false)
     × (reserved x ≡ false)
 unfolding badElement
 good-element x h =
     let a = isAbsent (x .space) in
-    let b = a || misaligned (x .space) (x .address) in
+    let b = a || misaligned (row (x .space)) (x .address) in
     let o = or-false (b || pastEnd x || barred x) (reserved x) h in
     let q = or-false (b || pastEnd x) (barred x) (o .0) in
     let r = or-false b (pastEnd x) (q .0) in
-    let t = or-false a (misaligned (x .space) (x .address)) (r .0) in
+    let t = or-false a (misaligned (row (x .space)) (x .address)) (r .0) in
     (t .0, t .1, r .1, q .1, o .1)
 
 -- A record that no rule refuses is whole, and its element is good.
@@ -54,14 +55,15 @@ whole index rest e =
 -- A whole record's step has as many bytes as its element.
 pub step-bytes : (rest : List ℕ) (k : Kind) (s : Space) → recordBytes k ≤ length rest
     → length (take (carried k s) (valueBytes rest)) ≡ carried k s
-unfolding carried valueBytes recordBytes
+unfolding carried valueBytes recordBytes isWrite
 step-bytes rest read s h = refl
 step-bytes rest write s h = let q = element-le s in simp (length-take, length-drop) (omega arith)
+step-bytes rest infoRead s h = refl
 
 -- The records that a list gives are good, and stand in the list whole.
 from-good : (fuel index : ℕ) (list : List ℕ) (xs : List Step) → recordsFrom fuel index list ≡ records xs
     → Good xs × (listBytes xs ≤ length list)
-unfolding recordsFrom recordStep listBytes withRecord
+unfolding recordsFrom recordStep recordKind listBytes withRecord
 from-good zero index list xs e = let q : [] ≡ xs = cc in rw (← q) (Good.none, omega arith)
 from-good (suc fuel) index [] xs e = let q : [] ≡ xs = cc in rw (← q) (Good.none, omega arith)
 from-good (suc fuel) index (b ∷ bs) xs e = go _ _ refl (from-good fuel (index + 1) _) e
@@ -81,7 +83,7 @@ from-good (suc fuel) index (b ∷ bs) xs e = go _ _ refl (from-good fuel (index 
         let q : recordStep rest ∷ ys ≡ xs = cc in
         let m = more ys refl in
         let size = simp length-drop at (m .1) in
-        rw (← q) (Good.more (w .good) (step-bytes rest _ _ (w .bytes)) (m .0), omega (arith, w .bytes))
+        rw (← q) (Good.more (w .good) (pick-plain (eqb (markAt rest) writeMark)) (step-bytes rest _ _ (w .bytes)) (m .0), omega (arith, w .bytes))
     go (suc r) v f more e = let z : _≡_ {A = ℕ} 0 1 = cc in absurd (omega arith)
 
 -- the records of a list that is not refused are good

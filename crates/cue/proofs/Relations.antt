@@ -7,7 +7,7 @@ use lib.ListN.{length}
 use Rattle.lbp16.specs.Space.{status, isAbsent, row}
 use Rattle.lbp16.specs.Pointer.{aboveSize}
 use Rattle.lbp16.specs.declared.pointer.Pointers.{Pointers}
-use Rattle.packet.specs.Step.{write, Step, carried, isWrite, unlocked}
+use Rattle.packet.specs.Step.{write, Step, isInfo, carried, isWrite, unlocked}
 use Rattle.packet.specs.Rules.{misaligned, pastEnd, barred, any}
 use Rattle.packet.specs.Command.{limit}
 use Rattle.packet.specs.Judge.{Carried, accepted, judge}
@@ -21,12 +21,13 @@ pub data Wide (n : ℕ) : List (List ℕ) → Type 0 where
 
 -- A command that no rule but 3, 11 and 12 could refuse. `open?`: whether the unlock is open before it.
 pub record Sound (open? : Bool) (c : Command) : Type 0 where
+  pub plain : isInfo (c .kind) ≡ false
   pub present : isAbsent (c .space) ≡ false
   pub some : 1 ≤ length (c .elements)
   pub few : length (c .elements) ≤ 127
   pub wide : Wide (carried (c .kind) (c .space)) (c .elements)
   pub address : c .address < 65536
-  pub aligned : misaligned (c .space) (c .address) ≡ false
+  pub aligned : misaligned (row (c .space)) (c .address) ≡ false
   pub inside : any pastEnd (commandSteps c) ≡ false
   pub allowed : any barred (commandSteps c) ≡ false
   pub unlocks : (isWrite (c .kind) && row (c .space) .locked && not open?) ≡ false
@@ -47,11 +48,11 @@ pub data Mixed : List Step → List Step → Type 0 where
   same : {x : Step} {ss xs : List Step} → Mixed ss xs → Mixed (x ∷ ss) (x ∷ xs)
   unlock : {ss xs : List Step} → Mixed ss xs → Mixed (unlockStep ∷ ss) xs
 
--- records that refusal 23 does not turn away, with as many bytes as their elements have
+-- records, none an info read, that refusal 23 does not turn away, with as many bytes as their elements have
 pub data Good : List Step → Type 0 where
   none : Good []
-  more : {x : Step} {xs : List Step} → badElement x ≡ false → length (x .bytes) ≡ carried (x .kind) (x .space) → Good xs
-      → Good (x ∷ xs)
+  more : {x : Step} {xs : List Step} → badElement x ≡ false → isInfo (x .kind) ≡ false
+      → length (x .bytes) ≡ carried (x .kind) (x .space) → Good xs → Good (x ∷ xs)
 
 -- From any pointers that refusal 1 does not turn away the packet is accepted and its steps are ss.
 pub record Does (packet : List ℕ) (ss : List Step) : Type 0 where

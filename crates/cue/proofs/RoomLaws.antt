@@ -6,12 +6,12 @@ use mathlib.Core.Bool.{Bool, true, false, cond}
 use native.Mathlib.Omega.{arith}
 use lib.ListN.{length, drop, length-append, length-drop}
 use lib.Seq.{sets, sets-eq, take-at, drop-drop, drop-append-add, drop-append-seam}
-use Rattle.lbp16.specs.Space.{row}
+use Rattle.lbp16.specs.Space.{spaceNumber, row}
 use Rattle.lbp16.specs.Word.{wordOf, bit}
 use Rattle.packet.specs.Bytes.{bytesOf}
 use Rattle.packet.specs.Step.{Step, isWrite}
 use Rattle.cue.specs.Packing.{Command, Open, commandsOf, joined, started, needsUnlock, unlockCommand}
-use Rattle.cue.specs.Packing.{spaceNumber, joinAll, commandBytes, commandFields, packetBytes}
+use Rattle.cue.specs.Packing.{joinAll, commandBytes, commandFields, packetBytes}
 use Rattle.cue.specs.Output.{framed, outputOf}
 use Rattle.cue.specs.Inside.{Progress, none, some, advance, finished, outputBytes, summary, roomAfter, Planned, brief}
 use Rattle.cue.specs.Inside.{frameBytes, lastFields, headBytes, unlockBytes, framedAt, unlockedAt, headedAt, wrote}
@@ -268,9 +268,9 @@ unfolding advance finished
 wrote-next none u x f i room h =
     rw (none-turned u x, started-summary [] x f _ [] (knows-none u x f)) (fresh-behind [] x f room h)
 wrote-next (some css o) u x f i room h =
-    turned-cases css o u x f
+    turned-cases css o u x f (i .1)
     (λ q t. length (outputBytes (finished t)) ≤ length room → wrote q (x .bytes) (roomOf (some css o) room) ≡ roomOf t room)
-    (λ j h. rw (joined-summary css o u x f j i) (joined-behind css o x room i h))
+    (λ j h. rw (joined-summary css o u x f (i .1) j (i .0)) (joined-behind css o x room (i .0) h))
     (λ h. rw (started-summary (commandsOf o) x f _ css (knows-open css o u x f)) (started-behind css o x f room h))
     (λ h. rw (started-summary [] x f _ _ (knows-closed css o u x f)) (fresh-behind _ x f room h))
     h

@@ -10,15 +10,17 @@ use lib.Dec.{eqb}
 use lib.ListN.{length, take, drop, getD}
 use lib.Seq.{sets, take-append-seam}
 use borrow.Author.Tests.{eqb-true, eq-eqb, ltb-false, not-false}
-use Rattle.lbp16.specs.Space.{Space, registers, eeprom, status, information, absent, row}
+use Rattle.lbp16.specs.Space.{Space, registers, eeprom, status, information, absent, row, areaRow}
 use Rattle.lbp16.specs.declared.pointer.Pointers.{Pointers}
-use Rattle.packet.specs.Step.{Kind, read, write, Step, at, carried, answered, stored, after, seen, storeAfter, valuesRead}
+use Rattle.packet.specs.Step.{Kind, read, write, infoRead, Step, isInfo, rowBy, at, carried, answered, source, stored, after, seen}
+use Rattle.packet.specs.Step.{storeAfter, valuesRead}
 use Rattle.packet.specs.Bytes.{number, bytesOf}
 use Rattle.packet.specs.Step.{isStatus}
 use Rattle.packet.specs.Rules.{misaligned, pastEnd}
 use Rattle.packet.specs.Judge.{accepted}
 use Rattle.packet.proofs.StoreLaws.{Apart, getD-sets, sets-sets, sets-twice, slice-sets, length-after, store-after-append}
 use Rattle.packet.proofs.StoreLaws.{values-read-append}
+use Rattle.packet.proofs.StepLaws.{row-plain}
 use Rattle.packet.specs.Command.{limit}
 use Rattle.packet.specs.Verdict.{answerTo}
 use Rattle.card.specs.Run.{unlockCell, countCell, cleared, countBytes, counted, badState, outcome}
@@ -53,17 +55,20 @@ pub record OffCells (i w : ℕ) : Type 0 where
   pub unlock : Apart i w unlockCell 2
   pub count : Apart i w countCell 2
 
-pub off-cells : (x : Step) → badElement x ≡ false → OffCells (at x) (row (x .space) .element)
+pub off-cells : (x : Step) → badElement x ≡ false → isInfo (x .kind) ≡ false → OffCells (at x) (row (x .space) .element)
 unfolding at misaligned pastEnd reserved
-off-cells x h =
+off-cells x h p =
+    let e = row-plain (x .kind) (x .space) p in
     let g = good-element x h in
     let m = eqb-true _ _ (not-false _ (g .1)) in
-    let l = ltb-false _ _ (g .2) in
+    let l : x .address + row (x .space) .element ≤ row (x .space) .bytes =
+    rw e at (ltb-false (rowBy (x .kind) (x .space) .bytes) (x .address + rowBy (x .kind) (x .space) .element) (g .2)) in
     let r = neither (eqb (x .address) 0x1A) (eqb (x .address) 0x0A) (isStatus (x .space)) (g .4) in
-    record {
+    rw e
+    (record {
       unlock = off-cell-at 0x1A refl (omega arith) (x .space) (x .address) m l (r .0);
       count = off-cell-at 0x0A refl (omega arith) (x .space) (x .address) m l (r .1);
-    }
+    })
   where
     neither : (a b s : Bool) → ((a || b) && s) ≡ false → ((a && s) ≡ false) × ((b && s) ≡ false)
     neither true true s h = (h, h)
@@ -87,19 +92,21 @@ blank-stored read s i bs store e h = refl
 blank-stored write s i bs store e h =
     rw (sets-sets store i bs countCell (0 ∷ 0 ∷ []) (rw e (h .count)))
     (sets-sets (sets store countCell (0 ∷ 0 ∷ [])) i bs unlockCell (0 ∷ 0 ∷ []) (rw e (h .unlock)))
+blank-stored infoRead s i bs store e h = refl
 
-seen-blank : (k : Kind) (s : Space) (i : ℕ) (store : List ℕ) → OffCells i (row s .element)
-    → take (answered k s) (drop i store) ≡ take (answered k s) (drop i (blank store))
-unfolding blank cleared answered
-seen-blank read s i store h =
+seen-blank : (k : Kind) (s : Space) (i : ℕ) (bs store : List ℕ) → OffCells i (row s .element)
+    → take (answered k s) (drop i (source k bs store)) ≡ take (answered k s) (drop i (source k bs (blank store)))
+unfolding blank cleared answered source
+seen-blank read s i bs store h =
     sym
     (slice-sets (sets store countCell (0 ∷ 0 ∷ [])) i (row s .element) unlockCell (0 ∷ 0 ∷ []) (h .unlock)
     ∙ slice-sets store i (row s .element) countCell (0 ∷ 0 ∷ []) (h .count))
-seen-blank write s i store h = refl
+seen-blank write s i bs store h = refl
+seen-blank infoRead s i bs store h = refl
 
 -- An unlock write is cleared away, and so is what a packet's end does.
 blank-unlock : (store : List ℕ) → blank (after unlockStep store) ≡ blank store
-unfolding blank cleared after stored at row
+unfolding blank cleared after stored at rowBy isInfo areaRow row
 blank-unlock store =
     rw (sets-sets store unlockCell (0x02 ∷ 0x5A ∷ []) countCell (0 ∷ 0 ∷ []) (inr (omega arith)))
     (sets-twice (sets store countCell (0 ∷ 0 ∷ [])) unlockCell (0x02 ∷ 0x5A ∷ []) (0 ∷ 0 ∷ []) refl)
@@ -123,14 +130,15 @@ count-stored write s i bs store e h = slice-sets store countCell 2 i bs (rw e (s
     swap : Apart i (row s .element) countCell 2 → Apart countCell 2 i (row s .element)
     swap (inl l) = inr l
     swap (inr l) = inl l
+count-stored infoRead s i bs store e h = refl
 
 count-kept : {ss xs : List Step} → Mixed ss xs → Good xs → (store : List ℕ)
     → countBytes (storeAfter ss store) ≡ countBytes store
-unfolding storeAfter after at row carried
+unfolding storeAfter after at rowBy isInfo areaRow row carried
 count-kept Mixed.none Good.none store = refl
-count-kept (Mixed.same {x = x} m) (Good.more b w g) store =
+count-kept (Mixed.same {x = x} m) (Good.more b p w g) store =
     count-kept m g (after x store)
-    ∙ count-stored (x .kind) (x .space) (at x) (x .bytes) store w (off-cells x b .count)
+    ∙ count-stored (x .kind) (x .space) (at x) (x .bytes) store w (off-cells x b p .count)
 count-kept (Mixed.unlock m) g store =
     count-kept m g (after unlockStep store)
     ∙ count-stored write status unlockCell (0x02 ∷ 0x5A ∷ []) store refl (inr (omega arith))
@@ -140,11 +148,11 @@ unseen : {ss xs : List Step} → Mixed ss xs → Good xs → (store : List ℕ)
     → (valuesRead ss store ≡ valuesRead xs (blank store)) × (blank (storeAfter ss store) ≡ storeAfter xs (blank store))
 unfolding valuesRead storeAfter seen after answered
 unseen Mixed.none Good.none store = (refl, refl)
-unseen (Mixed.same {x = x} m) (Good.more b w g) store =
-    let h = off-cells x b in
+unseen (Mixed.same {x = x} m) (Good.more b p w g) store =
+    let h = off-cells x b p in
     let r = unseen m g (after x store) in
     let e : blank (after x store) ≡ after x (blank store) = blank-stored _ (x .space) (at x) (x .bytes) store w h in
-    let v : seen x store ≡ seen x (blank store) = seen-blank (x .kind) (x .space) (at x) store h in
+    let v : seen x store ≡ seen x (blank store) = seen-blank (x .kind) (x .space) (at x) (x .bytes) store h in
     (rw (v, r .0, e), r .1 ∙ rw e)
 unseen (Mixed.unlock m) g store =
     let r = unseen m g (after unlockStep store) in
@@ -172,7 +180,7 @@ invisible m g store =
 
 pub good-split : (xs ys : List Step) → Good (xs ++ ys) → Good xs × Good ys
 good-split [] ys g = (Good.none, g)
-good-split (x ∷ xs) ys (Good.more b w g) = let r = good-split xs ys g in (Good.more b w (r .0), r .1)
+good-split (x ∷ xs) ys (Good.more b p w g) = let r = good-split xs ys g in (Good.more b p w (r .0), r .1)
 
 unlock-zero : (packets : List (List ℕ)) → unlockAfter packets 0 ≡ 0
 unfolding unlockAfter

@@ -7,7 +7,7 @@ use mathlib.Core.Bool.{Bool, Bool·beq, true, false, not, _||_, _&&_, cond}
 use lib.ListN.{length, take, drop, getD}
 use lib.Seq.{sets}
 use lib.Dec.{eqb, ltb, leb}
-use Rattle.lbp16.specs.Space.{spaceOf, row}
+use Rattle.lbp16.specs.Space.{spaceOf, spaceNumber, row}
 use Rattle.lbp16.specs.Word.{wordOf}
 use Rattle.lbp16.specs.declared.word.Fields.{Fields}
 use Rattle.packet.specs.Bytes.{number, bytesOf}
@@ -15,7 +15,7 @@ use Rattle.packet.specs.Step.{Step, isWrite, carried, answered, replyBytes, unl
 use Rattle.packet.specs.Command.{pickKind, limit}
 use Rattle.cue.specs.Records.{Listed, recordsOf, markAt, writeMark}
 use Rattle.cue.specs.Records as list
-use Rattle.cue.specs.Packing.{Open, Command, spaceNumber, packetBytes, packetSteps, commandsOf, started, turn, packFrom, packets}
+use Rattle.cue.specs.Packing.{Open, Command, packetBytes, packetSteps, commandsOf, started, turn, packFrom, packets}
 use Rattle.cue.specs.Output.{packetMark, outputOf}
 use Rattle.lbp16.specs.Answer.{Answer}
 use Rattle.cue.specs.declared.records.Record.{Record}

@@ -1,14 +1,14 @@
 -- The packing rule: which commands in which packets a list's records make. A packet is its commands in order.
 use Prim.Native.Nat.{ℕ, _+_, _*_}
 use mathlib.Core.List.{List, [], _∷_, _++_}
-use mathlib.Core.Bool.{Bool, true, false, not, _&&_, cond}
+use mathlib.Core.Bool.{Bool, Bool·beq, true, false, not, _&&_, cond}
 use lib.ListN.{length}
 use lib.Dec.{eqb, ltb, leb}
-use Rattle.lbp16.specs.Space.{Space, registers, eeprom, status, information, absent, row}
+use Rattle.lbp16.specs.Space.{Space, status, spaceNumber, row}
 use Rattle.lbp16.specs.Word.{wordOf}
 use Rattle.lbp16.specs.declared.word.Fields.{Fields}
 use Rattle.packet.specs.Bytes.{bytesOf}
-use Rattle.packet.specs.Step.{Kind, read, write, Step, isWrite, replyBytes, unlocked}
+use Rattle.packet.specs.Step.{Kind, write, Step, isWrite, replyBytes, unlocked}
 use Rattle.packet.specs.Command.{limit}
 
 -- A command with its address; `elements` holds the bytes of each element, none for a read.
@@ -18,13 +18,6 @@ pub record Command : Type 0 where
   pub address : ℕ
   pub increment : Bool
   pub elements : List (List ℕ)
-
-unfoldable pub spaceNumber : Space → ℕ
-spaceNumber registers = 0
-spaceNumber eeprom = 2
-spaceNumber status = 6
-spaceNumber information = 7
-spaceNumber absent = 1
 
 unfoldable pub commandFields : Command → Fields
 commandFields c =
@@ -80,11 +73,9 @@ pub record Open : Type 0 where
 unfoldable pub commandsOf : Open → List Command
 commandsOf o = o .before ++ (o .last ∷ [])
 
+-- both reads, or both writes
 unfoldable pub sameKind : Kind → Kind → Bool
-sameKind read read = true
-sameKind read write = false
-sameKind write read = false
-sameKind write write = true
+sameKind k l = Bool·beq (isWrite k) (isWrite l)
 
 -- the open packet with a record joined to its last command
 unfoldable pub joined : Open → Step → Open

@@ -1,12 +1,12 @@
 -- A cue list's records. A record is a step: doing a record alone is doing that step.
 use Prim.Native.Nat.{ℕ, zero, suc, _+_}
 use mathlib.Core.List.{List, [], _∷_}
-use mathlib.Core.Bool.{Bool, not, _||_, _&&_}
+use mathlib.Core.Bool.{Bool, not, _||_, _&&_, cond}
 use lib.ListN.{length, take, drop, getD}
 use lib.Dec.{eqb, ltb}
 use Rattle.lbp16.specs.Space.{Space, spaceOf, isAbsent, row}
 use Rattle.packet.specs.Bytes.{number}
-use Rattle.packet.specs.Step.{Kind, read, write, Step, carried, isWrite, isStatus}
+use Rattle.packet.specs.Step.{Kind, Step, carried, isWrite, isStatus}
 use Rattle.packet.specs.Rules.{Rule, first, misaligned, pastEnd, barred}
 use Rattle.packet.specs.Command.{pickKind}
 
@@ -25,8 +25,7 @@ recordKind rest = pickKind (eqb (markAt rest) writeMark)
 
 -- mark, space, spare, address; of a write the value too
 unfoldable pub recordBytes : Kind → ℕ
-recordBytes read = 6
-recordBytes write = 10
+recordBytes k = cond (isWrite k) 10 6
 
 unfoldable pub recordSpace : List ℕ → Space
 recordSpace rest = spaceOf (getD rest 2 0)
@@ -48,7 +47,7 @@ reserved x = (eqb (x .address) 0x1A || eqb (x .address) 0x0A) && isStatus (x .sp
 -- refusal 23
 unfoldable pub badElement : Step → Bool
 badElement x =
-    isAbsent (x .space) || misaligned (x .space) (x .address) || pastEnd x || barred x || reserved x
+    isAbsent (x .space) || misaligned (row (x .space)) (x .address) || pastEnd x || barred x || reserved x
 
 -- the part of the value that the element has no room for
 unfoldable pub upperHalf : List ℕ → ℕ

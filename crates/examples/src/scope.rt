@@ -67,9 +67,63 @@ fn packet_count() {
     );
 }
 
+// Document 02's order 2: each info area read whole.
+fn info_areas() {
+    script::play(
+        b"\
+        # Document 02: info areas with an address\n\
+        p space 0: 88 61 00 00\n\
+        p space 2: 88 69 00 00\n\
+        p space 6: 88 79 00 00\n\
+        p space 7: 88 7D 00 00\n\
+        p past the end of the area: 81 21\n\
+        # Document 02: info areas by their pointers\n\
+        p space 0: 88 21\n\
+        p space 2: 88 29\n\
+        p space 6: 88 39\n\
+        p space 7: 88 3D\n\
+        ",
+    );
+}
+
+// The pointer shown is the space's own, as it stands before the command.
+fn info_pointers() {
+    script::play(
+        b"\
+        # Document 02: the pointer that an info area shows\n\
+        p moved to 0x18: 82 42 10 00\n\
+        p in the next packet: 01 61 06 00\n\
+        p before and after a read that moves it: 01 61 06 00 81 02 01 61 06 00\n\
+        p not moved by an info read: 82 21 01 61 06 00\n\
+        p 0x10000 shows as 0: 81 42 FC FF 01 61 06 00\n\
+        p it stands past the end: 81 02\n\
+        ",
+    );
+}
+
+// Info commands have refusals of their own.
+fn info_refused() {
+    script::play(
+        b"\
+        # Document 02: info commands refused\n\
+        p a write: 01 E1 00 00 00 00\n\
+        p space 1: 01 65 00 00\n\
+        p space 3: 01 6D 00 00\n\
+        p 4-byte elements: 01 62 00 00\n\
+        p no elements: 00 61 00 00\n\
+        p nine elements: 89 61 00 00\n\
+        p the ninth by the pointer: 88 61 00 00 81 21\n\
+        p an odd address: 01 61 01 00\n\
+        ",
+    );
+}
+
 pub(crate) fn all() {
     words();
     packets();
     longest_reply();
     packet_count();
+    info_areas();
+    info_pointers();
+    info_refused();
 }

@@ -1,10 +1,10 @@
 -- Laws of what the exports return and leave, over plain lists.
-use Prim.Native.Nat.{ℕ, _+_, _≤_}
+use Prim.Native.Nat.{ℕ, suc, _+_, _≤_}
 use mathlib.Core.Path.{_≡_, refl, ap, sym, _∙_}
 use mathlib.Core.Bool.{true, false}
 use mathlib.Core.List.{List, [], _∷_, append-nil}
 use native.Mathlib.Omega.{arith}
-use lib.ListN.{length, drop, drop-of-length-le}
+use lib.ListN.{length, drop, set, drop-of-length-le}
 use lib.Seq.{sets, sets-eq}
 use borrow.Author.Tests.{eq-eqb, ne-eqb}
 use Rattle.lbp16.specs.Answer.{Answer, refused}
@@ -30,20 +30,29 @@ stored-whole vs l h =
     let past : drop (0 + length vs) l ≡ [] = drop-of-length-le l {i = 0 + length vs} (omega arith) in
     sets-eq vs l 0 fits ∙ (rw past (append-nil vs))
 
+-- four stores, one place after the other
+pub four-stored : (l : List ℕ) (i a b c d : ℕ)
+    → set (set (set (set l i a) (i + 1) b) (i + 2) c) (i + 3) d ≡ sets l i (a ∷ b ∷ c ∷ d ∷ [])
+four-stored l i a b c d =
+    let one : i + 1 ≡ suc i = omega arith in
+    let two : i + 2 ≡ suc (suc i) = omega arith in
+    let three : i + 3 ≡ suc (suc (suc i)) = omega arith in
+    rw (one, two, three) refl
+
 module _ (packet store pointers reply : List ℕ) where
-  pub four : length pointers ≡ 4
+  pub eight : length pointers ≡ 8
       → exportRun packet store pointers reply ≡ ofOutcome (runPacket packet store (pointersOf pointers) reply)
   unfolding exportRun
-  four h = rw (eq-eqb _ _ h)
+  eight h = rw (eq-eqb _ _ h)
 
-  pub not-four : (length pointers ≡ 4 → ⊥)
+  pub not-eight : (length pointers ≡ 8 → ⊥)
       → runLeft 1 0 store pointers reply ≡ exportRun packet store pointers reply
   unfolding exportRun
-  not-four h = rw (ne-eqb _ _ h)
+  not-eight h = rw (ne-eqb _ _ h)
 
-  -- what the call leaves where there are four pointers, from what the run answers and leaves
+  -- what the call leaves where there are eight pointers, from what the run answers and leaves
   pub ran-left : (p : Pointers) (r : Ran) (number value : ℕ) (store′ pointers′ reply′ : List ℕ)
-      → length pointers ≡ 4
+      → length pointers ≡ 8
       → p ≡ pointersOf pointers
       → ran r store′ reply′ ≡ runPacket packet store p reply
       → pointers′ ≡ pointerList (r .pointers)
@@ -53,21 +62,21 @@ module _ (packet store pointers reply : List ℕ) where
   unfolding ofOutcome ran
   ran-left p r number value store′ pointers′ reply′ count given done put v n =
       let e : ofOutcome (ran r store′ reply′) ≡ exportRun packet store pointers reply =
-      ap ofOutcome done ∙ ap (λ q. ofOutcome (runPacket packet store q reply)) given ∙ sym (four count)
+      ap ofOutcome done ∙ ap (λ q. ofOutcome (runPacket packet store q reply)) given ∙ sym (eight count)
       in rw (put, v, n) e
 
 module _ (packet store pointers : List ℕ) where
-  pub check-four : (p : Pointers) (r : Verdict) (number value : ℕ) → length pointers ≡ 4 → p ≡ pointersOf pointers
+  pub check-eight : (p : Pointers) (r : Verdict) (number value : ℕ) → length pointers ≡ 8 → p ≡ pointersOf pointers
       → verdictListed r ≡ answerTo (checked packet store p)
       → value ≡ valueOf (verdictListed r)
       → number ≡ numberOf (verdictListed r)
       → given number value ≡ exportCheck packet store pointers
   unfolding exportCheck
-  check-four p r number value count is e v n = rw (eq-eqb _ _ count, ← is, ← e, v, n) refl
+  check-eight p r number value count is e v n = rw (eq-eqb _ _ count, ← is, ← e, v, n) refl
 
-  pub check-not-four : (length pointers ≡ 4 → ⊥) → given 1 0 ≡ exportCheck packet store pointers
+  pub check-not-eight : (length pointers ≡ 8 → ⊥) → given 1 0 ≡ exportCheck packet store pointers
   unfolding exportCheck numberOf valueOf
-  check-not-four h = rw (ne-eqb _ _ h) refl
+  check-not-eight h = rw (ne-eqb _ _ h) refl
 
 -- what a burst's call leaves, from what the burst answers and leaves
 pub spi-left : (words store room : List ℕ) (a : BurstAnswer) (number value : ℕ) (store′ room′ : List ℕ)

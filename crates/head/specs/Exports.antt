@@ -1,6 +1,6 @@
 -- What the C exports return and leave. The answers themselves are those of a packet, a burst and a command word.
-use Prim.Native.Nat.{ℕ}
-use mathlib.Core.List.{List, [], _∷_}
+use Prim.Native.Nat.{ℕ, _+_}
+use mathlib.Core.List.{List, [], _∷_, _++_}
 use mathlib.Core.Bool.{Bool, not, _||_, cond}
 use lib.ListN.{length, getD}
 use lib.Dec.{eqb, ltb}
@@ -8,6 +8,7 @@ use Rattle.lbp16.specs.Answer.{Answer, accepted, refused}
 use Rattle.lbp16.specs.Word.{fieldsOf, bit, written}
 use Rattle.lbp16.specs.Pointer.{pointer}
 use Rattle.lbp16.specs.declared.word.Fields.{Fields}
+use Rattle.lbp16.specs.declared.pointer.SpacePointers.{SpacePointers}
 use Rattle.lbp16.specs.declared.pointer.Pointers.{Pointers}
 use Rattle.packet.specs.Verdict.{answerTo}
 use Rattle.card.specs.Run.{checked, Outcome, runPacket}
@@ -32,18 +33,24 @@ countOf (accepted (v ∷ [])) = 0
 countOf (accepted (v ∷ w ∷ ws)) = w
 countOf (refused number place) = 0
 
--- The pointers of spaces 0, 2, 6 and 7, in this order, and back.
-unfoldable pub pointersOf : List ℕ → Pointers
-pointersOf ps =
+-- Eight pointers, and back: those of spaces 0, 2, 6 and 7, in this order, then those of their info areas.
+unfoldable pub spacesAt : List ℕ → ℕ → SpacePointers
+spacesAt ps i =
     record {
-      registers = pointer (getD ps 0 0);
-      eeprom = pointer (getD ps 1 0);
-      status = pointer (getD ps 2 0);
-      information = pointer (getD ps 3 0);
+      registers = pointer (getD ps i 0);
+      eeprom = pointer (getD ps (i + 1) 0);
+      status = pointer (getD ps (i + 2) 0);
+      information = pointer (getD ps (i + 3) 0);
     }
 
+unfoldable pub pointersOf : List ℕ → Pointers
+pointersOf ps = record { plain = spacesAt ps 0; info = spacesAt ps 4 }
+
+unfoldable pub spaceList : SpacePointers → List ℕ
+spaceList p = p .registers .at ∷ p .eeprom .at ∷ p .status .at ∷ p .information .at ∷ []
+
 unfoldable pub pointerList : Pointers → List ℕ
-pointerList p = p .registers .at ∷ p .eeprom .at ∷ p .status .at ∷ p .information .at ∷ []
+pointerList p = spaceList (p .plain) ++ spaceList (p .info)
 
 -- All that head_check returns and writes.
 pub record Given : Type 0 where
@@ -53,11 +60,11 @@ pub record Given : Type 0 where
 abbrev pub given : ℕ → ℕ → Given
 given number value = record { number = number; value = value }
 
--- Refused with 1 where there are not four pointers.
+-- Refused with 1 where there are not eight pointers.
 unfoldable pub exportCheck : List ℕ → List ℕ → List ℕ → Given
 exportCheck packet store pointers =
     let a =
-    cond (eqb (length pointers) 4) (answerTo (checked packet store (pointersOf pointers))) (refused 1 0) in
+    cond (eqb (length pointers) 8) (answerTo (checked packet store (pointersOf pointers))) (refused 1 0) in
     given (numberOf a) (valueOf a)
 
 -- All that head_compile returns and leaves.
@@ -106,10 +113,10 @@ unfoldable pub ofOutcome : Outcome → RunExport
 ofOutcome o =
     runLeft (numberOf (o .answer)) (valueOf (o .answer)) (o .store) (pointerList (o .pointers)) (o .reply)
 
--- Refused with 1 where there are not four pointers.
+-- Refused with 1 where there are not eight pointers.
 unfoldable pub exportRun : List ℕ → List ℕ → List ℕ → List ℕ → RunExport
 exportRun packet store pointers reply =
-    cond (eqb (length pointers) 4) (ofOutcome (runPacket packet store (pointersOf pointers) reply))
+    cond (eqb (length pointers) 8) (ofOutcome (runPacket packet store (pointersOf pointers) reply))
     (runLeft 1 0 store pointers reply)
 
 -- A word's fields as seven bytes: write, address, info, space, size, increment, count. A flag is 0 or 1.

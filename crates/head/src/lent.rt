@@ -3,36 +3,58 @@ use card::spi::BurstAnswer;
 use cue::CompileAnswer;
 use lbp16::pointer::Pointer;
 use lbp16::pointer::Pointers;
+use lbp16::pointer::SpacePointers;
 use lbp16::word::Fields;
 use packet::judge::Verdict;
 ghost use mathlib.Core.Path.{_≡_};
+ghost use Prim.Native.Nat.{_+_, _≤_};
 ghost use lib.ListN.{length};
+ghost use lib.Seq.{sets};
 ghost use Rattle.lbp16.specs.Word.{bit};
 ghost use Rattle.packet.specs.Verdict.{verdictListed};
 ghost use Rattle.card.specs.Spi.{burstListed};
 ghost use Rattle.cue.specs.Compile.{compileListed};
-ghost use Rattle.head.specs.Exports.{numberOf, valueOf, countOf, pointersOf, pointerList, fieldBytes, fieldsFrom, badFlags};
+ghost use Rattle.head.specs.Exports.{numberOf, valueOf, countOf, spacesAt, pointersOf, spaceList, pointerList, fieldBytes, fieldsFrom, badFlags};
+
+// Those of spaces 0, 2, 6 and 7, from `at` on.
+fn spaces_at(ps: &[u32], at: usize) -> SpacePointers
+    requires { ⌜ at + 4 ≤ length (now ps) ⌝ }
+    ensures { λ r. ⌜ r ≡ spacesAt (now (ps .entry)) at ⌝ }
+{
+    SpacePointers {
+        registers: Pointer::new(ps[at]),
+        eeprom: Pointer::new(ps[at + 1]),
+        status: Pointer::new(ps[at + 2]),
+        information: Pointer::new(ps[at + 3]),
+    }
+}
+
+fn put_spaces(p: SpacePointers, ps: &mut [u32], at: usize)
+    requires { ⌜ at + 4 ≤ length (now ps) ⌝ }
+    ensures { λ r. ⌜ now (ps .exit) ≡ sets (now (ps .entry)) at (spaceList p) ⌝ }
+{
+    ps[at] = p.registers.at;
+    ps[at + 1] = p.eeprom.at;
+    ps[at + 2] = p.status.at;
+    ps[at + 3] = p.information.at;
+}
 
 pub(crate) fn pointers_of(ps: &[u32]) -> Pointers
-    requires { ⌜ length (now ps) ≡ 4 ⌝ }
+    requires { ⌜ length (now ps) ≡ 8 ⌝ }
     ensures { λ r. ⌜ r ≡ pointersOf (now (ps .entry)) ⌝ }
 {
     Pointers {
-        registers: Pointer::new(ps[0]),
-        eeprom: Pointer::new(ps[1]),
-        status: Pointer::new(ps[2]),
-        information: Pointer::new(ps[3]),
+        plain: spaces_at(ps, 0),
+        info: spaces_at(ps, 4),
     }
 }
 
 pub(crate) fn put_pointers(p: Pointers, ps: &mut [u32])
-    requires { ⌜ length (now ps) ≡ 4 ⌝ }
+    requires { ⌜ length (now ps) ≡ 8 ⌝ }
     ensures { λ r. ⌜ now (ps .exit) ≡ pointerList p ⌝ }
 {
-    ps[0] = p.registers.at;
-    ps[1] = p.eeprom.at;
-    ps[2] = p.status.at;
-    ps[3] = p.information.at;
+    put_spaces(p.plain, ps, 0);
+    put_spaces(p.info, ps, 4);
 }
 
 fn flag(set: bool) -> u8

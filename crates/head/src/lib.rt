@@ -16,7 +16,7 @@ ghost use Rattle.head.specs.Exports.{numberOf, given, exportCheck, runLe
 pub extern "C" fn head_check(packet: &[u8], store: &[u8], pointers: &[u32], value: &mut u64) -> u32
     ensures { λ r. ⌜ given r (now (value .exit)) ≡ exportCheck (now (packet .entry)) (now (store .entry)) (now (pointers .entry)) ⌝ }
 {
-    if pointers.len() != 4 {
+    if pointers.len() != 8 {
         *value = 0;
         return 1;
     }
@@ -26,7 +26,7 @@ pub extern "C" fn head_check(packet: &[u8], store: &[u8], pointers: &[u32], valu
     lent::verdict_number(answer)
 }
 
-// Runs one packet. `pointers` are those of spaces 0, 2, 6 and 7; `value` is the reply length, or the refusal's place.
+// Runs one packet. `pointers` are those of spaces 0, 2, 6 and 7, then those of their info areas; `value` is the reply length, or the refusal's place.
 #[no_mangle]
 pub extern "C" fn head_run(
     packet: &[u8],
@@ -37,7 +37,7 @@ pub extern "C" fn head_run(
 ) -> u32
     ensures { λ r. ⌜ runLeft r (now (value .exit)) (now (store .exit)) (now (pointers .exit)) (now (reply .exit)) ≡ exportRun (now (packet .entry)) (now (store .entry)) (now (pointers .entry)) (now (reply .entry)) ⌝ }
 {
-    if pointers.len() != 4 {
+    if pointers.len() != 8 {
         *value = 0;
         return 1;
     }

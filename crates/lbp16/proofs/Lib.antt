@@ -3,3 +3,4 @@ pub mod BoolLaws
 pub mod WordLaws
 pub mod SpaceLaws
 pub mod PointerLaws
+pub mod InfoLaws

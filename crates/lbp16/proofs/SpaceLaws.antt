@@ -1,38 +1,55 @@
 -- The spaces that the card has: none overlaps another, and together they are the store.
 use Prim.Native.Nat.{ℕ, _+_, _≤_, _<_}
 use mathlib.Core.Path.{_≡_, refl}
-use mathlib.Core.Bool.{false}
+use mathlib.Core.Bool.{Bool, true, false}
 use native.Mathlib.Omega.{arith}
 use lib.Dec.{eqb}
-use Rattle.lbp16.specs.Space.{Space, registers, eeprom, status, information, absent, row, isAbsent, storeBytes}
+use Rattle.lbp16.specs.Space.{Space, registers, eeprom, status, information, absent, row, infoRow, areaRow}
+use Rattle.lbp16.specs.Space.{isAbsent, storeBytes}
+use Rattle.lbp16.specs.declared.space.Row.{Row}
 
--- what holds of every row of the table
-record Bounded (s : Space) : Type 0 where
-  end : row s .place + row s .bytes ≤ storeBytes
-  bytes : row s .bytes ≤ 65536
-  element : row s .element ≤ 4
-  some : 0 < row s .element
+-- what holds of every line of the table
+record Bounded (r : Row) : Type 0 where
+  end : r .place + r .bytes ≤ storeBytes
+  bytes : r .bytes ≤ 65536
+  element : r .element ≤ 4
+  some : 0 < r .element
 
-bounded : (s : Space) → Bounded s
-unfolding row
-bounded registers = omega arith
-bounded eeprom = omega arith
-bounded status = omega arith
-bounded information = omega arith
-bounded absent = omega arith
+bounded : (i : Bool) (s : Space) → Bounded (areaRow i s)
+unfolding areaRow infoRow row
+bounded false registers = omega arith
+bounded false eeprom = omega arith
+bounded false status = omega arith
+bounded false information = omega arith
+bounded false absent = omega arith
+bounded true s = omega arith
+
+-- of a space's line and of its info area's
+pub area-bytes-le : (i : Bool) (s : Space) → areaRow i s .bytes ≤ 65536
+area-bytes-le i s = bounded i s .bytes
+
+pub area-element-le : (i : Bool) (s : Space) → areaRow i s .element ≤ 4
+area-element-le i s = bounded i s .element
+
+pub area-element-nonzero : (i : Bool) (s : Space) → 0 < areaRow i s .element
+area-element-nonzero i s = bounded i s .some
 
 -- every space ends within the store
 pub row-end : (s : Space) → row s .place + row s .bytes ≤ storeBytes
-row-end s = bounded s .end
+unfolding areaRow
+row-end s = bounded false s .end
 
 pub bytes-le : (s : Space) → row s .bytes ≤ 65536
-bytes-le s = bounded s .bytes
+unfolding areaRow
+bytes-le s = area-bytes-le false s
 
 pub element-le : (s : Space) → row s .element ≤ 4
-element-le s = bounded s .element
+unfolding areaRow
+element-le s = area-element-le false s
 
 pub element-nonzero : (s : Space) → 0 < row s .element
-element-nonzero s = bounded s .some
+unfolding areaRow
+element-nonzero s = area-element-nonzero false s
 
 -- a space that the card lacks has no bytes
 pub absent-bytes : (s : Space) → isAbsent s ≡ eqb (row s .bytes) 0

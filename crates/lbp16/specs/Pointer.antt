@@ -1,9 +1,10 @@
--- The address pointers: one for each space, kept between packets.
+-- The address pointers, kept between packets: each space has one, and another for its info area.
 use Prim.Native.Nat.{ℕ, _+_, min}
-use mathlib.Core.Bool.{Bool, _||_}
+use mathlib.Core.Bool.{Bool, true, false, _||_}
 use lib.Dec.{ltb}
-use Rattle.lbp16.specs.Space.{Space, registers, eeprom, status, information, absent, row}
+use Rattle.lbp16.specs.Space.{Space, registers, eeprom, status, information, absent, areaRow}
 use Rattle.lbp16.specs.declared.pointer.Pointer.{Pointer}
+use Rattle.lbp16.specs.declared.pointer.SpacePointers.{SpacePointers}
 use Rattle.lbp16.specs.declared.pointer.Pointers.{Pointers}
 
 -- A pointer's number is 32 bits wide. A sum past that stays at the top: it never wraps.
@@ -13,31 +14,46 @@ advanced at n = min (at + n) 4294967295
 abbrev pub pointer : ℕ → Pointer
 pointer n = record { at = n }
 
+unfoldable pub freshSpaces : SpacePointers
+freshSpaces = record { registers = pointer 0; eeprom = pointer 0; status = pointer 0; information = pointer 0 }
+
 unfoldable pub fresh : Pointers
-fresh = record { registers = pointer 0; eeprom = pointer 0; status = pointer 0; information = pointer 0 }
+fresh = record { plain = freshSpaces; info = freshSpaces }
 
-unfoldable pub pointerOf : Pointers → Space → ℕ
-pointerOf p registers = p .registers .at
-pointerOf p eeprom = p .eeprom .at
-pointerOf p status = p .status .at
-pointerOf p information = p .information .at
-pointerOf p absent = 0
+unfoldable pub ofSpace : SpacePointers → Space → ℕ
+ofSpace p registers = p .registers .at
+ofSpace p eeprom = p .eeprom .at
+ofSpace p status = p .status .at
+ofSpace p information = p .information .at
+ofSpace p absent = 0
 
-unfoldable pub withPointer : Pointers → Space → ℕ → Pointers
-withPointer p registers n =
+unfoldable pub withSpace : SpacePointers → Space → ℕ → SpacePointers
+withSpace p registers n =
     record { registers = pointer n; eeprom = p .eeprom; status = p .status; information = p .information }
-withPointer p eeprom n =
+withSpace p eeprom n =
     record { registers = p .registers; eeprom = pointer n; status = p .status; information = p .information }
-withPointer p status n =
+withSpace p status n =
     record { registers = p .registers; eeprom = p .eeprom; status = pointer n; information = p .information }
-withPointer p information n =
+withSpace p information n =
     record { registers = p .registers; eeprom = p .eeprom; status = p .status; information = pointer n }
-withPointer p absent n = p
+withSpace p absent n = p
 
-above : Pointers → Space → Bool
-above p s = ltb (row s .bytes) (pointerOf p s)
+-- the pointer of a space, or that of its info area
+unfoldable pub pointerOf : Pointers → Bool → Space → ℕ
+pointerOf p false s = ofSpace (p .plain) s
+pointerOf p true s = ofSpace (p .info) s
+
+unfoldable pub withPointer : Pointers → Bool → Space → ℕ → Pointers
+withPointer p false s n = record { plain = withSpace (p .plain) s n; info = p .info }
+withPointer p true s n = record { plain = p .plain; info = withSpace (p .info) s n }
+
+-- a pointer above its space's size, or above that of the info area
+unfoldable pub over : SpacePointers → Bool → Space → Bool
+over p info s = ltb (areaRow info s .bytes) (ofSpace p s)
+
+unfoldable pub someOver : SpacePointers → Bool → Bool
+someOver p info = over p info registers || over p info eeprom || over p info status || over p info information
 
 -- the part of refusal 1 that looks at pointers
 unfoldable pub aboveSize : Pointers → Bool
-unfolding above row pointerOf
-aboveSize p = above p registers || above p eeprom || above p status || above p information
+aboveSize p = someOver (p .plain) false || someOver (p .info) true

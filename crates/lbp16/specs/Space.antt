@@ -12,6 +12,14 @@ spaceOf n =
     cond (eqb n 0) registers
     (cond (eqb n 2) eeprom (cond (eqb n 6) status (cond (eqb n 7) information absent)))
 
+-- a space's number in a command word; one of the absent spaces' for those
+unfoldable pub spaceNumber : Space → ℕ
+spaceNumber registers = 0
+spaceNumber eeprom = 2
+spaceNumber status = 6
+spaceNumber information = 7
+spaceNumber absent = 1
+
 unfoldable pub isAbsent : Space → Bool
 isAbsent registers = false
 isAbsent eeprom = false
@@ -27,6 +35,15 @@ row eeprom = record { place = 65536; bytes = 128; element = 2; size = 1; «read_
 row status = record { place = 65664; bytes = 32; element = 2; size = 1; «read_only» = 0; locked = false }
 row information = record { place = 65696; bytes = 32; element = 2; size = 1; «read_only» = 32; locked = false }
 row absent = record { place = 0; bytes = 0; element = 1; size = 0; «read_only» = 0; locked = false }
+
+-- An info area: eight numbers of two bytes, read only. It stands in no store, so its place is 0.
+unfoldable pub infoRow : Row
+infoRow = record { place = 0; bytes = 16; element = 2; size = 1; «read_only» = 16; locked = false }
+
+-- the line of a space, or that of its info area
+unfoldable pub areaRow : Bool → Space → Row
+areaRow false s = row s
+areaRow true s = infoRow
 
 -- the bytes of the whole store
 abbrev pub storeBytes : ℕ

@@ -1,8 +1,8 @@
-// A space's address pointer, and the four that a card keeps.
+// A space's address pointer, and those that a card keeps.
 use crate::space;
 ghost use mathlib.Core.Path.{_≡_};
 ghost use Rattle.lbp16.specs.Space.{spaceOf};
-ghost use Rattle.lbp16.specs.Pointer.{advanced, fresh, pointerOf, withPointer, aboveSize};
+ghost use Rattle.lbp16.specs.Pointer.{advanced, freshSpaces, fresh, ofSpace, withSpace, pointerOf, withPointer, aboveSize};
 
 // Wider than the sixteen bits of an address, since it may stand past the end of a space.
 pub struct Pointer {
@@ -17,6 +17,9 @@ impl Pointer {
     pub const STATUS: u32 = 32;
 
     pub const INFORMATION: u32 = 32;
+
+    // of an info area
+    pub const INFO: u32 = 16;
 
     pub fn new(at: u32) -> Self
         ensures { λ r. ⌜ r .at ≡ at ⌝ }
@@ -37,19 +40,19 @@ impl Pointer {
     }
 }
 
-pub struct Pointers {
+// One pointer for each space.
+pub struct SpacePointers {
     pub registers: Pointer,
     pub eeprom: Pointer,
     pub status: Pointer,
     pub information: Pointer,
 }
 
-impl Pointers {
-    // The pointers of a fresh card.
-    pub fn fresh() -> Self
-        ensures { λ r. ⌜ r ≡ fresh ⌝ }
+impl SpacePointers {
+    fn fresh() -> Self
+        ensures { λ r. ⌜ r ≡ freshSpaces ⌝ }
     {
-        Pointers {
+        SpacePointers {
             registers: Pointer::new(0),
             eeprom: Pointer::new(0),
             status: Pointer::new(0),
@@ -59,7 +62,7 @@ impl Pointers {
 
     // The pointer of a space; 0 for a space that the card lacks.
     pub fn of(self, space: u8) -> Pointer
-        ensures { λ r. ⌜ r .at ≡ pointerOf self (spaceOf space) ⌝ }
+        ensures { λ r. ⌜ r .at ≡ ofSpace self (spaceOf space) ⌝ }
     {
         match space {
             0 => self.registers,
@@ -72,7 +75,7 @@ impl Pointers {
 
     // The same pointers but for that of one space.
     pub fn with(self, space: u8, p: Pointer) -> Self
-        ensures { λ r. ⌜ r ≡ withPointer self (spaceOf space) (p .at) ⌝ }
+        ensures { λ r. ⌜ r ≡ withSpace self (spaceOf space) (p .at) ⌝ }
     {
         let mut next = self;
         match space {
@@ -84,14 +87,62 @@ impl Pointers {
         }
         next
     }
+}
 
-    // Whether some pointer stands above its space's size.
+// Those of the spaces, and those of their info areas.
+pub struct Pointers {
+    pub plain: SpacePointers,
+    pub info: SpacePointers,
+}
+
+impl Pointers {
+    // The pointers of a fresh card.
+    pub fn fresh() -> Self
+        ensures { λ r. ⌜ r ≡ fresh ⌝ }
+    {
+        Pointers {
+            plain: SpacePointers::fresh(),
+            info: SpacePointers::fresh(),
+        }
+    }
+
+    // The pointer of a space or of its info area.
+    pub fn of(self, info: bool, space: u8) -> Pointer
+        ensures { λ r. ⌜ r .at ≡ pointerOf self info (spaceOf space) ⌝ }
+    {
+        if info {
+            self.info.of(space)
+        } else {
+            self.plain.of(space)
+        }
+    }
+
+    // The same pointers but for that one.
+    pub fn with(self, info: bool, space: u8, p: Pointer) -> Self
+        ensures { λ r. ⌜ r ≡ withPointer self info (spaceOf space) (p .at) ⌝ }
+    {
+        let mut next = self;
+        if info {
+            next.info = self.info.with(space, p);
+        } else {
+            next.plain = self.plain.with(space, p);
+        }
+        next
+    }
+
+    // Whether some pointer stands above its space's size or above that of an info area.
     pub fn above_size(self) -> bool
         ensures { λ r. ⌜ r ≡ aboveSize self ⌝ }
     {
-        (Pointer::REGISTERS < self.registers.at)
-            | (Pointer::EEPROM < self.eeprom.at)
-            | (Pointer::STATUS < self.status.at)
-            | (Pointer::INFORMATION < self.information.at)
+        let plain = self.plain;
+        let info = self.info;
+        ((Pointer::REGISTERS < plain.registers.at)
+            | (Pointer::EEPROM < plain.eeprom.at)
+            | (Pointer::STATUS < plain.status.at)
+            | (Pointer::INFORMATION < plain.information.at))
+            | ((Pointer::INFO < info.registers.at)
+                | (Pointer::INFO < info.eeprom.at)
+                | (Pointer::INFO < info.status.at)
+                | (Pointer::INFO < info.information.at))
     }
 }

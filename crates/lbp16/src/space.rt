@@ -1,7 +1,7 @@
 // The card's spaces as one table.
 use crate::pointer::Pointer;
 ghost use mathlib.Core.Path.{_≡_};
-ghost use Rattle.lbp16.specs.Space.{spaceOf, row, isAbsent};
+ghost use Rattle.lbp16.specs.Space.{spaceOf, row, areaRow, isAbsent};
 
 // One line of the table. `place` is where the space starts in the store, `element` the bytes of one element and `size`
 // its code in a command word. The first `read_only` bytes are never written; `locked`: the rest only with the unlock open.
@@ -59,6 +59,24 @@ pub fn row_of(space: u8) -> Row
             read_only: 0,
             locked: false,
         },
+    }
+}
+
+// The line of a space, or that of its info area, which stands in no store.
+pub fn area_row(info: bool, space: u8) -> Row
+    ensures { λ r. ⌜ r ≡ areaRow info (spaceOf space) ⌝ }
+{
+    if info {
+        Row {
+            place: 0,
+            bytes: Pointer::INFO,
+            element: 2,
+            size: 1,
+            read_only: 16,
+            locked: false,
+        }
+    } else {
+        row_of(space)
     }
 }
 

@@ -8,18 +8,18 @@ use lib.Seq.{take-at, drop-at}
 use native.Mathlib.Omega.{arith}
 use native.Mathlib.Nat.{zero-mul, suc-mul}
 use borrow.Author.Tests.{ltb-false, le-ltb, eqb-true, eqb-false, eq-eqb, ne-eqb, not-false}
-use Rattle.lbp16.specs.Space.{Space, spaceOf, isAbsent, row}
+use Rattle.lbp16.specs.Space.{Space, spaceOf, isAbsent}
 use Rattle.lbp16.specs.Word.{fieldsOf}
 use Rattle.lbp16.specs.Pointer.{aboveSize, advanced}
 use Rattle.lbp16.specs.declared.word.Fields.{Fields}
 use Rattle.lbp16.specs.declared.pointer.Pointers.{Pointers}
 use Rattle.lbp16.proofs.BoolLaws.{or-false}
 use Rattle.lbp16.proofs.PointerLaws.{with-pointer-kept, advanced-exact}
-use Rattle.lbp16.proofs.SpaceLaws.{bytes-le}
+use Rattle.lbp16.proofs.SpaceLaws.{area-bytes-le}
 use Rattle.packet.specs.Bytes.{bytesOf}
-use Rattle.packet.specs.Step.{Kind, carried, answered, replyBytes}
+use Rattle.packet.specs.Step.{Kind, isInfo, rowBy, carried, answered, replyBytes}
 use Rattle.packet.specs.Rules.{first, misaligned, pastEnd, barred, any}
-use Rattle.packet.specs.Command.{limit, fieldsAt, kindOf, headerBytes, commandBytes, addressUsed, stride}
+use Rattle.packet.specs.Command.{limit, fieldsAt, kindOf, rowOf, headerBytes, commandBytes, addressUsed, stride}
 use Rattle.packet.specs.Command.{elements, stepsAt, outOfPlace, refusals, pointersAfter}
 use Rattle.packet.proofs.ByteLaws.{length-bytes, number-of-bytes}
 use Rattle.packet.proofs.RuleLaws.{none-holds}
@@ -28,14 +28,14 @@ use Rattle.packet.proofs.ElementLaws.{past-last}
 -- A command that rules 3 to 12 let pass.
 pub record Passed (p : Pointers) (open? : Bool) (reply : ℕ) (f : Fields) (rest : List ℕ) : Type 0 where
   pub header : headerBytes f ≤ length rest
-  pub plain : f .info ≡ false
+  pub served : (f .info && f .write) ≡ false
   pub present : isAbsent (spaceOf (f .space)) ≡ false
-  pub sized : f .size ≡ row (spaceOf (f .space)) .size
+  pub sized : f .size ≡ rowOf f .size
   pub some : 1 ≤ f .count
-  pub aligned : misaligned (spaceOf (f .space)) (addressUsed p f rest) ≡ false
+  pub aligned : misaligned (rowOf f) (addressUsed p f rest) ≡ false
   pub inside : any pastEnd (stepsAt p f rest) ≡ false
   pub allowed : any barred (stepsAt p f rest) ≡ false
-  pub unlocks : (f .write && row (spaceOf (f .space)) .locked && not open?) ≡ false
+  pub unlocks : (f .write && rowOf f .locked && not open?) ≡ false
   pub whole : commandBytes f ≤ length rest
   pub answers : reply + f .count * answered (kindOf f) (spaceOf (f .space)) ≤ limit
 
@@ -45,11 +45,11 @@ module _ (p : Pointers) (open? : Bool) (reply : ℕ) (f : Fields) (rest : List �
   unfolding refusals outOfPlace
   passed e =
       let all = none-holds (refusals p open? reply f rest) (omega arith) e in
-      let (header, (plain, (present, (sized, (some, (place, (allowed, (unlocks, (whole, (answers, end)))))))))) = all in
-      let (aligned, inside) = or-false (misaligned (spaceOf (f .space)) (addressUsed p f rest)) _ place in
+      let (header, (served, (present, (sized, (some, (place, (allowed, (unlocks, (whole, (answers, end)))))))))) = all in
+      let (aligned, inside) = or-false (misaligned (rowOf f) (addressUsed p f rest)) _ place in
       record {
         header = ltb-false _ _ header;
-        plain = plain;
+        served = served;
         present = present;
         sized = eqb-true _ _ (not-false _ sized);
         some = let n = eqb-false (f .count) 0 some in omega arith;
@@ -75,7 +75,7 @@ module _ (p : Pointers) (open? : Bool) (reply : ℕ) (f : Fields) (rest : List �
         h .unlocks,
         le-ltb _ _ (h .whole),
         le-ltb _ _ (h .answers),
-        h .plain,
+        h .served,
       )
 
 -- A word at the front is read into its fields, and the address after it is the one used.
@@ -106,36 +106,36 @@ reply-of-command p f rest = reply-of-elements _ _ _ _ _ _
 
 -- If no element is past the end, the last one ends within the space.
 pub last-inside : (k : Kind) (s : Space) (n a d : ℕ) (bytes : List ℕ)
-    → any pastEnd (elements k s (suc n) a d bytes) ≡ false → a + n * d + row s .element ≤ row s .bytes
+    → any pastEnd (elements k s (suc n) a d bytes) ≡ false → a + n * d + rowBy k s .element ≤ rowBy k s .bytes
 last-inside k s n a d bytes e = ltb-false _ _ (sym (past-last k s n a d bytes) ∙ e)
 
 -- elements stand at most an element's size apart
-pub stride-le : (f : Fields) → stride f ≤ row (spaceOf (f .space)) .element
+pub stride-le : (f : Fields) → stride f ≤ rowOf f .element
 unfolding stride
-stride-le f = go (f .increment) (row (spaceOf (f .space)) .element)
+stride-le f = go (f .increment) (rowOf f .element)
   where
     go : (b : Bool) (e : ℕ) → cond b e 0 ≤ e
     go true e = omega arith
     go false e = omega arith
 
 -- If they stand at most an element's size apart, the address past them all is within the space or at its end.
-pub all-inside : (k : Kind) (s : Space) (n a d : ℕ) (bytes : List ℕ) → 1 ≤ n → d ≤ row s .element
-    → any pastEnd (elements k s n a d bytes) ≡ false → a + n * d ≤ row s .bytes
+pub all-inside : (k : Kind) (s : Space) (n a d : ℕ) (bytes : List ℕ) → 1 ≤ n → d ≤ rowBy k s .element
+    → any pastEnd (elements k s n a d bytes) ≡ false → a + n * d ≤ rowBy k s .bytes
 all-inside k s zero a d bytes l w e = absurd (omega arith)
 all-inside k s (suc n) a d bytes l w e = rw suc-mul (omega (arith, last-inside k s n a d bytes e))
 
 -- A command that passes leaves no pointer above its space's size.
 pub pointer-kept : (p : Pointers) (open? : Bool) (reply : ℕ) (f : Fields) (rest : List ℕ) → Passed p open? reply f rest
     → aboveSize p ≡ false → aboveSize (pointersAfter p f rest) ≡ false
-unfolding pointersAfter stepsAt
+unfolding pointersAfter stepsAt rowOf rowBy
 pointer-kept p open? reply f rest h =
-    with-pointer-kept p _ _ (all-inside _ _ (f .count) _ _ _ (h .some) (stride-le f) (h .inside))
+    with-pointer-kept p _ _ _ (all-inside _ _ (f .count) _ _ _ (h .some) (stride-le f) (h .inside))
 
 -- Past the elements of a command that passes, a pointer's sum is exact.
 pub advanced-used : (p : Pointers) (open? : Bool) (reply : ℕ) (f : Fields) (rest : List ℕ) → Passed p open? reply f rest
     → advanced (addressUsed p f rest) (f .count * stride f) ≡ addressUsed p f rest + f .count * stride f
-unfolding stepsAt
+unfolding stepsAt rowOf rowBy
 advanced-used p open? reply f rest h =
     let l = all-inside _ _ (f .count) _ _ _ (h .some) (stride-le f) (h .inside) in
-    let b = bytes-le (spaceOf (f .space)) in
+    let b = area-bytes-le (isInfo (kindOf f)) (spaceOf (f .space)) in
     advanced-exact _ _ (omega arith) (omega arith)

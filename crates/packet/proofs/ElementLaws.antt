@@ -5,28 +5,62 @@ use mathlib.Core.List.{List}
 use mathlib.Core.Bool.{Bool, true, false, not, _||_, _&&_, cond}
 use native.Mathlib.Omega.{arith}
 use native.Mathlib.Nat.{suc-mul, zero-mul, mul-zero, mul-le-mul}
-use lib.ListN.{drop}
 use lib.Dec.{eqb, ltb, eqb·suc-zero}
 use borrow.Author.Tests.{ltb-true, lt-ltb}
-use Rattle.lbp16.specs.Space.{Space, spaceOf, row}
+use Rattle.lbp16.specs.Space.{Space, spaceOf}
 use Rattle.lbp16.specs.declared.word.Fields.{Fields}
 use Rattle.lbp16.specs.declared.pointer.Pointers.{Pointers}
-use Rattle.packet.specs.Step.{Kind, read, write, isWrite}
+use Rattle.packet.specs.Step.{Kind, read, write, infoRead, isInfo, isWrite, rowBy, carried, answered}
+use Rattle.lbp16.proofs.SpaceLaws.{area-element-le, area-element-nonzero}
+use Rattle.packet.proofs.StepLaws.{carried-row, carried-none, answered-row}
 use Rattle.packet.specs.Rules.{pastEnd, barred, any}
 use Rattle.packet.specs.declared.command.Progress.{Progress}
-use Rattle.packet.specs.declared.command.Which.the-variants.{Refused}
-use Rattle.packet.specs.Command.{elements, pickKind, kindOf, whichOf, writes, nextBy, stepsAt, addressUsed, stride, headerBytes}
+use Rattle.packet.specs.declared.command.Which.the-variants.{Read, Write, Refused}
+use Rattle.packet.specs.Command.{elements, kindOf, rowOf, whichOf, writes, nextBy, stepsAt, addressUsed, stride, handed}
 
 pub scaled-le : (n w : ℕ) → n < 256 → w ≤ 4 → n * w ≤ 1020
 scaled-le n w h k = mul-le-mul (let l : n ≤ 255 = omega arith in l) k
 
 pub write-kind : (f : Fields) → isWrite (kindOf f) ≡ f .write
 unfolding isWrite kindOf
-write-kind f = go (f .write)
+write-kind f = go (f .write) (f .info)
   where
-    go : (b : Bool) → isWrite (Rattle.packet.specs.Command.pickKind b) ≡ b
-    go true = refl
-    go false = refl
+    go : (w i : Bool) → isWrite (cond w write (cond i infoRead read)) ≡ w
+    go true i = refl
+    go false true = refl
+    go false false = refl
+
+-- an info read: the info bit is set, and it is no write
+pub info-kind : (f : Fields) → isInfo (kindOf f) ≡ (f .info && not (f .write))
+unfolding isInfo kindOf
+info-kind f = go (f .write) (f .info)
+  where
+    go : (w i : Bool) → isInfo (cond w write (cond i infoRead read)) ≡ (i && not w)
+    go true true = refl
+    go true false = refl
+    go false true = refl
+    go false false = refl
+
+-- an element of the command has 1 to 4 bytes
+pub row-some : (f : Fields) → 0 < rowOf f .element
+unfolding rowOf rowBy
+row-some f = area-element-nonzero _ _
+
+pub row-le : (f : Fields) → rowOf f .element ≤ 4
+unfolding rowOf rowBy
+row-le f = area-element-le _ _
+
+-- an element's bytes stand in a write's command, and in the reply of any other
+pub carried-write : (f : Fields) → f .write ≡ true → carried (kindOf f) (spaceOf (f .space)) ≡ rowOf f .element
+unfolding rowOf
+carried-write f e = carried-row _ _ (write-kind f ∙ e)
+
+pub carried-read : (f : Fields) → f .write ≡ false → carried (kindOf f) (spaceOf (f .space)) ≡ 0
+carried-read f e = carried-none _ _ (write-kind f ∙ e)
+
+pub answered-read : (f : Fields) → f .write ≡ false → answered (kindOf f) (spaceOf (f .space)) ≡ rowOf f .element
+unfolding rowOf
+answered-read f e = answered-row _ _ (write-kind f ∙ e)
 
 -- a test that a larger number passes too
 or-ltb : (b x y : ℕ) → x ≤ y → (ltb b x || ltb b y) ≡ ltb b y
@@ -45,22 +79,22 @@ lower a b n h e = lt-ltb a n (let l : b < n = ltb-true b n e in omega arith)
 
 -- Of elements that rise, the last is the furthest.
 pub past-last : (k : Kind) (s : Space) (n a d : ℕ) (bs : List ℕ)
-    → any pastEnd (elements k s (suc n) a d bs) ≡ ltb (row s .bytes) (a + n * d + row s .element)
+    → any pastEnd (elements k s (suc n) a d bs) ≡ ltb (rowBy k s .bytes) (a + n * d + rowBy k s .element)
 unfolding any pastEnd elements
-past-last k s zero a d bs = or-none _ ∙ ap (ltb (row s .bytes)) (rw zero-mul (omega arith))
+past-last k s zero a d bs = or-none _ ∙ ap (ltb (rowBy k s .bytes)) (rw zero-mul (omega arith))
 past-last k s (suc n) a d bs =
-    ap (λ (t : Bool). ltb (row s .bytes) (a + row s .element) || t) (past-last k s n (a + d) d _)
-    ∙ or-ltb (row s .bytes) (a + row s .element) (a + d + n * d + row s .element) (omega arith)
-    ∙ ap (ltb (row s .bytes)) (rw suc-mul (omega arith))
+    ap (λ (t : Bool). ltb (rowBy k s .bytes) (a + rowBy k s .element) || t) (past-last k s n (a + d) d _)
+    ∙ or-ltb (rowBy k s .bytes) (a + rowBy k s .element) (a + d + n * d + rowBy k s .element) (omega arith)
+    ∙ ap (ltb (rowBy k s .bytes)) (rw suc-mul (omega arith))
 
 -- and the first is the lowest
 pub barred-first : (k : Kind) (s : Space) (n a d : ℕ) (bs : List ℕ)
-    → any barred (elements k s (suc n) a d bs) ≡ (ltb a (row s .«read_only») && isWrite k)
+    → any barred (elements k s (suc n) a d bs) ≡ (ltb a (rowBy k s .«read_only») && isWrite k)
 unfolding any barred elements
 barred-first k s zero a d bs = or-none _
 barred-first k s (suc n) a d bs =
-    ap (λ (t : Bool). (ltb a (row s .«read_only») && isWrite k) || t) (barred-first k s n (a + d) d _)
-    ∙ go (ltb a (row s .«read_only»)) (ltb (a + d) (row s .«read_only»)) (isWrite k) (lower a (a + d) _ (omega arith))
+    ap (λ (t : Bool). (ltb a (rowBy k s .«read_only») && isWrite k) || t) (barred-first k s n (a + d) d _)
+    ∙ go (ltb a (rowBy k s .«read_only»)) (ltb (a + d) (rowBy k s .«read_only»)) (isWrite k) (lower a (a + d) _ (omega arith))
   where
     go : (t u w : Bool) → (u ≡ true → t ≡ true) → ((t && w) || (u && w)) ≡ (t && w)
     go true u true e = refl
@@ -71,34 +105,34 @@ barred-first k s (suc n) a d bs =
 
 -- Rules 8 and 35 without a walk: with increment or without, the furthest element against the space's end.
 pub past-span : (k : Kind) (s : Space) (n a : ℕ) (i : Bool) (bs : List ℕ)
-    → any pastEnd (elements k s n a (cond i (row s .element) 0) bs)
-    ≡ (not (eqb n 0) && ltb (row s .bytes) (a + cond i (n * row s .element) (row s .element)))
+    → any pastEnd (elements k s n a (cond i (rowBy k s .element) 0) bs)
+    ≡ (not (eqb n 0) && ltb (rowBy k s .bytes) (a + cond i (n * rowBy k s .element) (rowBy k s .element)))
 unfolding any elements
 past-span k s zero a i bs = refl
 past-span k s (suc n) a true bs =
-    past-last k s n a _ bs ∙ rw (eqb·suc-zero n) (ap (ltb (row s .bytes)) (rw suc-mul (omega arith)))
+    past-last k s n a _ bs ∙ rw (eqb·suc-zero n) (ap (ltb (rowBy k s .bytes)) (rw suc-mul (omega arith)))
 past-span k s (suc n) a false bs =
-    past-last k s n a 0 bs ∙ rw (eqb·suc-zero n) (ap (ltb (row s .bytes)) (rw mul-zero (omega arith)))
+    past-last k s n a 0 bs ∙ rw (eqb·suc-zero n) (ap (ltb (rowBy k s .bytes)) (rw mul-zero (omega arith)))
 
 -- Rules 8 and 9 as the code tests them.
 pub past-quick : (p : Pointers) (f : Fields) (rest : List ℕ)
     → any pastEnd (stepsAt p f rest)
     ≡ (not (eqb (f .count) 0)
-    && ltb (row (spaceOf (f .space)) .bytes)
+    && ltb (rowOf f .bytes)
     (addressUsed p f rest
-    + cond (f .increment) (f .count * row (spaceOf (f .space)) .element) (row (spaceOf (f .space)) .element)))
-unfolding stepsAt stride
+    + cond (f .increment) (f .count * rowOf f .element) (rowOf f .element)))
+unfolding stepsAt stride rowOf
 past-quick p f rest = past-span _ _ _ _ (f .increment) _
 
 pub barred-quick : (p : Pointers) (f : Fields) (rest : List ℕ)
     → any barred (stepsAt p f rest)
-    ≡ (not (eqb (f .count) 0) && (ltb (addressUsed p f rest) (row (spaceOf (f .space)) .«read_only») && f .write))
-unfolding stepsAt any elements
+    ≡ (not (eqb (f .count) 0) && (ltb (addressUsed p f rest) (rowOf f .«read_only») && f .write))
+unfolding stepsAt any elements rowOf
 barred-quick p f rest = go (f .count)
   where
     go : (n : ℕ)
-        → any barred (elements (kindOf f) (spaceOf (f .space)) n (addressUsed p f rest) (stride f) (drop (headerBytes f) rest))
-        ≡ (not (eqb n 0) && (ltb (addressUsed p f rest) (row (spaceOf (f .space)) .«read_only») && f .write))
+        → any barred (elements (kindOf f) (spaceOf (f .space)) n (addressUsed p f rest) (stride f) (handed p f rest))
+        ≡ (not (eqb n 0) && (ltb (addressUsed p f rest) (rowOf f .«read_only») && f .write))
     go zero = refl
     go (suc n) = barred-first _ _ n _ _ _ ∙ rw (eqb·suc-zero n, write-kind f) refl
 
@@ -111,11 +145,26 @@ pub which-none : (next g : Progress) (k : Kind) → nextBy (whichOf 0 k) next g 
 unfolding whichOf
 which-none next g read = refl
 which-none next g write = refl
+which-none next g infoRead = refl
 
 pub which-writes : (f : Fields) → writes (whichOf 0 (kindOf f)) ≡ f .write
 unfolding whichOf kindOf
-which-writes f = go (f .write)
+which-writes f = go (f .write) (f .info)
   where
-    go : (b : Bool) → writes (whichOf 0 (pickKind b)) ≡ b
+    go : (w i : Bool) → writes (whichOf 0 (cond w write (cond i infoRead read))) ≡ w
+    go true i = refl
+    go false true = refl
+    go false false = refl
+
+-- where no rule holds it is found to be what its write bit says
+pub which-write : (f : Fields) → f .write ≡ true → whichOf 0 (kindOf f) ≡ Write
+unfolding whichOf kindOf
+which-write f e = rw e refl
+
+pub which-read : (f : Fields) → f .write ≡ false → whichOf 0 (kindOf f) ≡ Read
+unfolding whichOf kindOf
+which-read f e = rw e (go (f .info))
+  where
+    go : (i : Bool) → whichOf 0 (cond i infoRead read) ≡ Read
     go true = refl
     go false = refl

@@ -7,7 +7,7 @@ use lib.ListN.{length, drop}
 use native.Mathlib.Omega.{arith}
 use Rattle.lbp16.specs.Pointer.{aboveSize}
 use Rattle.lbp16.specs.declared.pointer.Pointers.{Pointers}
-use Rattle.packet.specs.Step.{Kind, read, write, unlocked, replyBytes}
+use Rattle.packet.specs.Step.{Kind, read, write, infoRead, unlocked, replyBytes}
 use Rattle.packet.specs.Command.{fieldsAt, commandBytes, whichOf, found}
 use Rattle.packet.specs.Judge.{Carried, Verdict, accepted, begin, foundNext, carry, verdictAt, judgeFrom, judge}
 use Rattle.packet.proofs.CommandLaws.{Passed, passed, passes, pointer-kept}
@@ -25,12 +25,14 @@ verdict-past : (k : Kind) (place : ℕ) (v : Verdict) → verdictAt (whichOf 0 k
 unfolding whichOf
 verdict-past read place v = refl
 verdict-past write place v = refl
+verdict-past infoRead place v = refl
 
 verdict-accepted : (n : ℕ) (k : Kind) (place : ℕ) (v : Verdict) (end : Carried)
     → verdictAt (whichOf n k) place v ≡ accepted end → (n ≡ 0) × (v ≡ accepted end)
 unfolding whichOf
 verdict-accepted zero read place v end e = (refl, e)
 verdict-accepted zero write place v end e = (refl, e)
+verdict-accepted zero infoRead place v end e = (refl, e)
 verdict-accepted (suc n) k place v end e = let z : _≡_ {A = ℕ} 0 1 = cc in absurd (omega arith)
 
 -- a packet's end is accepted, whatever the fuel

@@ -12,3 +12,4 @@ pub mod ProgressLaws
 pub mod JudgeLaws
 pub mod LoopLaws
 pub mod RefusalLaws
+pub mod InfoLaws

@@ -15,7 +15,7 @@ use Rattle.packet.specs.Command.{fieldsAt, headerBytes, commandBytes, re
 use Rattle.packet.specs.Command.{progressAfter, commandAt}
 use Rattle.packet.specs.Judge.{Carried, begin, carry, judgeFrom, judge, foundNext, verdictAt, accepted, refused}
 use Rattle.packet.specs.Judge
-use Rattle.packet.specs.Step.{Kind, read, write}
+use Rattle.packet.specs.Step.{Kind, read, write, infoRead}
 use Rattle.packet.specs.Verdict.{answerTo, start, progressOf}
 use Rattle.packet.specs.declared.command.Progress.{Progress}
 use Rattle.packet.specs.declared.command.Command.{Command}
@@ -62,6 +62,7 @@ number-found : (n : ℕ) (k : Kind) → numberOf (whichOf n k) ≡ n
 unfolding whichOf
 number-found zero read = refl
 number-found zero write = refl
+number-found zero infoRead = refl
 number-found (suc n) k = refl
 
 verdict-refused : (n : ℕ) (k : Kind) (place : ℕ) (v : Judge.Verdict) → (n ≡ 0 → ⊥) → verdictAt (whichOf n k) place v ≡ refused n place

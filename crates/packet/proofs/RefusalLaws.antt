@@ -12,7 +12,7 @@ use Rattle.lbp16.specs.Pointer.{pointerOf}
 use Rattle.lbp16.specs.declared.word.Fields.{Fields}
 use Rattle.lbp16.specs.declared.pointer.Pointers.{Pointers}
 use Rattle.lbp16.proofs.PointerLaws.{with-pointer-other}
-use Rattle.packet.specs.Step.{Kind, read, write, Step, unlocked, replyBytes}
+use Rattle.packet.specs.Step.{Kind, read, write, infoRead, Step, isInfo, unlocked, replyBytes}
 use Rattle.packet.specs.Rules.{Rule, first, any, pastEnd}
 use Rattle.packet.specs.Command.{limit, fieldsAt, kindOf, headerBytes, commandBytes, elements, stepsAt}
 use Rattle.packet.specs.Command.{refusals, whichOf, found, pointersAfter}
@@ -71,6 +71,7 @@ ends-from (suc fuel) c (b ∷ bs) l =
         → Ends c rest (verdictAt (whichOf n k) (c .place) v)
     go zero read e h = further (passed _ _ _ _ _ e) h
     go zero write e h = further (passed _ _ _ _ _ e) h
+    go zero infoRead e h = further (passed _ _ _ _ _ e) h
     go (suc n) k e h = Ends.refuses Reaches.here (omega arith) e (omega arith)
 
 pub judge-ends : (p : Pointers) (packet : List ℕ) → Ends (begin p) packet (judge p packet)
@@ -158,34 +159,35 @@ accepted-inside p packet end e =
     (all-passed p packet end e)
     refl
 
--- no step names the space
-abbrev pub Unnamed : Space → List Step → Type 0
-Unnamed s [] = Unit
-Unnamed s (x ∷ xs) = (x .space ≢ s) × Unnamed s xs
+-- no step names the space, or its info area where `i`
+abbrev pub Unnamed : Bool → Space → List Step → Type 0
+Unnamed i s [] = Unit
+Unnamed i s (x ∷ xs) = (isInfo (x .kind) ≡ i → x .space ≢ s) × Unnamed i s xs
 
-unnamed-append : (s : Space) (xs ys : List Step) → Unnamed s (xs ++ ys) → Unnamed s xs × Unnamed s ys
-unnamed-append s [] ys h = (tt, h)
-unnamed-append s (x ∷ xs) ys h = let k = unnamed-append s xs ys (h .1) in ((h .0, k .0), k .1)
+unnamed-append : (i : Bool) (s : Space) (xs ys : List Step) → Unnamed i s (xs ++ ys) → Unnamed i s xs × Unnamed i s ys
+unnamed-append i s [] ys h = (tt, h)
+unnamed-append i s (x ∷ xs) ys h = let k = unnamed-append i s xs ys (h .1) in ((h .0, k .0), k .1)
 
--- a command with elements names its space
-unnamed-command : (s : Space) (p : Pointers) (f : Fields) (rest : List ℕ) → 1 ≤ f .count → Unnamed s (stepsAt p f rest)
-    → spaceOf (f .space) ≢ s
+-- a command with elements names its space or its info area
+unnamed-command : (i : Bool) (s : Space) (p : Pointers) (f : Fields) (rest : List ℕ) → 1 ≤ f .count
+    → Unnamed i s (stepsAt p f rest) → isInfo (kindOf f) ≡ i → spaceOf (f .space) ≢ s
 unfolding stepsAt elements
-unnamed-command s p f rest = go (f .count) _ _ _
+unnamed-command i s p f rest = go (f .count) _ _ _
   where
-    go : (n a d : ℕ) (bytes : List ℕ) → 1 ≤ n → Unnamed s (elements (kindOf f) (spaceOf (f .space)) n a d bytes)
-        → spaceOf (f .space) ≢ s
+    go : (n a d : ℕ) (bytes : List ℕ) → 1 ≤ n → Unnamed i s (elements (kindOf f) (spaceOf (f .space)) n a d bytes)
+        → isInfo (kindOf f) ≡ i → spaceOf (f .space) ≢ s
     go zero a d bytes l h = absurd (omega arith)
     go (suc n) a d bytes l h = h .0
 
--- A space that no command of an accepted packet names keeps its pointer.
+-- A space that no plain command of an accepted packet names keeps its pointer, and one that no info read names keeps that of
+-- its info area. So info reads move no plain pointer, and plain commands no info pointer.
 pub other-pointers : (p : Pointers) (packet : List ℕ) (end : Carried) → judge p packet ≡ accepted end
-    → (s : Space) → Unnamed s (end .steps) → pointerOf (end .pointers) s ≡ pointerOf p s
+    → (i : Bool) (s : Space) → Unnamed i s (end .steps) → pointerOf (end .pointers) i s ≡ pointerOf p i s
 unfolding begin carry pointersAfter
-other-pointers p packet end e s =
-    reaches-keeps (λ c _. Unnamed s (c .steps) → pointerOf (c .pointers) s ≡ pointerOf p s)
+other-pointers p packet end e i s =
+    reaches-keeps (λ c _. Unnamed i s (c .steps) → pointerOf (c .pointers) i s ≡ pointerOf p i s)
     (λ c rest n h u.
-    let (old, new) = unnamed-append s (c .steps) _ u in
-    with-pointer-other (c .pointers) _ s _ (unnamed-command s _ _ rest (n .some) new) ∙ h old)
+    let (old, new) = unnamed-append i s (c .steps) _ u in
+    with-pointer-other (c .pointers) _ i _ s _ (unnamed-command i s _ _ rest (n .some) new) ∙ h old)
     (all-passed p packet end e)
     (λ _. refl)

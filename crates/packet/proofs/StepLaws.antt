@@ -1,13 +1,15 @@
 -- Laws of steps that follow other steps.
-use Prim.Native.Nat.{_+_, _≤_}
+use Prim.Native.Nat.{ℕ, _+_, _≤_}
 use mathlib.Core.Path.{_≡_, refl}
 use mathlib.Core.List.{List, [], _∷_, _++_}
 use mathlib.Core.Bool.{Bool, true, false, _||_}
 use native.Mathlib.Omega.{arith}
-use Rattle.lbp16.proofs.SpaceLaws.{element-le}
-use Rattle.lbp16.specs.Space.{Space}
-use Rattle.packet.specs.Step.{Kind, read, write, Step, carried, answered, replyBytes, turned, unlocked}
+use Rattle.lbp16.proofs.SpaceLaws.{element-le, area-element-le}
+use Rattle.lbp16.specs.Space.{Space, row, areaRow}
+use Rattle.packet.specs.Step.{Kind, read, write, infoRead, Step, isInfo, isWrite, rowBy, carried, answered}
+use Rattle.packet.specs.Step.{replyBytes, turned, unlocked}
 use Rattle.packet.specs.Rules.{any}
+use Rattle.packet.specs.Command.{pickKind}
 
 pub unlocked-append : (open? : Bool) (ss ts : List Step) → unlocked open? (ss ++ ts) ≡ unlocked (unlocked open? ss) ts
 unfolding unlocked
@@ -38,8 +40,46 @@ pub carried-le : (k : Kind) (s : Space) → carried k s ≤ 4
 unfolding carried
 carried-le read s = omega arith
 carried-le write s = element-le s
+carried-le infoRead s = omega arith
 
 pub answered-le : (k : Kind) (s : Space) → answered k s ≤ 4
-unfolding answered
+unfolding answered rowBy
 answered-le read s = element-le s
 answered-le write s = omega arith
+answered-le infoRead s = area-element-le _ s
+
+-- a plain step is known by whether it writes
+pub pick-plain : (write? : Bool) → isInfo (pickKind write?) ≡ false
+unfolding isInfo
+pick-plain true = refl
+pick-plain false = refl
+
+pub pick-again : (k : Kind) → isInfo k ≡ false → pickKind (isWrite k) ≡ k
+unfolding isInfo isWrite
+pick-again read e = refl
+pick-again write e = refl
+pick-again infoRead e = let z : _≡_ {A = ℕ} 0 1 = cc in absurd (omega arith)
+
+-- the line of a plain step is its space's
+pub row-plain : (k : Kind) (s : Space) → isInfo k ≡ false → rowBy k s ≡ row s
+unfolding rowBy areaRow
+row-plain k s e = rw e
+
+-- only a write's elements stand in the packet, and only the others' in the reply
+pub carried-row : (k : Kind) (s : Space) → isWrite k ≡ true → carried k s ≡ rowBy k s .element
+unfolding carried isWrite rowBy isInfo areaRow
+carried-row read s e = let z : _≡_ {A = ℕ} 0 1 = cc in absurd (omega arith)
+carried-row write s e = refl
+carried-row infoRead s e = let z : _≡_ {A = ℕ} 0 1 = cc in absurd (omega arith)
+
+pub carried-none : (k : Kind) (s : Space) → isWrite k ≡ false → carried k s ≡ 0
+unfolding carried isWrite
+carried-none read s e = refl
+carried-none write s e = let z : _≡_ {A = ℕ} 0 1 = cc in absurd (omega arith)
+carried-none infoRead s e = refl
+
+pub answered-row : (k : Kind) (s : Space) → isWrite k ≡ false → answered k s ≡ rowBy k s .element
+unfolding answered isWrite rowBy isInfo areaRow
+answered-row read s e = refl
+answered-row write s e = let z : _≡_ {A = ℕ} 0 1 = cc in absurd (omega arith)
+answered-row infoRead s e = refl

@@ -2,7 +2,7 @@
 use Prim.Native.Nat.{ℕ, suc, _+_, _-_, _≤_, _<_}
 use mathlib.Core.Path.{_≡_, refl, _∙_}
 use mathlib.Core.Logic.{_⊎_, inl, inr, _≢_}
-use mathlib.Core.Bool.{false}
+use mathlib.Core.Bool.{true, false}
 use mathlib.Core.List.{List, [], _∷_, _++_, append-assoc}
 use native.Mathlib.Omega.{arith}
 use lib.Dec.{ltb}
@@ -10,10 +10,10 @@ use lib.ListN.{length, take, drop, getD, set, length-append, length-drop}
 use lib.Seq.{sets, length-sets, set-set, set-comm, drop-set-lt, drop-set-add, take-set-le, getD-set-other}
 use lib.Seq.{length-take-le}
 use borrow.Author.Tests.{ltb-false}
-use Rattle.lbp16.specs.Space.{Space, row, storeBytes}
+use Rattle.lbp16.specs.Space.{Space, infoRow, areaRow, storeBytes}
 use Rattle.lbp16.proofs.BoolLaws.{or-false}
 use Rattle.lbp16.proofs.SpaceLaws.{row-end}
-use Rattle.packet.specs.Step.{Kind, read, write, Step, at, stored, answered, after, seen, storeAfter, valuesRead}
+use Rattle.packet.specs.Step.{Kind, read, write, infoRead, Step, isInfo, isWrite, rowBy, at, source, stored, answered, after, seen, storeAfter, valuesRead}
 use Rattle.packet.specs.Step.{replyBytes}
 use Rattle.packet.specs.Rules.{pastEnd, any}
 
@@ -74,6 +74,7 @@ length-stored : (k : Kind) (i : ℕ) (bs store : List ℕ) → length (stored k 
 unfolding stored
 length-stored read i bs store = refl
 length-stored write i bs store = length-sets store i bs
+length-stored infoRead i bs store = refl
 
 -- Steps leave the store's length as it is.
 pub length-after : (ss : List Step) (store : List ℕ) → length (storeAfter ss store) ≡ length store
@@ -94,29 +95,52 @@ unfolding storeAfter valuesRead
 values-read-append [] ts store = refl
 values-read-append (s ∷ ss) ts store = rw (values-read-append ss ts (after s store), append-assoc)
 
-answered-element : (k : Kind) (s : Space) → answered k s ≤ row s .element
-unfolding answered
+answered-element : (k : Kind) (s : Space) → answered k s ≤ rowBy k s .element
+unfolding answered rowBy isInfo areaRow
 answered-element read s = omega arith
 answered-element write s = omega arith
+answered-element infoRead s = omega arith
+
+-- an info read has a whole info area
+abbrev pub Whole : Step → Type 0
+Whole s = isInfo (s .kind) ≡ true → length (s .bytes) ≡ infoRow .bytes
+
+abbrev pub AllWhole : List Step → Type 0
+AllWhole [] = Unit
+AllWhole (s ∷ ss) = Whole s × AllWhole ss
+
+pub whole-append : (ss ts : List Step) → AllWhole ss → AllWhole ts → AllWhole (ss ++ ts)
+whole-append [] ts h k = k
+whole-append (s ∷ ss) ts h k = (h .0, whole-append ss ts (h .1) k)
+
+-- what a step reads from reaches to the end of its space or area
+pub source-end : (k : Kind) (s : Space) (bs store : List ℕ) → length store ≡ storeBytes
+    → (isInfo k ≡ true → length bs ≡ infoRow .bytes)
+    → rowBy k s .place + rowBy k s .bytes ≤ length (source k bs store)
+unfolding source rowBy isInfo areaRow infoRow
+source-end read s bs store e h = rw e (row-end s)
+source-end write s bs store e h = rw e (row-end s)
+source-end infoRead s bs store e h = rw (h refl) (omega arith)
 
 -- Steps that are inside their spaces read as many bytes of a whole store as their reply has.
-pub length-values : (ss : List Step) (store : List ℕ) → length store ≡ storeBytes → any pastEnd ss ≡ false
+pub length-values : (ss : List Step) (store : List ℕ) → length store ≡ storeBytes → AllWhole ss → any pastEnd ss ≡ false
     → length (valuesRead ss store) ≡ replyBytes ss
 unfolding valuesRead replyBytes any pastEnd seen at after
-length-values [] store e h = refl
-length-values (s ∷ ss) store e h =
-    let t = s .space in
-    let (test, more) = or-false (ltb (row t .bytes) (s .address + row t .element)) _ h in
-    let inside : s .address + row t .element ≤ row t .bytes = ltb-false _ _ test in
-    let rest = length-values ss (after s store) (length-stored (s .kind) (at s) (s .bytes) store ∙ e) more in
-    let room : answered (s .kind) t ≤ length (drop (at s) store) =
-    rw length-drop (omega (arith, row-end t, answered-element (s .kind) t)) in
+length-values [] store e w h = refl
+length-values (s ∷ ss) store e w h =
+    let r = rowBy (s .kind) (s .space) in
+    let (test, more) = or-false (ltb (r .bytes) (s .address + r .element)) _ h in
+    let inside : s .address + r .element ≤ r .bytes = ltb-false _ _ test in
+    let rest = length-values ss (after s store) (length-stored (s .kind) (at s) (s .bytes) store ∙ e) (w .1) more in
+    let end = source-end (s .kind) (s .space) (s .bytes) store e (w .0) in
+    let room : answered (s .kind) (s .space) ≤ length (drop (at s) (source (s .kind) (s .bytes) store)) =
+    rw length-drop (omega (arith, end, answered-element (s .kind) (s .space))) in
     rw (length-append, rest, length-take-le _ _ room)
 
 -- no write of the steps names byte i of the store
 pub data Spared (i : ℕ) : List Step → Type 0 where
   none : Spared i []
-  reads : {s : Step} {ss : List Step} → s .kind ≡ read → Spared i ss → Spared i (s ∷ ss)
+  reads : {s : Step} {ss : List Step} → isWrite (s .kind) ≡ false → Spared i ss → Spared i (s ∷ ss)
   misses : {s : Step} {ss : List Step} → (i < at s) ⊎ (at s + length (s .bytes) ≤ i) → Spared i ss → Spared i (s ∷ ss)
 
 stored-other : (k : Kind) (j : ℕ) (bs store : List ℕ) (i : ℕ) → (i < j) ⊎ (j + length bs ≤ i)
@@ -124,11 +148,19 @@ stored-other : (k : Kind) (j : ℕ) (bs store : List ℕ) (i : ℕ) → (i < j) 
 unfolding stored
 stored-other read j bs store i h = refl
 stored-other write j bs store i h = getD-sets store i j bs 0 h
+stored-other infoRead j bs store i h = refl
+
+-- a step that is no write leaves the store
+pub stored-read : (k : Kind) (i : ℕ) (bs store : List ℕ) → isWrite k ≡ false → stored k i bs store ≡ store
+unfolding stored isWrite
+stored-read read i bs store e = refl
+stored-read write i bs store e = let z : _≡_ {A = ℕ} 0 1 = cc in absurd (omega arith)
+stored-read infoRead i bs store e = refl
 
 -- such a byte stays as it is
 pub spared-byte : (i : ℕ) (ss : List Step) (store : List ℕ) → Spared i ss → getD (storeAfter ss store) i 0 ≡ getD store i 0
-unfolding storeAfter after stored
+unfolding storeAfter after
 spared-byte i [] store Spared.none = refl
-spared-byte i (s ∷ ss) store (Spared.reads e r) = spared-byte i ss (after s store) r ∙ rw e
+spared-byte i (s ∷ ss) store (Spared.reads e r) = spared-byte i ss (after s store) r ∙ rw (stored-read (s .kind) (at s) (s .bytes) store e)
 spared-byte i (s ∷ ss) store (Spared.misses h r) =
     spared-byte i ss (after s store) r ∙ stored-other (s .kind) (at s) (s .bytes) store i h

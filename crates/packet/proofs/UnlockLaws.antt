@@ -1,6 +1,6 @@
 -- The unlock over a command's elements.
 use Prim.Native.Nat.{ℕ, zero, suc, _+_, _-_, _*_, _<_}
-use mathlib.Core.Path.{_≡_, refl, _∙_, ap}
+use mathlib.Core.Path.{_≡_, refl, sym, _∙_, ap}
 use mathlib.Core.List.{List}
 use mathlib.Core.Bool.{Bool, true, false, _&&_, cond}
 use native.Mathlib.Omega.{arith}
@@ -10,9 +10,11 @@ use lib.Seq.{drop-drop}
 use borrow.Author.Tests.{eqb-true}
 use Rattle.lbp16.specs.Space.{Space, registers, eeprom, status, information, absent, row, spaceOf}
 use Rattle.lbp16.specs.declared.word.Fields.{Fields}
-use Rattle.packet.specs.Step.{Kind, write, carried, isWrite, isStatus, namesUnlock, statusWrite, turned, unlocked}
+use Rattle.packet.specs.Step.{Kind, read, write, infoRead, isInfo, carried, isWrite, isStatus, namesUnlock, statusWrite, turned, unlocked}
 use Rattle.packet.specs.Bytes.{number}
-use Rattle.packet.specs.Command.{elements, kindOf, headerBytes, stride}
+use Rattle.packet.specs.Command.{payload, elements, kindOf, headerBytes, addressUsed, stride, areaBytes, handed, stepsAt}
+use Rattle.lbp16.specs.Pointer.{pointerOf}
+use Rattle.lbp16.specs.declared.pointer.Pointers.{Pointers}
 use Rattle.packet.proofs.SliceLaws.{tail-whole}
 use Rattle.packet.proofs.ElementLaws.{write-kind}
 use Rattle.lbp16.proofs.BoolLaws.{and-true}
@@ -21,7 +23,7 @@ use Rattle.lbp16.proofs.BoolLaws.{and-true}
 pub unlock-step : (o : Bool) (n a d : ℕ) (bs : List ℕ)
     → unlocked o (elements write status (suc n) a d bs)
     ≡ unlocked (turned o (statusWrite a (take 2 bs))) (elements write status n (a + d) d (drop 2 bs))
-unfolding unlocked elements carried row
+unfolding unlocked elements payload carried row
 unlock-step o n a d bs = refl
 
 -- the same, i elements after the start
@@ -44,7 +46,7 @@ unlock-kept o k s (suc n) a d bs e =
     ∙ unlock-kept o k s n (a + d) d _ e
   where
     go : (w t u : Bool) → (w && t) ≡ false
-        → cond (w && (u && t)) (eqb (number (take (carried k s) bs)) 0x5A02) o ≡ o
+        → cond (w && (u && t)) (eqb (number (payload k s bs)) 0x5A02) o ≡ o
     go false t u e = refl
     go true false true e = refl
     go true false false e = refl
@@ -80,3 +82,21 @@ pub unlock-next : (o : Bool) (f : Fields) (used : ℕ) (rest : List ℕ) (h d : 
     → r ≡ unlocked o (elements (kindOf f) (spaceOf (f .space)) (f .count) used (stride f) (drop (headerBytes f) rest))
 unlock-next o f used rest h d r t e₁ e₂ e₃ =
     let s = status-write f t in rw (s .0, s .1, ← e₁, ← e₂) (e₃ ∙ rw tail-whole refl)
+
+-- An info read turns nothing, so that it may be taken to be handed the bytes after its header too.
+pub unlock-handed : (o : Bool) (p : Pointers) (f : Fields) (rest : List ℕ)
+    → unlocked o (stepsAt p f rest)
+    ≡ unlocked o
+    (elements (kindOf f) (spaceOf (f .space)) (f .count) (addressUsed p f rest) (stride f) (drop (headerBytes f) rest))
+unfolding stepsAt handed isInfo isWrite
+unlock-handed o p f rest = go (kindOf f)
+  where
+    go : (k : Kind)
+        → unlocked o
+        (elements k (spaceOf (f .space)) (f .count) (addressUsed p f rest) (stride f)
+        (cond (isInfo k) (areaBytes (spaceOf (f .space)) (pointerOf p false (spaceOf (f .space)))) (drop (headerBytes f) rest)))
+        ≡ unlocked o
+        (elements k (spaceOf (f .space)) (f .count) (addressUsed p f rest) (stride f) (drop (headerBytes f) rest))
+    go read = refl
+    go write = refl
+    go infoRead = unlock-kept o infoRead _ _ _ _ _ refl ∙ sym (unlock-kept o infoRead _ _ _ _ _ refl)

@@ -3,8 +3,8 @@ use Prim.Native.Nat.{ℕ, _+_, _%_}
 use mathlib.Core.List.{List, [], _∷_}
 use mathlib.Core.Bool.{Bool, false, not, _||_, _&&_, cond}
 use lib.Dec.{eqb, ltb}
-use Rattle.lbp16.specs.Space.{Space, row}
-use Rattle.packet.specs.Step.{Step, isWrite}
+use Rattle.lbp16.specs.declared.space.Row.{Row}
+use Rattle.packet.specs.Step.{Step, isWrite, rowBy}
 
 pub record Rule : Type 0 where
   pub number : ℕ
@@ -16,16 +16,16 @@ first [] = 0
 first (r ∷ rs) = cond (r .holds) (r .number) (first rs)
 
 -- an address that is not a multiple of the element size
-unfoldable pub misaligned : Space → ℕ → Bool
-misaligned s a = not (eqb (a % row s .element) 0)
+unfoldable pub misaligned : Row → ℕ → Bool
+misaligned r a = not (eqb (a % r .element) 0)
 
--- an element past the space's end
+-- an element past the end of the space, or of the info area
 unfoldable pub pastEnd : Step → Bool
-pastEnd s = ltb (row (s .space) .bytes) (s .address + row (s .space) .element)
+pastEnd s = let r = rowBy (s .kind) (s .space) in ltb (r .bytes) (s .address + r .element)
 
 -- an element written to a read-only cell: any of space 7, those of space 2 below 0x20
 unfoldable pub barred : Step → Bool
-barred s = ltb (s .address) (row (s .space) .«read_only») && isWrite (s .kind)
+barred s = ltb (s .address) (rowBy (s .kind) (s .space) .«read_only») && isWrite (s .kind)
 
 unfoldable pub any : (Step → Bool) → List Step → Bool
 any f [] = false

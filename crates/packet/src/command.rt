@@ -4,6 +4,7 @@ use crate::rule;
 use lbp16::pointer::Pointer;
 use lbp16::pointer::Pointers;
 use lbp16::space;
+use lbp16::space::Row;
 use lbp16::word;
 use lbp16::word::Fields;
 ghost use mathlib.Core.Bool.{cond};
@@ -11,11 +12,11 @@ ghost use mathlib.Core.Path.{_≡_};
 ghost use Prim.Native.Nat.{_*_, _+_, _≤_, _<_};
 ghost use lib.ListN.{length, take, drop};
 ghost use lib.Dec.{ltb};
-ghost use Rattle.lbp16.specs.Space.{spaceOf, row, status};
+ghost use Rattle.lbp16.specs.Space.{spaceOf, status};
 ghost use Rattle.packet.specs.Bytes.{number};
-ghost use Rattle.packet.specs.Step.{Kind, carried, answered, statusWrite, turned, unlocked};
+ghost use Rattle.packet.specs.Step.{Kind, isInfo, carried, answered, statusWrite, turned, unlocked};
 ghost use Rattle.packet.specs.Rules.{first, any, barred};
-ghost use Rattle.packet.specs.Command.{fieldsAt, pickKind, kindOf, outOfPlace, headerBytes, commandBytes, addressUsed, stride, elements, stepsAt, refusals, whichOf, numberOf, writes, found, progressAfter, commandAt, limit};
+ghost use Rattle.packet.specs.Command.{fieldsAt, kindOf, rowOf, outOfPlace, headerBytes, commandBytes, addressUsed, stride, elements, stepsAt, refusals, whichOf, numberOf, writes, found, progressAfter, commandAt, limit};
 
 // The most bytes that a packet or its reply may have: 1,500 less 28 of IP and UDP headers.
 pub const LIMIT: usize = 1472;
@@ -62,11 +63,25 @@ pub fn header_bytes(f: Fields) -> usize
     if f.address { 4 } else { 2 }
 }
 
+// Whether the command reads an info area.
+pub fn is_info(f: Fields) -> bool
+    ensures { λ r. ⌜ r ≡ isInfo (kindOf f) ⌝ }
+{
+    f.info & !f.write
+}
+
+// The table's line for the command: its space's or its info area's.
+pub fn row_of(f: Fields) -> Row
+    ensures { λ r. ⌜ r ≡ rowOf f ⌝ }
+{
+    space::area_row(is_info(f), f.space)
+}
+
 // The bytes of all elements.
 fn element_bytes(f: Fields) -> usize
-    ensures { λ r. ⌜ (r ≡ f .count * row (spaceOf (f .space)) .element) × (r ≤ 1020) ⌝ }
+    ensures { λ r. ⌜ (r ≡ f .count * rowOf f .element) × (r ≤ 1020) ⌝ }
 {
-    let row = space::row_of(f.space);
+    let row = row_of(f);
     (f.count as usize) * (row.element as usize)
 }
 
@@ -97,7 +112,7 @@ pub fn address_used(p: Pointers, f: Fields, rest: &[u8]) -> u32
     if f.address {
         bytes::pair_at(rest, 2) as u32
     } else {
-        p.of(f.space).at
+        p.of(is_info(f), f.space).at
     }
 }
 
@@ -105,18 +120,18 @@ pub fn address_used(p: Pointers, f: Fields, rest: &[u8]) -> u32
 pub fn stride_of(f: Fields) -> u32
     ensures { λ r. ⌜ r ≡ stride f ⌝ }
 {
-    let step = space::row_of(f.space).element;
+    let step = row_of(f).element;
     if f.increment { step } else { 0 }
 }
 
 // The bytes from the address used to the end of the furthest element.
 fn span_of(f: Fields) -> usize
-    ensures { λ r. ⌜ (r ≡ cond (f .increment) (f .count * row (spaceOf (f .space)) .element) (row (spaceOf (f .space)) .element)) × (r ≤ 1020) ⌝ }
+    ensures { λ r. ⌜ (r ≡ cond (f .increment) (f .count * rowOf f .element) (rowOf f .element)) × (r ≤ 1020) ⌝ }
 {
     if f.increment {
         element_bytes(f)
     } else {
-        space::row_of(f.space).element as usize
+        row_of(f).element as usize
     }
 }
 
@@ -133,7 +148,7 @@ fn passes_limit(reply: usize, more: usize) -> bool
 fn out_of_place(rest: &[u8], p: Pointers, f: Fields) -> bool
     ensures { λ r. ⌜ r ≡ outOfPlace p f (now (rest .entry)) ⌝ }
 {
-    let row = space::row_of(f.space);
+    let row = row_of(f);
     let used = address_used(p, f, rest) as usize;
     let element = row.element as usize;
     let bytes = row.bytes as usize;
@@ -144,7 +159,7 @@ fn out_of_place(rest: &[u8], p: Pointers, f: Fields) -> bool
 fn read_only(rest: &[u8], p: Pointers, f: Fields) -> bool
     ensures { λ r. ⌜ r ≡ any barred (stepsAt p f (now (rest .entry))) ⌝ }
 {
-    let row = space::row_of(f.space);
+    let row = row_of(f);
     let used = address_used(p, f, rest);
     (f.count != 0) & ((used < row.read_only) & f.write)
 }
@@ -154,7 +169,7 @@ fn refusal_of(rest: &[u8], at: Progress, f: Fields) -> u32
     ensures { λ r. ⌜ r ≡ first (refusals (at .pointers) (at .unlocked) (at .reply) f (now (rest .entry))) ⌝ }
 {
     let pointers = at.pointers;
-    let row = space::row_of(f.space);
+    let row = row_of(f);
     let r = rule::first_of(passes_limit(at.reply, answered_bytes(f)), 12, 0);
     let r = rule::first_of(rest.len() < command_bytes(f), 11, r);
     let r = rule::first_of(f.write & row.locked & !at.unlocked, 10, r);
@@ -163,17 +178,17 @@ fn refusal_of(rest: &[u8], at: Progress, f: Fields) -> u32
     let r = rule::first_of(f.count == 0, 7, r);
     let r = rule::first_of(f.size != row.size, 6, r);
     let r = rule::first_of(space::is_absent(f.space), 5, r);
-    let r = rule::first_of(f.info, 4, r);
+    let r = rule::first_of(f.info & f.write, 4, r);
     rule::first_of(rest.len() < header_bytes(f), 3, r)
 }
 
-fn which_of(number: u32, write: bool) -> Which
-    ensures { λ r. ⌜ r ≡ whichOf number (pickKind write) ⌝ }
+fn which_of(number: u32, f: Fields) -> Which
+    ensures { λ r. ⌜ r ≡ whichOf number (kindOf f) ⌝ }
 {
     if number != 0 {
         return Which::Refused(number);
     }
-    if write { Which::Write } else { Which::Read }
+    if f.write { Which::Write } else { Which::Read }
 }
 
 // Whether the unlock is open after one element, at `at` in `data`, is written to an address of space 6.
@@ -234,7 +249,7 @@ fn progress_after(rest: &[u8], at: Progress, f: Fields) -> Progress
     let used = address_used(pointers, f, rest);
     let pointer = Pointer::new(used).advance(moved_bytes(f));
     Progress {
-        pointers: pointers.with(f.space, pointer),
+        pointers: pointers.with(is_info(f), f.space, pointer),
         unlocked: unlocked_next(rest, at.unlocked, f, used),
         reply: at.reply + answered_bytes(f),
     }
@@ -246,7 +261,7 @@ pub fn command_at(rest: &[u8], at: Progress, place: usize) -> Command
 {
     let fields = fields_at(rest);
     let number = refusal_of(rest, at, fields);
-    let which = which_of(number, fields.write);
+    let which = which_of(number, fields);
     let found = Found {
         fields,
         place,

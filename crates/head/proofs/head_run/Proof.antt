@@ -1,10 +1,10 @@
 use borrow.Author.Needs.{needs}
 use Rattle.head.proofs.head_run.Statement.{statement}
 use Rattle.head.proofs.head_run.Tie as tie
-use Rattle.head.proofs.ExportLaws.{not-four, ran-left}
+use Rattle.head.proofs.ExportLaws.{not-eight, ran-left}
 
 returns : tie.Need-returns
-returns c = not-four _ _ _ _ (c .if1 .taken)
+returns c = not-eight _ _ _ _ (c .if1 .taken)
 
 pointers-of-requires : tie.Need-pointers-of-requires
 pointers-of-requires c κs = search needs

@@ -1,20 +1,54 @@
 use borrow.Author.Needs.{needs}
 use Rattle.card.proofs.run.read_command.Statement.{statement}
 use Rattle.card.proofs.run.read_command.Tie as tie
-use Rattle.card.proofs.CommandRunLaws.{asked, read-fits, read-done}
+use mathlib.Core.Path.{sym, _∙_}
+use Rattle.card.proofs.CommandRunLaws.{from-area, from-store, read-asked, read-done}
 
 span-of-requires : tie.Need-span-of-requires
 span-of-requires c κs = search needs
 
-move-elements-requires : tie.Need-move-elements-requires
-move-elements-requires c κs = let p = c .before .before .before .before .before .before .pre in let q = asked _ _ _ (p .0) _ (c .before .before .span-of .ensures) _ _ _ (p .2) (read-fits _ _ _ (p .0) _ (c .before .before .span-of .ensures) _ (p .1) (p .3)) in (q .step, q .width, q .spread, q .lined)
+is-info-requires : tie.Need-is-info-requires
+is-info-requires c κs = search needs
+
+of-requires : tie.Need-of-requires
+of-requires c κs = search needs
+
+area-bytes-requires : tie.Need-area-bytes-requires
+area-bytes-requires c κs = search needs
+
+slice-aggregate-read-span : tie.Need-slice-aggregate-read-span
+slice-aggregate-read-span c = search needs
+
+read-span-requires : tie.Need-read-span-requires
+read-span-requires c κs = let b = c .before .before .before .before .before .before .before .before .before .before .before in let p = b .pre in let q = from-area _ _ _ (b .args .store .now) _ _ (sym (c .before .before .before .before .before .is-info .ensures) ∙ c .before .before .before .before .if1 .taken) (c .before .before .before .of .ensures) (c .before .before .area-bytes .ensures) in let a = read-asked _ _ _ (p .0) _ (c .before .before .before .before .before .before .span-of .ensures) _ _ (b .args .tail .now) (p .1) (p .2) (p .3) q in (a .step, a .width, a .spread, a .lined)
+
+read-span-requires-2 : tie.Need-read-span-requires-2
+read-span-requires-2 c κs = let b = c .before .before .before .before .before .before .before .before in let p = b .pre in let q = from-store _ _ _ (b .args .store .now) (sym (c .before .before .is-info .ensures) ∙ c .before .if1 .left) in let a = read-asked _ _ _ (p .0) _ (c .before .before .before .span-of .ensures) _ _ (b .args .tail .now) (p .1) (p .2) (p .3) q in (a .step, a .width, a .spread, a .lined)
 
 same-length : tie.Need-same-length
 same-length c = search needs
 
 returns : tie.Need-returns
-returns c = let p = c .before .before .before .before .before .before .before .before .before .pre in read-done _ _ _ (p .0) _ (c .before .before .before .before .before .span-of .ensures) _ _ _ (p .1) (p .2) (p .3) (c .before .before .move-elements .ensures)
+returns c = let b = c .before .before .before .before .before .before .before .before .before .before .before .before .before .before in let p = b .pre in let q = from-area _ _ _ (b .args .store .now) _ _ (sym (c .before .before .before .before .before .before .before .before .is-info .ensures) ∙ c .before .before .before .before .before .before .before .if1 .taken) (c .before .before .before .before .before .before .of .ensures) (c .before .before .before .before .before .area-bytes .ensures) in read-done _ _ _ (p .0) _ (c .before .before .before .before .before .before .before .before .before .span-of .ensures) _ _ _ (p .1) (p .2) (p .3) q _ (c .before .before .read-span .ensures)
+
+same-length-2 : tie.Need-same-length-2
+same-length-2 c = search needs
+
+returns-2 : tie.Need-returns-2
+returns-2 c = let b = c .before .before .before .before .before .before .before .before .before .before .before in let p = b .pre in let q = from-store _ _ _ (b .args .store .now) (sym (c .before .before .before .before .before .is-info .ensures) ∙ c .before .before .before .before .if1 .left) in read-done _ _ _ (p .0) _ (c .before .before .before .before .before .before .span-of .ensures) _ _ _ (p .1) (p .2) (p .3) q _ (c .before .before .read-span2 .ensures)
 
 pub read-command-spec : {M : Type 1} → statement M
 read-command-spec =
-    tie.close (tie.spec span-of-requires move-elements-requires same-length returns)
+    tie.close
+    (tie.spec
+    span-of-requires
+    is-info-requires
+    of-requires
+    area-bytes-requires
+    slice-aggregate-read-span
+    read-span-requires
+    read-span-requires-2
+    same-length
+    returns
+    same-length-2
+    returns-2)

@@ -1,35 +1,22 @@
 use borrow.Author.Needs.{needs}
 use Rattle.head.proofs.lent.put_pointers.Statement.{statement}
 use Rattle.head.proofs.lent.put_pointers.Tie as tie
-use Rattle.head.specs.Exports.{pointerList}
+use Rattle.head.specs.Exports.{spaceList, pointerList}
 use Rattle.head.proofs.ExportLaws.{stored-whole}
 
-slice-write-ps : tie.Need-slice-write-ps
-slice-write-ps c = search needs
+put-spaces-requires : tie.Need-put-spaces-requires
+put-spaces-requires c κs = search needs
 
-slice-write-ps-2 : tie.Need-slice-write-ps-2
-slice-write-ps-2 c = search needs
-
-slice-write-ps-3 : tie.Need-slice-write-ps-3
-slice-write-ps-3 c = search needs
-
-slice-write-ps-4 : tie.Need-slice-write-ps-4
-slice-write-ps-4 c = search needs
+put-spaces-requires-2 : tie.Need-put-spaces-requires-2
+put-spaces-requires-2 c κs = search needs
 
 same-length : tie.Need-same-length
 same-length c = search needs
 
 returns : tie.Need-returns
-unfolding pointerList
-returns c = stored-whole _ (c .args .ps .now) (c .pre)
+unfolding pointerList spaceList
+returns c = rw (c .before .before .put-spaces2 .ensures, c .before .before .before .before .before .before .put-spaces .ensures) (stored-whole _ (c .before .before .before .before .before .before .before .before .before .args .ps .now) (c .before .before .before .before .before .before .before .before .before .pre))
 
 pub put-pointers-spec : {M : Type 1} → statement M
 put-pointers-spec =
-    tie.close
-    (tie.spec
-    slice-write-ps
-    slice-write-ps-2
-    slice-write-ps-3
-    slice-write-ps-4
-    same-length
-    returns)
+    tie.close (tie.spec put-spaces-requires put-spaces-requires-2 same-length returns)

@@ -6,6 +6,7 @@ use native.Mathlib.Nat.{mul-zero}
 use Rattle.packet.specs.Step.{answered}
 use Rattle.packet.specs.Command.{kindOf}
 use mathlib.Core.Path.{sym}
+use Rattle.packet.proofs.ElementLaws.{answered-read}
 
 element-bytes-requires : tie.Need-element-bytes-requires
 element-bytes-requires c κs = search needs
@@ -15,8 +16,7 @@ unfolding answered kindOf
 returns c = rw (c .if1 .taken) (sym (mul-zero _), omega arith)
 
 returns-2 : tie.Need-returns-2
-unfolding answered kindOf
-returns-2 c = rw (c .before .if1 .left) (c .element-bytes .ensures)
+returns-2 c = rw (answered-read (c .before .before .args .f) (c .before .if1 .left)) (c .element-bytes .ensures)
 
 pub answered-bytes-spec : {M : Type 1} → statement M
 answered-bytes-spec = tie.close (tie.spec element-bytes-requires returns returns-2)

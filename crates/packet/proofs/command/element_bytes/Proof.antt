@@ -2,8 +2,7 @@ use borrow.Author.Needs.{needs}
 use Rattle.packet.proofs.command.element_bytes.Statement.{statement}
 use Rattle.packet.proofs.command.element_bytes.Tie as tie
 use native.Mathlib.Omega.{arith}
-use Rattle.packet.proofs.ElementLaws.{scaled-le}
-use Rattle.lbp16.proofs.SpaceLaws.{element-le}
+use Rattle.packet.proofs.ElementLaws.{scaled-le, row-le}
 use mathlib.Core.Path.{ap}
 use Prim.Native.Nat.{_*_, _≤_}
 
@@ -18,7 +17,7 @@ cast-result-2 c = search needs
 
 below : (c : tie.After-struct-known2) → c .before .before .before .args .f .count * c .before .before .row-of .result .element ≤ 1020
 below c =
-    scaled-le _ _ (omega arith) (rw (c .before .before .row-of .ensures) (element-le _))
+    scaled-le _ _ (omega arith) (rw (c .before .before .row-of .ensures) (row-le _))
 
 mul-result : tie.Need-mul-result
 mul-result c = let h = below c in omega arith

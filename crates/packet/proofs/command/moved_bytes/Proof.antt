@@ -5,7 +5,7 @@ use mathlib.Core.Path.{ap}
 use Prim.Native.Nat.{_*_, _≤_}
 use native.Mathlib.Omega.{arith}
 use native.Mathlib.Nat.{le-trans}
-use Rattle.lbp16.proofs.SpaceLaws.{element-le}
+use Rattle.packet.proofs.ElementLaws.{row-le}
 use Rattle.packet.proofs.ElementLaws.{scaled-le}
 use Rattle.packet.proofs.CommandLaws.{stride-le}
 
@@ -17,7 +17,7 @@ stride-of-requires c κs = search needs
 
 below : (c : tie.After-stride-of) → c .before .before .args .f .count * c .stride-of .result ≤ 1020
 below c =
-    scaled-le _ _ (omega arith) (rw (c .stride-of .ensures) (le-trans (stride-le _) (element-le _)))
+    scaled-le _ _ (omega arith) (rw (c .stride-of .ensures) (le-trans (stride-le _) (row-le _)))
 
 mul-result : tie.Need-mul-result
 mul-result c = let h = below c in omega arith

@@ -1,10 +1,9 @@
 use borrow.Author.Needs.{needs}
 use Rattle.packet.proofs.command.out_of_place.Statement.{statement}
 use Rattle.packet.proofs.command.out_of_place.Tie as tie
-use Rattle.packet.proofs.ElementLaws.{past-quick}
+use Rattle.packet.proofs.ElementLaws.{past-quick, row-some}
 use Rattle.packet.specs.Command.{outOfPlace}
 use Rattle.packet.specs.Rules.{misaligned}
-use Rattle.lbp16.proofs.SpaceLaws.{element-nonzero}
 
 row-of-requires : tie.Need-row-of-requires
 row-of-requires c κs = search needs
@@ -22,7 +21,7 @@ cast-bytes : tie.Need-cast-bytes
 cast-bytes c = search needs
 
 rem-result : tie.Need-rem-result
-rem-result c = rw (c .before .before .before .row-of .ensures) (element-nonzero _)
+rem-result c = rw (c .before .before .before .row-of .ensures) (row-some _)
 
 span-of-requires : tie.Need-span-of-requires
 span-of-requires c κs = search needs

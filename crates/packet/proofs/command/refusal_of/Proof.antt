@@ -60,7 +60,7 @@ first-of-requires-10 c κs = search needs
 
 returns : tie.Need-returns
 unfolding first refusals
-returns c = simp (c .first-of10 .ensures, c .before .header-bytes .ensures .0, c .before .before .first-of9 .ensures, c .before .before .before .first-of8 .ensures, c .before .before .before .before .is-absent .ensures, c .before .before .before .before .before .first-of7 .ensures, c .before .before .before .before .before .before .before .before .first-of6 .ensures, c .before .before .before .before .before .before .before .before .before .before .first-of5 .ensures, c .before .before .before .before .before .before .before .before .before .before .before .out-of-place .ensures, c .before .before .before .before .before .before .before .before .before .before .before .before .first-of4 .ensures, c .before .before .before .before .before .before .before .before .before .before .before .before .before .read-only .ensures, c .before .before .before .before .before .before .before .before .before .before .before .before .before .before .first-of3 .ensures, c .before .before .before .before .before .before .before .before .before .before .before .before .before .before .before .before .before .before .first-of2 .ensures, c .before .before .before .before .before .before .before .before .before .before .before .before .before .before .before .before .before .before .before .command-bytes .ensures, c .before .before .before .before .before .before .before .before .before .before .before .before .before .before .before .before .before .before .before .before .first-of .ensures, c .before .before .before .before .before .before .before .before .before .before .before .before .before .before .before .before .before .before .before .before .before .passes-limit .ensures, c .before .before .before .before .before .before .before .before .before .before .before .before .before .before .before .before .before .before .before .before .before .before .answered-bytes .ensures .0, c .before .before .before .before .before .before .before .before .before .before .before .before .before .before .before .before .before .before .before .before .before .before .before .row-of .ensures)
+returns c = simp (c .first-of10 .ensures, c .before .header-bytes .ensures .0, c .before .before .first-of9 .ensures, c .before .before .before .before .first-of8 .ensures, c .before .before .before .before .before .is-absent .ensures, c .before .before .before .before .before .before .first-of7 .ensures, c .before .before .before .before .before .before .before .before .before .first-of6 .ensures, c .before .before .before .before .before .before .before .before .before .before .before .first-of5 .ensures, c .before .before .before .before .before .before .before .before .before .before .before .before .out-of-place .ensures, c .before .before .before .before .before .before .before .before .before .before .before .before .before .first-of4 .ensures, c .before .before .before .before .before .before .before .before .before .before .before .before .before .before .read-only .ensures, c .before .before .before .before .before .before .before .before .before .before .before .before .before .before .before .first-of3 .ensures, c .before .before .before .before .before .before .before .before .before .before .before .before .before .before .before .before .before .before .before .first-of2 .ensures, c .before .before .before .before .before .before .before .before .before .before .before .before .before .before .before .before .before .before .before .before .command-bytes .ensures, c .before .before .before .before .before .before .before .before .before .before .before .before .before .before .before .before .before .before .before .before .before .first-of .ensures, c .before .before .before .before .before .before .before .before .before .before .before .before .before .before .before .before .before .before .before .before .before .before .passes-limit .ensures, c .before .before .before .before .before .before .before .before .before .before .before .before .before .before .before .before .before .before .before .before .before .before .before .answered-bytes .ensures .0, c .before .before .before .before .before .before .before .before .before .before .before .before .before .before .before .before .before .before .before .before .before .before .before .before .row-of .ensures)
 
 pub refusal-of-spec : {M : Type 1} → statement M
 refusal-of-spec =

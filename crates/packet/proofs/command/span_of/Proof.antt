@@ -2,9 +2,9 @@ use borrow.Author.Needs.{needs}
 use Rattle.packet.proofs.command.span_of.Statement.{statement}
 use Rattle.packet.proofs.command.span_of.Tie as tie
 use native.Mathlib.Omega.{arith}
-use Rattle.lbp16.proofs.SpaceLaws.{element-le}
+use Rattle.packet.proofs.ElementLaws.{row-le}
 use mathlib.Core.Path.{ap}
-use Rattle.lbp16.specs.Space.{spaceOf}
+use Rattle.packet.specs.Command.{rowOf, kindOf}
 
 element-bytes-requires : tie.Need-element-bytes-requires
 element-bytes-requires c κs = search needs
@@ -16,10 +16,12 @@ cast-result : tie.Need-cast-result
 cast-result c = search needs
 
 returns : tie.Need-returns
+unfolding rowOf kindOf
 returns c = rw (c .before .if1 .taken) (c .element-bytes .ensures)
 
 returns-2 : tie.Need-returns-2
-returns-2 c = rw (c .before .before .if1 .left) (ap (λ r. r .element) (c .before .row-of .ensures), rw (c .before .row-of .ensures) (omega (arith, element-le (spaceOf (c .before .before .before .args .f .space)))))
+unfolding rowOf kindOf
+returns-2 c = rw (c .before .before .if1 .left) (ap (λ r. r .element) (c .before .row-of .ensures), rw (c .before .row-of .ensures) (omega (arith, row-le (c .before .before .before .args .f))))
 
 pub span-of-spec : {M : Type 1} → statement M
 span-of-spec =

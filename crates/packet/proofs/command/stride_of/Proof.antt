@@ -1,14 +1,14 @@
 use borrow.Author.Needs.{needs}
 use Rattle.packet.proofs.command.stride_of.Statement.{statement}
 use Rattle.packet.proofs.command.stride_of.Tie as tie
-use Rattle.packet.specs.Command.{stride}
+use Rattle.packet.specs.Command.{stride, rowOf, kindOf}
 use mathlib.Core.Path.{refl, ap}
 
 row-of-requires : tie.Need-row-of-requires
 row-of-requires c κs = search needs
 
 returns : tie.Need-returns
-unfolding stride
+unfolding stride rowOf kindOf
 returns c = rw (c .if1 .taken) (ap (λ r. r .element) (c .before .row-of .ensures))
 
 returns-2 : tie.Need-returns-2

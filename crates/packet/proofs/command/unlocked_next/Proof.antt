@@ -2,7 +2,7 @@ use borrow.Author.Needs.{needs}
 use Rattle.packet.proofs.command.unlocked_next.Statement.{statement}
 use Rattle.packet.proofs.command.unlocked_next.Tie as tie
 use native.Mathlib.Nat.{le-trans}
-use Rattle.lbp16.proofs.SpaceLaws.{element-le}
+use Rattle.packet.proofs.ElementLaws.{row-le}
 use Rattle.packet.proofs.CommandLaws.{stride-le}
 use Rattle.packet.proofs.UnlockLaws.{unlock-next, not-status, unlock-kept}
 use mathlib.Core.Path.{sym}
@@ -23,7 +23,7 @@ part-unlock-after-end : tie.Need-part-unlock-after-end
 part-unlock-after-end c = search needs
 
 unlock-after-requires : tie.Need-unlock-after-requires
-unlock-after-requires c κs = rw (c .before .stride-of .ensures) (le-trans (stride-le _) (element-le _))
+unlock-after-requires c κs = rw (c .before .stride-of .ensures) (le-trans (stride-le _) (row-le _))
 
 returns : tie.Need-returns
 returns c = unlock-next _ _ _ _ _ _ _ (c .before .before .before .before .if1 .taken) (c .before .before .before .header-bytes .ensures .0) (c .before .before .stride-of .ensures) (c .unlock-after .ensures)

@@ -1,33 +1,21 @@
 use borrow.Author.Needs.{needs}
 use Rattle.lbp16.proofs.pointer.Pointers.of.Statement.{statement}
 use Rattle.lbp16.proofs.pointer.Pointers.of.Tie as tie
-use mathlib.Core.Path.{refl}
-use borrow.Author.Tests.{ne-eqb}
-use Rattle.lbp16.specs.Space.{spaceOf}
 use Rattle.lbp16.specs.Pointer.{pointerOf}
 
-new-requires : tie.Need-new-requires
-new-requires c κs = search needs
+of-requires : tie.Need-of-requires
+of-requires c κs = search needs
+
+of-requires-2 : tie.Need-of-requires-2
+of-requires-2 c κs = search needs
 
 returns : tie.Need-returns
-unfolding spaceOf pointerOf
-returns c = rw (c .before .match .keys1) refl
+unfolding pointerOf
+returns c = rw (c .before .if1 .taken) (c .of .ensures)
 
 returns-2 : tie.Need-returns-2
-unfolding spaceOf pointerOf
-returns-2 c = rw (c .before .match .keys2) refl
-
-returns-3 : tie.Need-returns-3
-unfolding spaceOf pointerOf
-returns-3 c = rw (c .before .match .keys3) refl
-
-returns-4 : tie.Need-returns-4
-unfolding spaceOf pointerOf
-returns-4 c = rw (c .before .match .keys4) refl
-
-returns-5 : tie.Need-returns-5
-unfolding spaceOf pointerOf
-returns-5 c = simp (ne-eqb _ _ (c .before .match .rest .0 .0 .0 .1), ne-eqb _ _ (c .before .match .rest .0 .0 .1), ne-eqb _ _ (c .before .match .rest .0 .1), ne-eqb _ _ (c .before .match .rest .1)) (c .new .ensures)
+unfolding pointerOf
+returns-2 c = rw (c .before .if1 .left) (c .of2 .ensures)
 
 pub of-spec : {M : Type 1} → statement M
-of-spec = tie.close (tie.spec new-requires returns returns-2 returns-3 returns-4 returns-5)
+of-spec = tie.close (tie.spec of-requires of-requires-2 returns returns-2)

@@ -1,29 +1,21 @@
+use borrow.Author.Needs.{needs}
 use Rattle.lbp16.proofs.pointer.Pointers.with.Statement.{statement}
 use Rattle.lbp16.proofs.pointer.Pointers.with.Tie as tie
-use mathlib.Core.Path.{refl}
-use borrow.Author.Tests.{ne-eqb}
-use Rattle.lbp16.specs.Space.{spaceOf}
 use Rattle.lbp16.specs.Pointer.{withPointer}
 
+with-requires : tie.Need-with-requires
+with-requires c κs = search needs
+
+with-requires-2 : tie.Need-with-requires-2
+with-requires-2 c κs = search needs
+
 returns : tie.Need-returns
-unfolding spaceOf withPointer
-returns c = rw (c .match .keys1) refl
+unfolding withPointer
+returns c = rw (c .before .if1 .taken, c .with .ensures)
 
 returns-2 : tie.Need-returns-2
-unfolding spaceOf withPointer
-returns-2 c = rw (c .match .keys2) refl
-
-returns-3 : tie.Need-returns-3
-unfolding spaceOf withPointer
-returns-3 c = rw (c .match .keys3) refl
-
-returns-4 : tie.Need-returns-4
-unfolding spaceOf withPointer
-returns-4 c = rw (c .match .keys4) refl
-
-returns-5 : tie.Need-returns-5
-unfolding spaceOf withPointer
-returns-5 c = simp (ne-eqb _ _ (c .match .rest .0 .0 .0 .1), ne-eqb _ _ (c .match .rest .0 .0 .1), ne-eqb _ _ (c .match .rest .0 .1), ne-eqb _ _ (c .match .rest .1))
+unfolding withPointer
+returns-2 c = rw (c .before .if1 .left, c .with2 .ensures)
 
 pub with-spec : {M : Type 1} → statement M
-with-spec = tie.close (tie.spec returns returns-2 returns-3 returns-4 returns-5)
+with-spec = tie.close (tie.spec with-requires with-requires-2 returns returns-2)
