@@ -1,6 +1,7 @@
 //! Makes random packets: legal ones, ones at a limit, and ones with faults of every kind.
 
 use crate::rng::Rng;
+use model::area::{Area, INFO_BYTES, POINTERS};
 use model::store::{Space, COUNT_ADDRESS, UNLOCK_ADDRESS, UNLOCK_VALUE};
 use model::words::Fields;
 use model::PACKET_BYTES;
@@ -12,7 +13,7 @@ const SHORTEST: [u8; 2] = [0x01, 0x1D];
 const UNLOCK_BYTES: usize = 44;
 
 /// A random packet for a card with these pointers.
-pub fn packet(rng: &mut Rng, pointers: [u32; 4]) -> Vec<u8> {
+pub fn packet(rng: &mut Rng, pointers: [u32; POINTERS]) -> Vec<u8> {
     let mut packet = Packet::new(rng, pointers);
     match packet.rng.below(100) {
         0..=17 => packet.some_commands(8, 127),
@@ -20,8 +21,9 @@ pub fn packet(rng: &mut Rng, pointers: [u32; 4]) -> Vec<u8> {
         26..=33 => packet.full(),
         34..=41 => packet.full_reply(),
         42..=45 => packet.reply_just_past(),
-        46..=57 => packet.eeprom_play(),
-        58..=75 => packet.faults(),
+        46..=55 => packet.eeprom_play(),
+        56..=61 => packet.info_play(),
+        62..=75 => packet.faults(),
         76..=87 => packet.damaged(),
         88..=90 => packet.random_bytes(),
         91..=93 => packet.too_long(),
@@ -35,7 +37,7 @@ pub fn packet(rng: &mut Rng, pointers: [u32; 4]) -> Vec<u8> {
 struct Packet<'r> {
     rng: &'r mut Rng,
     bytes: Vec<u8>,
-    pointers: [u32; 4],
+    pointers: [u32; POINTERS],
     replied: usize,
     unlocked: bool,
 }
@@ -52,13 +54,20 @@ struct Draft {
 }
 
 impl Draft {
-    fn new(write: bool, given: Option<u16>, space: Space, increment: bool, count: usize) -> Draft {
+    fn new(
+        write: bool,
+        given: Option<u16>,
+        area: impl Into<Area>,
+        increment: bool,
+        count: usize,
+    ) -> Draft {
+        let area = area.into();
         Draft {
             write,
             given,
-            info: false,
-            space: space.number(),
-            size: space.size(),
+            info: area.info,
+            space: area.space.number(),
+            size: area.size(),
             increment,
             count: count as u8,
         }
@@ -90,7 +99,7 @@ impl Draft {
 }
 
 impl<'r> Packet<'r> {
-    fn new(rng: &'r mut Rng, pointers: [u32; 4]) -> Packet<'r> {
+    fn new(rng: &'r mut Rng, pointers: [u32; POINTERS]) -> Packet<'r> {
         Packet {
             rng,
             bytes: Vec::new(),
@@ -158,7 +167,9 @@ impl<'r> Packet<'r> {
             self.add_read(Space::Registers, address, count);
         }
         if self.reply_room() > left {
-            self.add_read(Space::Information, 0, (self.reply_room() - left) / 2);
+            let info = Area::info(self.rng.pick(&Space::ALL));
+            let area = self.rng.pick(&[Space::Information.into(), info]);
+            self.add_read(area, 0, (self.reply_room() - left) / 2);
         }
     }
 
@@ -167,10 +178,10 @@ impl<'r> Packet<'r> {
         self.some_commands(4, 60);
         let left = self.rng.pick(&[0, 2, 4]);
         self.fill_reply(left);
-        let space = self.rng.pick(&Space::ALL);
-        let element = space.element() as usize;
+        let area = self.rng.pick(&Area::ALL);
+        let element = area.element() as usize;
         let count = left / element + self.rng.pick(&[1, 1, 1, 3]);
-        self.draft(Draft::new(false, Some(0), space, true, count));
+        self.draft(Draft::new(false, Some(0), area, true, count));
         if self.rng.coin() {
             self.faulty();
         }
@@ -202,6 +213,23 @@ impl<'r> Packet<'r> {
                     let space = self.rng.pick(&[Space::Eeprom, Space::Status]);
                     self.draft(Draft::new(false, Some(0x1A), space, true, 3));
                 }
+            }
+        }
+    }
+
+    /// Info areas among commands that move the pointers which they show.
+    fn info_play(&mut self) {
+        const ELEMENTS: usize = INFO_BYTES / 2;
+        const POINTER: u16 = 6;
+        for _ in 0..self.rng.between(1, 12) {
+            let area = Area::info(self.rng.pick(&Space::ALL));
+            let increment = self.rng.coin();
+            let count = self.rng.between(1, 5);
+            match self.rng.below(6) {
+                0 => self.draft(Draft::new(false, Some(0), area, true, ELEMENTS)),
+                1 => self.draft(Draft::new(false, Some(POINTER), area, increment, count)),
+                2 => self.draft(Draft::new(false, None, area, increment, count)),
+                _ => self.legal(40),
             }
         }
     }
@@ -262,13 +290,13 @@ impl<'r> Packet<'r> {
     /// Commands whose every field is drawn by itself.
     fn wild_commands(&mut self) {
         for _ in 0..self.rng.between(1, 5) {
-            let space = self.rng.pick(&Space::ALL);
-            let address = self.address(space, false) as u16;
+            let area = self.area(5);
+            let address = self.address(area, false) as u16;
             let given = self.rng.coin().then_some(address);
             let count = self.rng.pick(&[0, 1, 1, 2, 3, 16, 127]);
             let (write, increment) = (self.rng.coin(), self.rng.coin());
-            let mut draft = Draft::new(write, given, space, increment, count);
-            draft.info = self.rng.one_in(12);
+            let mut draft = Draft::new(write, given, area, increment, count);
+            draft.info ^= self.rng.one_in(12);
             if self.rng.one_in(8) {
                 draft.space = self.rng.below(8) as u8;
             }
@@ -283,27 +311,21 @@ impl<'r> Packet<'r> {
 
     /// Adds a legal command of at most `most` elements, if one of the kind drawn fits.
     fn legal(&mut self, most: usize) {
-        let space = self.rng.pick(&[
-            Space::Registers,
-            Space::Registers,
-            Space::Registers,
-            Space::Eeprom,
-            Space::Status,
-            Space::Information,
-        ]);
-        let write = space != Space::Information && self.rng.coin();
-        if write && space == Space::Eeprom && !self.unlocked {
+        let area = self.area(8);
+        let writable = !area.info && area.space != Space::Information;
+        let write = writable && self.rng.coin();
+        if write && area == Space::Eeprom.into() && !self.unlocked {
             if self.room() < 2 * UNLOCK_BYTES {
                 return;
             }
             self.write_over_unlock(UNLOCK_VALUE);
         }
-        let (given, address) = self.given_or_pointer(space, write);
+        let (given, address) = self.given_or_pointer(area, write);
         let increment = self.rng.coin();
         let head = if given.is_some() { 4 } else { 2 };
-        let element = space.element() as usize;
-        let in_space = match increment {
-            true => (space.bytes() - address) as usize / element,
+        let element = area.element() as usize;
+        let in_area = match increment {
+            true => (area.bytes() - address) as usize / element,
             false => 127,
         };
         let in_packet = match write {
@@ -311,7 +333,7 @@ impl<'r> Packet<'r> {
             false if self.room() < head => 0,
             false => self.reply_room() / element,
         };
-        let most = most.min(127).min(in_space).min(in_packet);
+        let most = most.min(127).min(in_area).min(in_packet);
         if most == 0 {
             return;
         }
@@ -320,28 +342,27 @@ impl<'r> Packet<'r> {
             1 => most,
             _ => self.rng.between(1, most),
         };
-        self.draft(Draft::new(write, given, space, increment, count));
+        self.draft(Draft::new(write, given, area, increment, count));
     }
 
     /// Adds a command with one fault or more.
     fn faulty(&mut self) {
-        let space = self.rng.pick(&Space::ALL);
-        let (given, address) = self.given_or_pointer(space, false);
-        let element = space.element() as usize;
-        let in_space = (space.bytes() - address) as usize / element;
-        let count = self.rng.between(1, in_space.clamp(1, 127));
-        let (write, increment) = (self.rng.coin(), self.rng.coin());
-        let mut draft = Draft::new(write, given, space, increment, count);
+        let area = self.area(4);
+        let (given, address) = self.given_or_pointer(area, false);
+        let in_area = (area.bytes() - address) / area.element();
+        let count = self.rng.between(1, in_area.clamp(1, 127) as usize);
+        let (write, increment) = (!area.info && self.rng.coin(), self.rng.coin());
+        let mut draft = Draft::new(write, given, area, increment, count);
         // How much of it stays: a cut that isn't at the packet's end shifts what follows.
         let mut kept = usize::MAX;
         for _ in 0..self.rng.pick(&[1, 1, 1, 2, 3]) {
             match self.rng.below(11) {
-                0 => draft.info = true,
+                0 => (draft.info, draft.write) = (true, true),
                 1 => draft.space = self.rng.pick(&[1, 3, 4, 5]),
                 2 => draft.size = (draft.size + 1 + self.rng.below(3) as u8) % 4,
                 3 => draft.count = 0,
                 4 => draft.given = Some(address as u16 | self.rng.between(1, 3) as u16),
-                5 => draft.given = Some(self.past_the_end(space, draft.count.into())),
+                5 => draft.given = Some(self.past_the_end(area, draft.count.into())),
                 6 => {
                     let space = self.rng.pick(&[Space::Eeprom, Space::Information]);
                     let first = 2 * self.rng.below(0x10) as u16;
@@ -402,16 +423,17 @@ impl<'r> Packet<'r> {
         self.unlocked = value == UNLOCK_VALUE;
     }
 
-    fn add_read(&mut self, space: Space, address: u32, count: usize) {
-        if self.room() < 4 || count * space.element() as usize > self.reply_room() {
+    fn add_read(&mut self, area: impl Into<Area>, address: u32, count: usize) {
+        let area = area.into();
+        if self.room() < 4 || count * area.element() as usize > self.reply_room() {
             return;
         }
-        let increment = count as u32 * space.element() <= space.bytes() - address;
-        let increment = increment && space != Space::Information;
+        let increment = count as u32 * area.element() <= area.bytes() - address;
+        let increment = increment && area != Space::Information.into();
         self.draft(Draft::new(
             false,
             Some(address as u16),
-            space,
+            area,
             increment,
             count,
         ));
@@ -426,17 +448,22 @@ impl<'r> Packet<'r> {
         let Some(space) = Space::from_number(draft.space) else {
             return;
         };
-        if draft.write && space == Space::Status {
+        let area = Area {
+            space,
+            info: draft.info,
+        };
+        let status = area == Space::Status.into();
+        if draft.write && status {
             self.status_values(start);
         }
-        let pointer = self.pointers[space.index()];
+        let pointer = self.pointers[area.index()];
         let address = draft.given.map_or(pointer, u32::from);
-        let bytes = u32::from(draft.count) * space.element();
+        let bytes = u32::from(draft.count) * area.element();
         let moved = if draft.increment { bytes } else { 0 };
-        self.pointers[space.index()] = (address + moved).min(space.bytes());
+        self.pointers[area.index()] = (address + moved).min(area.bytes());
         if !draft.write {
             self.replied += bytes as usize;
-        } else if space == Space::Status && address <= UNLOCK_ADDRESS {
+        } else if status && address <= UNLOCK_ADDRESS {
             // Most values drawn don't open it.
             self.unlocked &= address + moved <= UNLOCK_ADDRESS && draft.increment;
         }
@@ -454,48 +481,64 @@ impl<'r> Packet<'r> {
         }
     }
 
-    // Addresses.
+    // Areas and addresses.
+
+    /// Registers more often than the other spaces, and once in `n` times an info area.
+    fn area(&mut self, n: usize) -> Area {
+        if self.rng.one_in(n) {
+            return Area::info(self.rng.pick(&Space::ALL));
+        }
+        let space = self.rng.pick(&[
+            Space::Registers,
+            Space::Registers,
+            Space::Registers,
+            Space::Eeprom,
+            Space::Status,
+            Space::Information,
+        ]);
+        space.into()
+    }
 
     /// Whether an address is given, and the one used: the pointer where it serves.
-    fn given_or_pointer(&mut self, space: Space, write: bool) -> (Option<u16>, u32) {
-        let pointer = self.pointers[space.index()];
-        let serves = pointer.is_multiple_of(space.element())
-            && pointer < space.bytes()
-            && !(write && space.read_only_at(pointer));
+    fn given_or_pointer(&mut self, area: Area, write: bool) -> (Option<u16>, u32) {
+        let pointer = self.pointers[area.index()];
+        let serves = pointer.is_multiple_of(area.element())
+            && pointer < area.bytes()
+            && !(write && area.space.read_only_at(pointer));
         if serves && self.rng.coin() {
             return (None, pointer);
         }
-        let address = self.address(space, write);
+        let address = self.address(area, write);
         (Some(address as u16), address)
     }
 
     /// A legal address: often near a limit, or where others have been.
-    fn address(&mut self, space: Space, write: bool) -> u32 {
-        let element = space.element();
+    fn address(&mut self, area: Area, write: bool) -> u32 {
+        let element = area.element();
         let first = match write {
-            true => space.first_writable().unwrap_or(0),
+            true => area.space.first_writable().unwrap_or(0),
             false => 0,
         };
-        let last = space.bytes() - element;
+        let last = area.bytes() - element;
         let drawn = match self.rng.below(8) {
             0 => first,
             1 => last,
-            2 => last - element * self.rng.below(12) as u32,
+            2 => last.saturating_sub(element * self.rng.below(12) as u32),
             3 => self.rng.pick(&[COUNT_ADDRESS, UNLOCK_ADDRESS]),
             4 => 0x20,
             5 => element * self.rng.below(64) as u32,
-            _ => element * self.rng.below((space.bytes() / element) as usize) as u32,
+            _ => element * self.rng.below((area.bytes() / element) as usize) as u32,
         };
         (drawn - drawn % element).clamp(first, last)
     }
 
     /// An address from which the last of `count` elements, or more of them, stand past the end.
-    fn past_the_end(&mut self, space: Space, count: u32) -> u16 {
-        let element = space.element();
-        let lowest = space.bytes().saturating_sub(element * count.max(1)) + element;
+    fn past_the_end(&mut self, area: Area, count: u32) -> u16 {
+        let element = area.element();
+        let lowest = area.bytes().saturating_sub(element * count.max(1)) + element;
         let address = match self.rng.below(3) {
             0 => lowest,
-            1 => space.bytes(),
+            1 => area.bytes(),
             _ => lowest + element * self.rng.below(8) as u32,
         };
         address.min(65_536 - element) as u16

@@ -7,6 +7,7 @@ pub mod bursts;
 #[cfg(feature = "compile")]
 pub mod cues;
 pub mod drafts;
+pub mod info;
 pub mod lent;
 #[cfg(feature = "compile")]
 pub mod lists;
@@ -15,6 +16,7 @@ pub mod rng;
 #[cfg(feature = "compile")]
 pub mod shows;
 pub mod tally;
+pub mod trace;
 pub mod words;
 
 use model::store::{Space, COUNT_ADDRESS};

@@ -4,8 +4,10 @@ use crate::cues;
 use crate::lent::Lent;
 use crate::rng::Rng;
 use crate::tally::Tally;
+use crate::trace;
 use crate::{hex, numbers, same_answer, same_input, Answer, Outcome};
 use head::exports;
+use model::area::POINTERS;
 use model::packing::compile;
 use model::store::{Space, COUNT_ADDRESS, UNLOCK_ADDRESS};
 use model::words::Fields;
@@ -135,7 +137,8 @@ impl Part {
         let mut records = 0;
         let mut unlocks = 0;
         for packet in packets(output).expect("the implementation's own output") {
-            let commands = commands(packet);
+            let commands = trace::commands(packet, [0; POINTERS]);
+            let commands: Vec<Fields> = commands.iter().map(|command| command.fields).collect();
             let unlock = |fields: &&Fields| fields.space == 6 && fields.write && !fields.increment;
             let reads = commands.iter().filter(|fields| !fields.write);
             let reply: usize = reads.map(|read| usize::from(read.count) << read.size).sum();
@@ -204,19 +207,4 @@ pub fn packets(mut output: &[u8]) -> Result<Vec<&[u8]>, String> {
         output = rest;
     }
     Ok(packets)
-}
-
-/// The command words of a compiled packet, where each has an address.
-fn commands(mut packet: &[u8]) -> Vec<Fields> {
-    let mut commands = Vec::new();
-    while let [low, high, ..] = packet {
-        let fields = Fields::from_word(u16::from_le_bytes([*low, *high]));
-        let data = match fields.write {
-            true => usize::from(fields.count) << fields.size,
-            false => 0,
-        };
-        packet = &packet[4 + data..];
-        commands.push(fields);
-    }
-    commands
 }

@@ -2,12 +2,14 @@
 //! the next.
 
 use crate::drafts;
+use crate::info;
 use crate::lent::Lent;
 use crate::rng::Rng;
 use crate::tally::Tally;
 use crate::{
     hex, numbers, packet_count, same_answer, same_input, status_cell, wrapped, Answer, Outcome,
 };
+use model::area::{Area, POINTERS};
 use model::packet::{check, run};
 use model::store::{Space, COUNT_ADDRESS, STORE_BYTES, UNLOCK_ADDRESS, UNLOCK_VALUE};
 use model::PACKET_BYTES;
@@ -73,10 +75,11 @@ pub fn compare(seed: u64, count: u64) -> Outcome {
     let mut part = Part {
         rng: Rng::new(seed),
         store: Lent::new("store", STORE_BYTES, 0),
-        pointers: Lent::new("pointers", 4, 0),
+        pointers: Lent::new("pointers", POINTERS, 0),
         reply: Lent::new("reply", PACKET_BYTES, 0),
         tally: Tally::new("packets", &ENDINGS, &SITUATIONS),
         checks: Tally::new("checks", &ENDINGS, &CHECK_SITUATIONS),
+        info: info::tally(),
     };
     for case in 0..count {
         if case % 4_096 == 0 {
@@ -86,7 +89,7 @@ pub fn compare(seed: u64, count: u64) -> Outcome {
         let result = part.case();
         result.map_err(|what| format!("packet {case}: {what}"))?;
     }
-    Ok(vec![part.checks, part.tally])
+    Ok(vec![part.checks, part.tally, part.info])
 }
 
 struct Part {
@@ -96,13 +99,23 @@ struct Part {
     reply: Lent<u8>,
     tally: Tally,
     checks: Tally,
+    info: Tally,
 }
 
 /// The lengths of what is lent.
+#[derive(PartialEq, Eq)]
 struct Rooms {
     store: usize,
     pointers: usize,
     reply: usize,
+}
+
+impl Rooms {
+    const RIGHT: Rooms = Rooms {
+        store: STORE_BYTES,
+        pointers: POINTERS,
+        reply: PACKET_BYTES,
+    };
 }
 
 impl Part {
@@ -119,6 +132,11 @@ impl Part {
             .map_err(|what| self.describe(&what, &packet, &rooms))?;
         self.count_check(checked, &rooms);
         self.count(&packet, ran);
+        if rooms == Rooms::RIGHT {
+            let before = self.pointers.before().first_chunk();
+            let before = *before.expect("eight pointers");
+            info::count(&mut self.info, &packet, before, ran);
+        }
 
         // A refused pointer is only good for one case.
         let pointers = match ran.0 {
@@ -189,9 +207,9 @@ impl Part {
         )
     }
 
-    fn card_pointers(&self) -> [u32; 4] {
-        let model = &self.pointers.model()[..4];
-        model.try_into().expect("four pointers")
+    fn card_pointers(&self) -> [u32; POINTERS] {
+        let model = self.pointers.model().first_chunk();
+        *model.expect("eight pointers")
     }
 
     /// Now and then changes some cells and pointers, as nobody else does between packets.
@@ -216,23 +234,23 @@ impl Part {
             let cell = status_cell(COUNT_ADDRESS);
             self.store.put(cell.start, &value.to_le_bytes());
         }
-        for space in Space::ALL {
+        for area in Area::ALL {
             if self.rng.one_in(8) {
-                let pointer = good_pointer(&mut self.rng, space);
-                self.pointers.put(space.index(), &[pointer]);
+                let pointer = good_pointer(&mut self.rng, area);
+                self.pointers.put(area.index(), &[pointer]);
             }
         }
     }
 
-    /// Now and then puts one pointer above its space's size.
+    /// Now and then puts one pointer above its area's size.
     fn spoil_pointer(&mut self) {
         if !self.rng.one_in(60) {
             return;
         }
-        let space = self.rng.pick(&Space::ALL);
-        let size = space.bytes();
+        let area = self.rng.pick(&Area::ALL);
+        let size = area.bytes();
         let more = self.rng.between(1, 200_000) as u32;
-        let element = space.element();
+        let element = area.element();
         let above = [
             size + 1,
             size + element,
@@ -241,17 +259,13 @@ impl Part {
             u32::MAX - 1,
         ];
         let pointer = self.rng.pick(&above);
-        self.pointers.put(space.index(), &[pointer]);
+        self.pointers.put(area.index(), &[pointer]);
     }
 
     /// The lengths of what is lent: now and then wrong ones.
     fn rooms(&mut self) -> Rooms {
         let rng = &mut self.rng;
-        let mut rooms = Rooms {
-            store: STORE_BYTES,
-            pointers: 4,
-            reply: PACKET_BYTES,
-        };
+        let mut rooms = Rooms::RIGHT;
         if rng.one_in(50) {
             let faults = rng.between(1, 7);
             let wrong = |length: usize, rng: &mut Rng| {
@@ -265,7 +279,7 @@ impl Part {
                 rooms.reply = wrong(PACKET_BYTES, rng);
             }
             if faults & 4 != 0 {
-                rooms.pointers = wrong(4, rng);
+                rooms.pointers = wrong(POINTERS, rng);
             }
         }
         rooms
@@ -295,12 +309,12 @@ impl Part {
         let count_after = packet_count(self.store.model());
         let before = self.pointers.before();
         let after = self.pointers.model();
-        let at = |space: &Space| space.index();
+        let at = |area: &Area| area.index();
         let moved_to_end =
-            |space: &Space| after[at(space)] == space.bytes() && before[at(space)] != space.bytes();
-        let odd = |space: &Space| !after[at(space)].is_multiple_of(space.element());
-        let moved_to_end = Space::ALL.iter().any(moved_to_end);
-        let odd = Space::ALL.iter().any(odd);
+            |area: &Area| after[at(area)] == area.bytes() && before[at(area)] != area.bytes();
+        let odd = |area: &Area| !after[at(area)].is_multiple_of(area.element());
+        let moved_to_end = Area::ALL.iter().any(moved_to_end);
+        let odd = Area::ALL.iter().any(odd);
         let tally = &mut self.tally;
         tally.situation(EMPTY, packet.is_empty());
         tally.situation(FULL_PACKET, packet.len() == PACKET_BYTES);
@@ -320,7 +334,7 @@ impl Part {
         let unlock = UNLOCK_VALUE.to_le_bytes();
         let before_it = &packet[..place as usize];
         let unlocked = before_it.windows(2).any(|bytes| bytes == unlock);
-        let huge = self.pointers.before()[..4].contains(&u32::MAX);
+        let huge = self.pointers.before()[..POINTERS].contains(&u32::MAX);
         let tally = &mut self.tally;
         tally.situation(STALE_UNLOCK, number == 10 && stale && !unlocked);
         tally.situation(EEPROM_KEPT, number == 10 && unlocked);
@@ -332,16 +346,16 @@ impl Part {
     }
 }
 
-/// A pointer that no rule turns away: aligned or not, in the space or at its end.
-fn good_pointer(rng: &mut Rng, space: Space) -> u32 {
-    let size = space.bytes();
-    let element = space.element();
+/// A pointer that no rule turns away: aligned or not, in the area or at its end.
+fn good_pointer(rng: &mut Rng, area: Area) -> u32 {
+    let size = area.bytes();
+    let element = area.element();
     match rng.below(8) {
         0 => 0,
         1 => size,
         2 => size - element,
         3 => size - 1,
-        4 => rng.pick(&[0x18, 0x1A, 0x1E, 0x20]),
+        4 => rng.pick(&[0x18, 0x1A, 0x1E, 0x20]).min(size),
         5 => rng.below(size as usize + 1) as u32,
         _ => element * rng.below((size / element) as usize) as u32,
     }

@@ -5,6 +5,7 @@ use crate::lists::packets;
 use crate::rng::Rng;
 use crate::tally::Tally;
 use crate::{hex, packet_count, status_cell, Outcome};
+use model::area::Area;
 use model::cue::Records;
 use model::store::{Space, COUNT_ADDRESS, STORE_BYTES, UNLOCK_ADDRESS};
 use model::PACKET_BYTES;
@@ -84,7 +85,7 @@ fn compiled(list: &[u8]) -> Result<Vec<u8>, String> {
 
 /// Checks and runs the packets from random pointers and joins the replies.
 fn run_all(rng: &mut Rng, packets: &[&[u8]], store: &mut [u8]) -> Result<Vec<u8>, String> {
-    let mut pointers = Space::ALL.map(|space| rng.below(space.bytes() as usize + 1) as u32);
+    let mut pointers = Area::ALL.map(|area| rng.below(area.bytes() as usize + 1) as u32);
     let mut reply = [0; PACKET_BYTES];
     let mut replies = Vec::new();
     for (number, packet) in packets.iter().enumerate() {

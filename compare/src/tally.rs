@@ -3,6 +3,7 @@
 /// The count of each ending that can arise, and of each situation worth meeting.
 pub struct Tally {
     part: &'static str,
+    apart: bool,
     calls: u64,
     endings: Vec<(u32, u64)>,
     situations: Vec<(&'static str, u64)>,
@@ -13,9 +14,18 @@ impl Tally {
     pub fn new(part: &'static str, endings: &[u32], situations: &[&'static str]) -> Tally {
         Tally {
             part,
+            apart: false,
             calls: 0,
             endings: endings.iter().map(|&ending| (ending, 0)).collect(),
             situations: situations.iter().map(|&name| (name, 0)).collect(),
+        }
+    }
+
+    /// Counts some calls apart that another tally counts too.
+    pub fn apart(part: &'static str, endings: &[u32], situations: &[&'static str]) -> Tally {
+        Tally {
+            apart: true,
+            ..Tally::new(part, endings, situations)
         }
     }
 
@@ -28,8 +38,12 @@ impl Tally {
         self.calls += 1;
     }
 
-    pub fn calls(&self) -> u64 {
-        self.calls
+    /// The calls that no other tally counts.
+    pub fn own_calls(&self) -> u64 {
+        match self.apart {
+            true => 0,
+            false => self.calls,
+        }
     }
 
     /// Counts a situation, if it arose.

@@ -6,7 +6,7 @@
 //!
 //! ```
 //! let mut store = vec![0; head::STORE_BYTES];
-//! let mut pointers = [0; 4];
+//! let mut pointers = [0; head::POINTERS];
 //! let mut reply = [0; head::PACKET_BYTES];
 //!
 //! // Write 0x12345678 to register 0x1000, then read it back.
@@ -29,6 +29,10 @@ pub const STORE_BYTES: usize = 65_728;
 
 /// The length that the room for a packet's reply must have, and the longest packet.
 pub const PACKET_BYTES: usize = 1_472;
+
+/// How many address pointers a card has: those of spaces 0, 2, 6 and 7, then those of the same
+/// spaces' info areas.
+pub const POINTERS: usize = 8;
 
 /// Why a call was turned away. A refused call has changed nothing that it was lent.
 #[derive(Clone, Copy, Debug, PartialEq, Eq)]
@@ -74,8 +78,8 @@ pub struct Compiled {
 
 /// Checks one packet against a card's state and answers the length that its reply would have.
 ///
-/// `store` must have [`STORE_BYTES`]. `pointers` are the address pointers of spaces 0, 2, 6 and 7,
-/// none above its space's size; a fresh card's are 0. Nothing is changed.
+/// `store` must have [`STORE_BYTES`]. `pointers` are the card's [`POINTERS`], none above the size
+/// of its space, or above 16 for an info area; a fresh card's are 0. Nothing is changed.
 pub fn check(packet: &[u8], store: &[u8], pointers: &[u32]) -> Result<usize, Refusal> {
     let (number, value) = exports::check(packet, store, pointers);
     accepted(number, value)?;

@@ -1,11 +1,11 @@
 //! Some of the documents' examples through the wrapper.
 
-use head::{Refusal, PACKET_BYTES, STORE_BYTES};
+use head::{Refusal, PACKET_BYTES, POINTERS, STORE_BYTES};
 
 #[test]
 fn refused_packet_changes_nothing() {
     let mut store = vec![0xEE; STORE_BYTES];
-    let mut pointers = [0; 4];
+    let mut pointers = [0; POINTERS];
     let mut reply = [0xEE; PACKET_BYTES];
     let packet = [0x81, 0x42, 0xFC, 0xFF, 0x81, 0x02];
     let refused = Err(Refusal {
@@ -16,14 +16,14 @@ fn refused_packet_changes_nothing() {
     let answer = head::run(&packet, &mut store, &mut pointers, &mut reply);
     assert_eq!(answer, refused);
     assert!(store.iter().all(|&byte| byte == 0xEE));
-    assert_eq!(pointers, [0; 4]);
+    assert_eq!(pointers, [0; POINTERS]);
     assert_eq!(reply, [0xEE; PACKET_BYTES]);
 }
 
 #[test]
 fn pointers_carry_on() {
     let mut store: Vec<u8> = (0..STORE_BYTES).map(|at| at as u8).collect();
-    let mut pointers = [0; 4];
+    let mut pointers = [0; POINTERS];
     let mut reply = [0xEE; PACKET_BYTES];
     for first in [0, 4] {
         assert_eq!(head::check(&[0x81, 0x02], &store, &pointers), Ok(4));
@@ -31,26 +31,26 @@ fn pointers_carry_on() {
         assert_eq!(answer, Ok(4));
         assert_eq!(reply[..5], [first, first + 1, first + 2, first + 3, 0xEE]);
     }
-    assert_eq!(pointers, [8, 0, 0, 0]);
+    assert_eq!(pointers, [8, 0, 0, 0, 0, 0, 0, 0]);
 }
 
 #[test]
 fn check_changes_nothing() {
     let store = vec![0xEE; STORE_BYTES];
-    let pointers = [0xFFFC, 0, 0, 0];
+    let pointers = [0xFFFC, 0, 0, 0, 16, 0, 0, 0];
     // An unlock, an EEPROM write and a read of two elements.
     let packet = [
         0x01, 0xD9, 0x1A, 0x00, 0x02, 0x5A, 0x81, 0xC9, 0x20, 0x00, 9, 8, 0x82, 0x49, 0x20, 0x00,
     ];
     assert_eq!(head::check(&packet, &store, &pointers), Ok(4));
     assert!(store.iter().all(|&byte| byte == 0xEE));
-    assert_eq!(pointers, [0xFFFC, 0, 0, 0]);
+    assert_eq!(pointers, [0xFFFC, 0, 0, 0, 16, 0, 0, 0]);
 }
 
 #[test]
 fn wrong_reply_room_is_refused_by_the_run_alone() {
     let mut store = vec![0; STORE_BYTES];
-    let mut pointers = [0; 4];
+    let mut pointers = [0; POINTERS];
     let mut reply = [0; PACKET_BYTES - 1];
     let packet = [0; PACKET_BYTES + 1];
     let refused = |number| Err(Refusal { number, place: 0 });
@@ -62,7 +62,7 @@ fn wrong_reply_room_is_refused_by_the_run_alone() {
 #[test]
 fn accepted_packets_are_counted() {
     let mut store = vec![0xFF; STORE_BYTES];
-    let mut pointers = [0; 4];
+    let mut pointers = [0; POINTERS];
     let mut reply = [0; PACKET_BYTES];
     let read = [0x01, 0x59, 0x0A, 0x00];
     for count in [0xFFFF_u16, 0, 1] {
@@ -73,6 +73,34 @@ fn accepted_packets_are_counted() {
         assert_eq!(refusal.to_string(), "refused 3 at 0");
     }
     assert_eq!(store[65_674..65_676], [2, 0]);
+}
+
+#[test]
+fn info_areas() {
+    let mut store = vec![0xEE; STORE_BYTES];
+    let mut pointers = [0; POINTERS];
+    let mut reply = [0; PACKET_BYTES];
+    // Reads register 4, and then the whole info area of the registers.
+    let packet = [0x81, 0x42, 4, 0, 0x88, 0x61, 0, 0];
+    let answer = head::run(&packet, &mut store, &mut pointers, &mut reply);
+    assert_eq!(answer, Ok(20));
+    let info = [
+        0x00, 0x5A, 0x04, 0x81, 0x10, 0, 8, 0, 0, 0, 0, 0, 0, 0, 0, 0,
+    ];
+    assert_eq!(reply[4..20], info);
+    assert_eq!(pointers, [8, 0, 0, 0, 16, 0, 0, 0]);
+    let write = [0x81, 0xE1, 0, 0, 1, 2];
+    let refusal = head::run(&write, &mut store, &mut pointers, &mut reply).unwrap_err();
+    assert_eq!(refusal.to_string(), "refused 4 at 0");
+    pointers[4] = 17;
+    let refusal = head::check(&[], &store, &pointers).unwrap_err();
+    assert_eq!(refusal.to_string(), "refused 1 at 0");
+}
+
+#[test]
+fn four_pointers_are_refused() {
+    let refusal = head::check(&[], &[0; STORE_BYTES], &[0; 4]).unwrap_err();
+    assert_eq!(refusal.to_string(), "refused 1 at 0");
 }
 
 #[test]

@@ -4,6 +4,7 @@
 //! module follows one section of the scope document, and tests stand in the order in which the
 //! table of refusals numbers them.
 
+pub mod area;
 pub mod cue;
 pub mod packet;
 pub mod packing;

@@ -1,5 +1,6 @@
 //! Checking one packet, and running it on a card store.
 
+use crate::area::{info, Area, POINTERS};
 use crate::store::{Space, COUNT_ADDRESS, STORE_BYTES, UNLOCK_ADDRESS, UNLOCK_VALUE};
 use crate::words::Fields;
 use crate::{Refusal, PACKET_BYTES};
@@ -7,7 +8,7 @@ use std::ops::Range;
 
 /// Checks a packet and answers the length that its reply would have.
 ///
-/// `pointers` are those of spaces 0, 2, 6 and 7, in this order.
+/// `pointers` are those of spaces 0, 2, 6 and 7 and then those of their info areas.
 pub fn check(packet: &[u8], store: &[u8], pointers: &[u32]) -> Result<usize, Refusal> {
     let mut walk = start(packet, store, pointers)?;
     while !walk.at_end() {
@@ -59,16 +60,16 @@ fn start<'a>(packet: &'a [u8], store: &[u8], pointers: &[u32]) -> Result<Walk<'a
     Ok(Walk::new(packet, pointers))
 }
 
-/// The pointers, if there are four and each is at most its space's size.
-fn checked_pointers(pointers: &[u32]) -> Option<[u32; 4]> {
-    let pointers: [u32; 4] = pointers.try_into().ok()?;
-    let fits = |space: &Space| pointers[space.index()] <= space.bytes();
-    Space::ALL.iter().all(fits).then_some(pointers)
+/// The pointers, if there are eight and each is at most its area's size.
+fn checked_pointers(pointers: &[u32]) -> Option<[u32; POINTERS]> {
+    let pointers: [u32; POINTERS] = pointers.try_into().ok()?;
+    let fits = |area: &Area| pointers[area.index()] <= area.bytes();
+    Area::ALL.iter().all(fits).then_some(pointers)
 }
 
 /// A command that passed its check.
 struct Command<'a> {
-    space: Space,
+    area: Area,
     address: u32,
     increment: bool,
     count: u32,
@@ -77,6 +78,8 @@ struct Command<'a> {
 
 enum Action<'a> {
     Read,
+    /// From the info area, with the pointer that this shows.
+    ReadInfo(u32),
     /// Its data: `count` elements.
     Write(&'a [u8]),
 }
@@ -84,32 +87,40 @@ enum Action<'a> {
 impl Command<'_> {
     /// Does all elements in order and answers how many bytes were read.
     fn run(&self, store: &mut [u8], reply: &mut [u8]) -> usize {
-        let element = self.space.element() as usize;
-        let cells = &mut store[self.cells()];
-        match self.action {
-            Action::Read => {
-                let bytes = self.count as usize * element;
-                let reply = &mut reply[..bytes];
-                match (self.increment, element) {
-                    (true, _) => reply.copy_from_slice(cells),
-                    (false, 2) => repeat::<2>(cells, reply),
-                    (false, _) => repeat::<4>(cells, reply),
-                }
-                bytes
+        let space = &mut store[self.area.space.start()..];
+        match &self.action {
+            Action::Read => self.read(&space[self.cells()], reply),
+            Action::ReadInfo(pointer) => {
+                let info = info(self.area.space, *pointer);
+                self.read(&info[self.cells()], reply)
             }
             Action::Write(data) => {
                 // Without increment each element overwrites the one before it: the last stays.
+                let cells = &mut space[self.cells()];
                 cells.copy_from_slice(&data[data.len() - cells.len()..]);
                 0
             }
         }
     }
 
-    /// The bytes of the store that the elements stand in.
+    /// Reads all elements from their cells and answers how many bytes these are.
+    fn read(&self, cells: &[u8], reply: &mut [u8]) -> usize {
+        let element = self.area.element() as usize;
+        let bytes = self.count as usize * element;
+        let reply = &mut reply[..bytes];
+        match (self.increment, element) {
+            (true, _) => reply.copy_from_slice(cells),
+            (false, 2) => repeat::<2>(cells, reply),
+            (false, _) => repeat::<4>(cells, reply),
+        }
+        bytes
+    }
+
+    /// The bytes of the area that the elements stand in.
     fn cells(&self) -> Range<usize> {
-        let first = self.space.place(self.address);
+        let first = self.address as usize;
         let cells = if self.increment { self.count } else { 1 };
-        first..first + (cells * self.space.element()) as usize
+        first..first + (cells * self.area.element()) as usize
     }
 }
 
@@ -123,13 +134,13 @@ fn repeat<const N: usize>(element: &[u8], reply: &mut [u8]) {
 struct Walk<'a> {
     rest: &'a [u8],
     place: u64,
-    pointers: [u32; 4],
+    pointers: [u32; POINTERS],
     unlocked: bool,
     replied: usize,
 }
 
 impl<'a> Walk<'a> {
-    fn new(packet: &'a [u8], pointers: [u32; 4]) -> Walk<'a> {
+    fn new(packet: &'a [u8], pointers: [u32; POINTERS]) -> Walk<'a> {
         Walk {
             rest: packet,
             place: 0,
@@ -144,6 +155,8 @@ impl<'a> Walk<'a> {
     }
 
     /// The next command, or the lowest number that it is refused with.
+    // Inlined, a check that only asks for refusals puts no command together.
+    #[inline(always)]
     fn command(&mut self) -> Result<Command<'a>, Refusal> {
         let place = self.place;
         let refused = |number| Refusal { number, place };
@@ -154,38 +167,42 @@ impl<'a> Walk<'a> {
             true => Some(self.take_word().ok_or(refused(3))?),
             false => None,
         };
-        if fields.info {
+        if fields.info && fields.write {
             return Err(refused(4));
         }
         let space = Space::from_number(fields.space).ok_or(refused(5))?;
-        if fields.size != space.size() {
+        let area = Area {
+            space,
+            info: fields.info,
+        };
+        if fields.size != area.size() {
             return Err(refused(6));
         }
         if fields.count == 0 {
             return Err(refused(7));
         }
         let count = u32::from(fields.count);
-        let element = space.element();
+        let element = area.element();
         let bytes = count * element;
-        let address = given.map_or(self.pointers[space.index()], u32::from);
+        let address = given.map_or(self.pointers[area.index()], u32::from);
         let past_last = address + if fields.increment { bytes } else { element };
-        if address % element != 0 || past_last > space.bytes() {
+        if address % element != 0 || past_last > area.bytes() {
             return Err(refused(8));
         }
         let action = match fields.write {
             true => self.check_write(space, address, bytes as usize),
-            false => self.check_read(bytes as usize),
+            false => self.check_read(area, bytes as usize),
         };
         let action = action.map_err(refused)?;
         if let (Space::Status, Action::Write(data)) = (space, &action) {
             self.follow_unlock(address, fields.increment, data);
         }
-        self.pointers[space.index()] = match fields.increment {
+        self.pointers[area.index()] = match fields.increment {
             true => past_last,
             false => address,
         };
         Ok(Command {
-            space,
+            area,
             address,
             increment: fields.increment,
             count,
@@ -204,12 +221,15 @@ impl<'a> Walk<'a> {
         self.take(bytes).map(Action::Write).ok_or(11)
     }
 
-    fn check_read(&mut self, bytes: usize) -> Result<Action<'a>, u32> {
+    fn check_read(&mut self, area: Area, bytes: usize) -> Result<Action<'a>, u32> {
         self.replied += bytes;
         if self.replied > PACKET_BYTES {
             return Err(12);
         }
-        Ok(Action::Read)
+        Ok(match area.info {
+            true => Action::ReadInfo(self.pointers[area.space.index()]),
+            false => Action::Read,
+        })
     }
 
     /// Opens or closes the unlock with each element of a status write that lands on its cell.

@@ -47,7 +47,7 @@ impl Space {
         }
     }
 
-    /// Which of the four pointers is this space's.
+    /// The space's place among the four.
     pub fn index(self) -> usize {
         self as usize
     }

@@ -1,5 +1,6 @@
 //! The worked examples of the scope document, in its order, and those of the requests after it.
 
+use model::area::POINTERS;
 use model::packet::{check, run};
 use model::packing::{compile, Compiled};
 use model::spi::{burst, Header};
@@ -29,7 +30,7 @@ fn both_ways(bytes: [u8; 2], fields: Fields) {
 /// A card in a known state.
 struct Card {
     store: Vec<u8>,
-    pointers: [u32; 4],
+    pointers: [u32; POINTERS],
     reply: Vec<u8>,
 }
 
@@ -38,7 +39,7 @@ impl Card {
         let store = (0..STORE_BYTES).map(|at| (at * 7 + at / 256) as u8);
         Card {
             store: store.collect(),
-            pointers: [0; 4],
+            pointers: [0; POINTERS],
             reply: vec![0xEE; PACKET_BYTES],
         }
     }
@@ -187,7 +188,7 @@ fn the_last_register_twice() {
     let word = &card.store[65_532..65_536];
     assert_eq!(card.reply[..8], [word, word].concat());
     assert!(card.reply[8..].iter().all(|&byte| byte == 0xEE));
-    assert_eq!(card.pointers, [0xFFFC, 0, 0, 0]);
+    assert_eq!(card.pointers, [0xFFFC, 0, 0, 0, 0, 0, 0, 0]);
 }
 
 #[test]
@@ -264,7 +265,7 @@ fn block_over_the_unlock_cell_opens() {
     let mut card = Card::new();
     assert_eq!(card.run(&[&opening[..], &eeprom].concat()), Ok(0));
     assert_eq!(card.store[65_536 + 0x20..][..2], [9, 8]);
-    assert_eq!(card.pointers, [0, 0x22, 0x1E, 0]);
+    assert_eq!(card.pointers, [0, 0x22, 0x1E, 0, 0, 0, 0, 0]);
     Card::refuses(&[&opening[..], &closing, &eeprom].concat(), 10, 20);
 }
 
@@ -433,4 +434,87 @@ fn a_show_raises_the_count_by_its_packets() {
         card.run(packet).unwrap();
     }
     assert_eq!(card.count(), before + 3);
+}
+
+/// The words that an accepted packet reads.
+fn words_read(card: &mut Card, packet: &[u8]) -> Vec<u16> {
+    let length = card.run(packet).unwrap();
+    let elements = card.reply[..length].chunks_exact(2);
+    elements
+        .map(|bytes| u16::from_le_bytes([bytes[0], bytes[1]]))
+        .collect()
+}
+
+#[test]
+fn info_areas_whole() {
+    let mut card = Card::new();
+    card.pointers = [0x1_0000, 0x80, 0x1A, 0x20, 0, 0, 0, 0];
+    let fresh = card.store.clone();
+    let areas = [
+        (0x61, [0x5A00, 0x8104, 0x0010, 0x0000, 0, 0, 0, 0]),
+        (0x69, [0x5A02, 0x8E02, 0x0007, 0x0080, 0, 0, 0, 0]),
+        (0x79, [0x5A06, 0x8102, 0x0005, 0x001A, 0, 0, 0, 0]),
+        (0x7D, [0x5A07, 0x0002, 0x0005, 0x0020, 0, 0, 0, 0]),
+    ];
+    for (high, shown) in areas {
+        // With an address, and then at the pointer.
+        let without_address = high & !0x40;
+        assert_eq!(words_read(&mut card, &[0x88, high, 0, 0]), shown);
+        assert_eq!(
+            card.run(&[0x01, without_address]),
+            Err(Refusal::whole(8)),
+            "the pointer stands past the end"
+        );
+        assert_eq!(words_read(&mut card, &[0x01, high, 4, 0]), shown[2..3]);
+        assert_eq!(words_read(&mut card, &[0x85, without_address]), shown[2..7]);
+        assert_eq!(words_read(&mut card, &[0x03, high, 0, 0]), [shown[0]; 3]);
+    }
+    assert_eq!(card.pointers, [0x1_0000, 0x80, 0x1A, 0x20, 0, 0, 0, 0]);
+    assert_eq!(card.store[..65_664], fresh[..65_664]);
+}
+
+#[test]
+fn info_shows_the_pointer_before_its_command() {
+    let mut card = Card::new();
+    let shown = [0x01, 0x61, 6, 0];
+    let moving = [0x83, 0x42, 0xF0, 0xFF];
+    let packet = [&shown[..], &moving, &shown, &[0x81, 0x02], &shown].concat();
+    assert_eq!(card.run(&packet), Ok(2 + 12 + 2 + 4 + 2));
+    let at = |place: usize| [card.reply[place], card.reply[place + 1]];
+    assert_eq!([at(0), at(14), at(20)], [[0, 0], [0xFC, 0xFF], [0, 0]]);
+    assert_eq!(card.pointers, [0x1_0000, 0, 0, 0, 6, 0, 0, 0]);
+}
+
+#[test]
+fn info_refusals() {
+    // Cut, and an info write, whatever else is wrong with it.
+    Card::refuses(&[0x01, 0x61, 0], 3, 0);
+    Card::refuses(&[0x81, 0xE1, 0, 0, 1, 2], 4, 0);
+    Card::refuses(&[0x80, 0xE6, 0, 0], 4, 0);
+    // Spaces 1 and 3; elements of 4 bytes; no element.
+    Card::refuses(&[0x01, 0x65, 0, 0], 5, 0);
+    Card::refuses(&[0x01, 0x6D, 0, 0], 5, 0);
+    Card::refuses(&[0x01, 0x62, 0, 0], 6, 0);
+    Card::refuses(&[0x80, 0x61, 0, 0], 7, 0);
+    // Misaligned, nine elements, and the area's end.
+    Card::refuses(&[0x01, 0x61, 1, 0], 8, 0);
+    Card::refuses(&[0x89, 0x61, 0, 0], 8, 0);
+    Card::refuses(&[0x01, 0x61, 16, 0], 8, 0);
+    // A reply of 1,472 bytes, and one element more.
+    let full = [0x88, 0x7D, 0, 0].repeat(92);
+    assert_eq!(Card::new().run(&full), Ok(1_472));
+    Card::refuses(&[&full[..], &[0x01, 0x7D, 0, 0]].concat(), 12, 368);
+}
+
+#[test]
+fn info_pointers_end_at_16() {
+    let mut card = Card::new();
+    card.pointers = [65_536, 128, 32, 32, 16, 16, 16, 16];
+    assert_eq!(card.run(&[]), Ok(0));
+    for index in 0..8 {
+        let mut card = Card::new();
+        card.pointers = [65_536, 128, 32, 32, 16, 16, 16, 16];
+        card.pointers[index] += 1;
+        assert_eq!(card.run(&[]), Err(Refusal::whole(1)));
+    }
 }

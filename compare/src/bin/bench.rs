@@ -4,6 +4,7 @@
 //! `bench --count NAME N` makes the library's call N times and nothing else, for an instruction
 //! counter.
 
+use model::area::{Area, POINTERS};
 use model::packet;
 use model::spi;
 use model::store::{Space, STORE_BYTES};
@@ -174,11 +175,12 @@ fn packet_cases() -> Vec<Case> {
     let mut add = |name: &str, what: &str, bytes: usize, packet: Vec<u8>, ending: u32| {
         cases.push(packet_case(name, what, bytes, packet, ending));
     };
-    let reads = |space, first, increment, counts: &[usize]| {
-        commands(false, space, first, increment, counts)
+    let reads = |space: Space, first, increment, counts: &[usize]| {
+        commands(false, space.into(), first, increment, counts)
     };
-    let writes =
-        |space, first, increment, counts: &[usize]| commands(true, space, first, increment, counts);
+    let writes = |space: Space, first, increment, counts: &[usize]| {
+        commands(true, space.into(), first, increment, counts)
+    };
 
     let packet = reads(Space::Registers, 0, true, &[127, 127, 114]);
     add("reads368", "368 reads of 4 bytes", 1_472, packet, 0);
@@ -233,6 +235,9 @@ fn packet_cases() -> Vec<Case> {
         0,
     );
 
+    let packet = commands(false, Area::info(Space::Registers), 0, true, &[8; 92]);
+    add("info92", "92 info areas read whole", 1_472, packet, 0);
+
     let packet = reads(Space::Registers, 0, true, &[1; 368]);
     add(
         "small368",
@@ -272,27 +277,27 @@ fn packet_cases() -> Vec<Case> {
 }
 
 /// Commands with an address each, the elements neighbours unless there are too many for that.
-fn commands(write: bool, space: Space, first: u16, increment: bool, counts: &[usize]) -> Vec<u8> {
+fn commands(write: bool, area: Area, first: u16, increment: bool, counts: &[usize]) -> Vec<u8> {
     let mut packet = Vec::new();
     let mut address = first;
     for &count in counts {
         let fields = Fields {
             write,
             address: true,
-            info: false,
-            space: space.number(),
-            size: space.size(),
+            info: area.info,
+            space: area.space.number(),
+            size: area.size(),
             increment,
             count: count as u8,
         };
         let word = fields.to_word().expect("fields in range");
         packet.extend(word.to_le_bytes());
         packet.extend(address.to_le_bytes());
-        let bytes = count * space.element() as usize;
+        let bytes = count * area.element() as usize;
         if write {
             packet.extend((0..bytes).map(|k| k as u8));
         }
-        if space == Space::Registers {
+        if area == Space::Registers.into() {
             address += bytes as u16;
         }
     }
@@ -320,9 +325,9 @@ fn packet_case(name: &str, what: &str, bytes: usize, packet: Vec<u8>, ending: u3
     }
 }
 
-fn card() -> (Vec<u8>, [u32; 4], Vec<u8>) {
+fn card() -> (Vec<u8>, [u32; POINTERS], Vec<u8>) {
     let store = (0..STORE_BYTES).map(|at| at as u8).collect();
-    (store, [0; 4], vec![0; PACKET_BYTES])
+    (store, [0; POINTERS], vec![0; PACKET_BYTES])
 }
 
 // Bursts.

@@ -83,7 +83,7 @@ fn run_all(options: &Options) -> Outcome {
     for part in &options.parts {
         let start = Instant::now();
         let found = run(part, options).map_err(|difference| format!("{part}: {difference}"))?;
-        let calls: u64 = found.iter().map(Tally::calls).sum();
+        let calls: u64 = found.iter().map(Tally::own_calls).sum();
         let seconds = start.elapsed().as_secs_f64();
         println!("{part}: {calls} equal, {seconds:.1} s");
         tallies.extend(found);
