@@ -59,8 +59,8 @@ fn sample_run() {
     );
 }
 
-// "SPACE 6 LBP STATUS/CONTROL AREA" and "SPACE 7: LBP READ ONLY AREA".
-fn status_and_information() {
+// "SPACE 6 LBP STATUS/CONTROL AREA".
+fn status() {
     script::play(
         b"\
         # Documents 001 and 002: space 6, its four commands\n\
@@ -68,12 +68,26 @@ fn status_and_information() {
         p NN99DDDD: 81 99 34 12\n\
         p NN59LLHH: 81 59 16 00\n\
         p NN19: 81 19\n\
+        ",
+    );
+}
+
+// "SPACE 7: LBP READ ONLY AREA". No packet can set the card's name.
+fn information() {
+    let mut cells = [0u8; 65728];
+    cells[65696] = b'7';
+    cells[65697] = b'I';
+    cells[65698] = b'9';
+    cells[65699] = b'5';
+    cells[65700] = b'T';
+    script::on_card(
+        b"\
         # Documents 001 and 002: space 7, on a card with the name 7I95T there\n\
-        i name: 37 49 39 35 54\n\
         p NN5DLLHH: 82 5D 00 00\n\
         p NN1D: 81 1D\n\
         p write to space 7: 81 DD 00 00 37 49\n\
         ",
+        &mut cells,
     );
 }
 
@@ -160,7 +174,8 @@ pub(crate) fn all() {
     registers();
     eeprom();
     sample_run();
-    status_and_information();
+    status();
+    information();
     info_areas();
     absent_spaces();
     flash();

@@ -6,19 +6,15 @@
 //     w NAME: HEX    a command word, in the order of the wire
 //     h NAME: HEX    an SPI header
 //     l NAME: HEX    a cue list, compiled into 64 bytes of room
-//     i NAME: HEX    bytes of the information area, which no packet can set
 use crate::hex;
-use crate::list;
-use crate::parts;
 use crate::show;
-use crate::text;
 use lbp16::pointer::Pointers;
+use lines::answer;
+use lines::parts;
+use lines::text;
 use packet::bytes;
 ghost use Prim.Native.Nat.{_≤_};
 ghost use lib.ListN.{length};
-
-// Where space 7 starts in the store.
-const INFORMATION: usize = 65696;
 
 // A name that is a whole line, with its end.
 fn title(name: &[u8]) {
@@ -37,11 +33,9 @@ fn burst(name: &[u8], data: &[u8], card: &mut [u8], words: &mut [u32], answer: &
 fn alone(kind: u8, name: &[u8], data: &[u8]) {
     match kind {
         b'#' => title(name),
-        b'w' => show::word(name, bytes::pair_at(data, 0)),
-        b'h' => show::header(name, hex::word_at(data, 0)),
-        b'l' => {
-            list::compiled(name, data, &mut [0; 64]);
-        }
+        b'w' => answer::word(name, bytes::pair_at(data, 0)),
+        b'h' => answer::header(name, hex::word_at(data, 0)),
+        b'l' => show::list(name, data, &mut [0; 64]),
         _ => {}
     }
 }
@@ -52,12 +46,23 @@ fn example(kind: u8, name: &[u8], data: &[u8], card: &mut [u8], p: Pointers) -> 
             return show::packet(name, data, card, p);
         }
         b'b' => burst(name, data, card, &mut [0; 8], &mut [0; 8]),
-        b'i' => {
-            parts::put(card, INFORMATION, data);
-        }
         _ => alone(kind, name, data),
     }
     p
+}
+
+// The bytes before the first b: all of them where there is none.
+fn before(s: &[u8], b: u8) -> usize
+    ensures { λ r. ⌜ r ≤ length (now (s .entry)) ⌝ }
+{
+    let mut i: usize = 0;
+    while i < s.len() {
+        if s[i] == b {
+            return i;
+        }
+        i += 1;
+    }
+    i
 }
 
 // The bytes of a line before its colon. A title is all of its line.
@@ -67,7 +72,7 @@ fn head_bytes(s: &[u8], kind: u8) -> usize
     if kind == b'#' {
         return s.len();
     }
-    parts::before(s, b':')
+    before(s, b':')
 }
 
 fn line(s: &[u8], card: &mut [u8], p: Pointers) -> Pointers {
@@ -85,11 +90,12 @@ fn line_bytes(rest: &[u8]) -> usize
     requires { ⌜ 1 ≤ length (now rest) ⌝ }
     ensures { λ r. ⌜ (1 ≤ r) × (r ≤ length (now (rest .entry))) ⌝ }
 {
-    let n = parts::before(rest, b'\n');
+    let n = before(rest, b'\n');
     if n < rest.len() { n + 1 } else { n }
 }
 
-fn lines(part: &[u8], card: &mut [u8]) {
+// One part, on a card that may hold something already.
+pub(crate) fn on_card(part: &[u8], card: &mut [u8]) {
     let mut p = Pointers::fresh();
     let mut rest = part;
     while 1 <= rest.len() {
@@ -104,14 +110,14 @@ fn part_bytes(rest: &[u8]) -> usize
     requires { ⌜ 1 ≤ length (now rest) ⌝ }
     ensures { λ r. ⌜ (1 ≤ r) × (r ≤ length (now (rest .entry))) ⌝ }
 {
-    1 + parts::before(&rest[1..], b'#')
+    1 + before(&rest[1..], b'#')
 }
 
 pub(crate) fn play(script: &[u8]) {
     let mut rest = script;
     while 1 <= rest.len() {
         let k = part_bytes(rest);
-        lines(parts::part(rest, 0, k as u64), &mut [0; 65728]);
+        on_card(parts::part(rest, 0, k as u64), &mut [0; 65728]);
         rest = &rest[k..];
     }
 }

@@ -20,11 +20,11 @@ part-bytes-requires c κs = search needs
 part-requires : tie.Need-part-requires Inv-loop μ-loop
 part-requires c κs = search needs
 
-slice-aggregate-lines : tie.Need-slice-aggregate-lines Inv-loop μ-loop
-slice-aggregate-lines c = search needs
+slice-aggregate-on-card : tie.Need-slice-aggregate-on-card Inv-loop μ-loop
+slice-aggregate-on-card c = search needs
 
-lines-requires : tie.Need-lines-requires Inv-loop μ-loop
-lines-requires c κs = search needs
+on-card-requires : tie.Need-on-card-requires Inv-loop μ-loop
+on-card-requires c κs = search needs
 
 sub-rest : tie.Need-sub-rest Inv-loop μ-loop
 sub-rest c = search needs
@@ -53,8 +53,8 @@ play-spec =
     loop-holds
     part-bytes-requires
     part-requires
-    slice-aggregate-lines
-    lines-requires
+    slice-aggregate-on-card
+    on-card-requires
     sub-rest
     part-rest-start
     part-rest-end

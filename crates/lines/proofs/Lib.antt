@@ -1,0 +1,2 @@
+-- Laws that functions of this crate use.
+mod PartLaws

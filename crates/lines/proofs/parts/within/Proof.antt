@@ -1,0 +1,13 @@
+use Rattle.lines.proofs.parts.within.Statement.{statement}
+use Rattle.lines.proofs.parts.within.Tie as tie
+use native.Mathlib.Omega.{arith}
+use lib.ListN.{length-take}
+
+returns : tie.Need-returns
+returns c = ((omega arith, simp length-take (omega arith)), omega arith)
+
+returns-2 : tie.Need-returns-2
+returns-2 c = ((omega arith, simp length-take (omega arith)), omega arith)
+
+pub within-spec : {M : Type 1} → statement M
+within-spec = tie.close (tie.spec returns returns-2)

@@ -1,0 +1,79 @@
+use mathlib.Core.Path.{_≡_}
+use native.Mathlib.Omega.{arith}
+use borrow.Author.Needs.{needs}
+use lib.ListN.{length, length-take, length-drop}
+use Rattle.shows.proofs.cues.play.Statement.{statement}
+use Rattle.shows.proofs.cues.play.Tie as tie
+
+abbrev Inv-loop : tie.InvT-loop
+Inv-loop out store₀ replies₀ p₀ rest₀ store replies p rest = (length store ≡ length store₀) × (length replies ≡ length replies₀)
+
+abbrev μ-loop : tie.MeasureT-loop
+μ-loop out store₀ replies₀ p₀ rest₀ store replies p rest = length rest
+
+fresh-requires : tie.Need-fresh-requires Inv-loop μ-loop
+fresh-requires c κs = search needs
+
+loop-holds : tie.Need-loop-holds Inv-loop μ-loop
+loop-holds c = search needs
+
+frame-bytes-requires : tie.Need-frame-bytes-requires Inv-loop μ-loop
+frame-bytes-requires c κs = search needs
+
+sub-play-packet : tie.Need-sub-play-packet Inv-loop μ-loop
+sub-play-packet c = search needs
+
+part-play-packet-start : tie.Need-part-play-packet-start Inv-loop μ-loop
+part-play-packet-start c = search needs
+
+part-play-packet-end : tie.Need-part-play-packet-end Inv-loop μ-loop
+part-play-packet-end c = search needs
+
+play-packet-requires : tie.Need-play-packet-requires Inv-loop μ-loop
+play-packet-requires c κs = search needs
+
+sub-rest : tie.Need-sub-rest Inv-loop μ-loop
+sub-rest c = search needs
+
+part-rest-start : tie.Need-part-rest-start Inv-loop μ-loop
+part-rest-start c = search needs
+
+part-rest-end : tie.Need-part-rest-end Inv-loop μ-loop
+part-rest-end c = search needs
+
+loop-less : tie.Need-loop-less Inv-loop μ-loop
+loop-less c = simp (length-take, length-drop) (omega arith)
+
+loop-again : tie.Need-loop-again Inv-loop μ-loop
+loop-again c = search needs
+
+same-length : tie.Need-same-length Inv-loop μ-loop
+same-length c = search needs
+
+same-length-2 : tie.Need-same-length-2 Inv-loop μ-loop
+same-length-2 c = search needs
+
+returns : tie.Need-returns Inv-loop μ-loop
+returns c = search needs
+
+pub play-spec : {M : Type 1} → statement M
+play-spec =
+    tie.close
+    (tie.spec
+    Inv-loop
+    μ-loop
+    fresh-requires
+    loop-holds
+    frame-bytes-requires
+    sub-play-packet
+    part-play-packet-start
+    part-play-packet-end
+    play-packet-requires
+    sub-rest
+    part-rest-start
+    part-rest-end
+    loop-less
+    loop-again
+    same-length
+    same-length-2
+    returns)

@@ -1,0 +1,10 @@
+// Compiles long cue lists and plays shows end to end, and writes what comes of it.
+mod buffer;
+mod cues;
+
+use lines::text;
+
+fn main() {
+    text::say(b"Lists, packets and replies are hexadecimal, in the order of the wire.\n");
+    cues::all();
+}
