@@ -10,7 +10,7 @@ use crate::hex;
 use crate::show;
 use lbp16::pointer::Pointers;
 use lines::answer;
-use lines::parts;
+use lines::slice;
 use lines::text;
 use packet::bytes;
 ghost use Prim.Native.Nat.{_≤_};
@@ -80,9 +80,9 @@ fn line(s: &[u8], card: &mut [u8], p: Pointers) -> Pointers {
     let kind = (bytes::pair_at(s, 0) % 256) as u8;
     let head = head_bytes(s, kind);
     let n = hex::bytes_of(&s[head..], room);
-    let front = parts::part(s, 0, head as u64);
-    let name = parts::part(front, 2, head as u64);
-    example(kind, name, parts::part(room, 0, n), card, p)
+    let front = slice::part(s, 0, head as u64);
+    let name = slice::part(front, 2, head as u64);
+    example(kind, name, slice::part(room, 0, n), card, p)
 }
 
 // The first line, with its end.
@@ -100,7 +100,7 @@ pub(crate) fn on_card(part: &[u8], card: &mut [u8]) {
     let mut rest = part;
     while 1 <= rest.len() {
         let k = line_bytes(rest);
-        p = line(parts::part(rest, 0, k as u64), card, p);
+        p = line(slice::part(rest, 0, k as u64), card, p);
         rest = &rest[k..];
     }
 }
@@ -117,7 +117,7 @@ pub(crate) fn play(script: &[u8]) {
     let mut rest = script;
     while 1 <= rest.len() {
         let k = part_bytes(rest);
-        on_card(parts::part(rest, 0, k as u64), &mut [0; 65728]);
+        on_card(slice::part(rest, 0, k as u64), &mut [0; 65728]);
         rest = &rest[k..];
     }
 }

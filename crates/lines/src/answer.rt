@@ -1,5 +1,5 @@
 // What was answered, as text: a refusal, a reply, and the fields of words and headers.
-use crate::parts;
+use crate::slice;
 use crate::text;
 use card::spi;
 use card::spi::BurstAnswer;
@@ -124,7 +124,7 @@ pub fn reply_bytes(s: &[u8]) {
         text::bytes(s);
         return;
     }
-    let front = parts::within(8, s);
+    let front = slice::within(8, s);
     let back = n - 8;
     text::bytes(&s[..front]);
     text::say(b" ..");
@@ -142,7 +142,7 @@ pub fn shown(s: &[u8]) {
 fn accepted(n: u64, reply: &[u8]) {
     text::number(b" accepted, ", n);
     text::say_if(n == 0, b" bytes", b" bytes:");
-    reply_bytes(parts::part(reply, 0, n));
+    reply_bytes(slice::part(reply, 0, n));
 }
 
 // A packet's answer, up to the line's end.

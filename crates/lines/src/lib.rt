@@ -1,6 +1,6 @@
-// What the example programs write. What is written no contract can say: these functions give nothing back, and are lent nothing to
-// change.
+// What the example programs write. No contract can say what is written: a function that writes gives nothing back and is lent
+// nothing to change.
 pub mod answer;
 pub mod list;
-pub mod parts;
+pub mod slice;
 pub mod text;

@@ -1,6 +1,6 @@
 // A cue list and what it compiles to, as text.
 use crate::answer;
-use crate::parts;
+use crate::slice;
 use crate::text;
 use cue::CompileAnswer;
 use packet::bytes;
@@ -14,7 +14,7 @@ pub fn frame_bytes(rest: &[u8]) -> usize
     ensures { λ r. ⌜ r ≡ min (4 + number (take 2 (drop 2 (now (rest .entry))))) (length (now (rest .entry))) ⌝ }
 {
     let n = bytes::pair_at(rest, 2) as u64;
-    parts::within(4 + n, rest)
+    slice::within(4 + n, rest)
 }
 
 fn lengths(out: &[u8]) {
@@ -54,7 +54,7 @@ pub fn compiled(given: CompileAnswer, room: &[u8]) {
     match given {
         CompileAnswer::Compiled { bytes, packets } => output(
             packets,
-            parts::part(room, 0, bytes as u64),
+            slice::part(room, 0, bytes as u64),
         ),
         CompileAnswer::Refused(r) => answer::refusal(r),
     }

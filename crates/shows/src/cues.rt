@@ -7,7 +7,7 @@ use cue::CompileAnswer;
 use lbp16::pointer::Pointers;
 use lines::answer;
 use lines::list;
-use lines::parts;
+use lines::slice;
 use lines::text;
 use packet::bytes;
 use packet::judge::Verdict;
@@ -56,7 +56,7 @@ fn rising_list(name: &[u8], write: bool, count: u16)
     let mut records = [0u8; 4096];
     let list: &mut [u8] = &mut records;
     let n = rising(list, 0, write, count);
-    compiled(name, parts::part(list, 0, n as u64), &mut [0; 2048]);
+    compiled(name, slice::part(list, 0, n as u64), &mut [0; 2048]);
 }
 
 fn long_lists() {
@@ -80,9 +80,9 @@ fn record_bytes(rest: &[u8]) -> usize
     ensures { λ r. ⌜ (1 ≤ r) × (r ≤ length (now (rest .entry))) ⌝ }
 {
     if is_write(rest) {
-        return parts::within(10, rest);
+        return slice::within(10, rest);
     }
-    parts::within(6, rest)
+    slice::within(6, rest)
 }
 
 fn value_words(rest: &[u8]) {
@@ -145,7 +145,7 @@ fn play_packet(sent: &[u8], store: &mut [u8], before: Left, replies: &mut [u8]) 
     let given = ran.answer;
     answer::ran(given, &room);
     let n = reply_bytes(given);
-    let bytes = put(replies, before.bytes, parts::part(&room, 0, n));
+    let bytes = put(replies, before.bytes, slice::part(&room, 0, n));
     let pointers = ran.pointers;
     Left { pointers, bytes }
 }
@@ -181,10 +181,10 @@ fn record_alone(rest: &[u8], store: &mut [u8], values: &mut [u8], n: usize) -> u
     let place = place_of(space) + bytes::pair_at(rest, 4) as u64;
     let element: u64 = if space == 0 { 4 } else { 2 };
     if is_write(rest) {
-        put(store, place as usize, parts::part(rest, 6, element));
+        put(store, place as usize, slice::part(rest, 6, element));
         return n;
     }
-    put(values, n, parts::part(store, place, element))
+    put(values, n, slice::part(store, place, element))
 }
 
 // The records of a list one by one. The values read go behind the first 2048 bytes. The place behind them.
@@ -201,9 +201,9 @@ fn alone(list: &[u8], store: &mut [u8], values: &mut [u8]) -> usize {
 
 // The packet count is the two bytes from 65674 on, the unlock cell those from 65690 on.
 fn same_but_both(a: &[u8], b: &[u8]) -> bool {
-    same(parts::part(a, 0, 65674), parts::part(b, 0, 65674))
-        & same(parts::part(a, 65676, 14), parts::part(b, 65676, 14))
-        & same(parts::part(a, 65692, 36), parts::part(b, 65692, 36))
+    same(slice::part(a, 0, 65674), slice::part(b, 0, 65674))
+        & same(slice::part(a, 65676, 14), slice::part(b, 65676, 14))
+        & same(slice::part(a, 65692, 36), slice::part(b, 65692, 36))
 }
 
 fn values_words(replied: &[u8], read: &[u8]) {
@@ -229,8 +229,8 @@ fn counts_words(packets: u16, records: u16) {
 fn both_ways(list: &[u8], out: &[u8], a: &mut [u8], b: &mut [u8], seen: &mut [u8]) {
     let n = play(out, a, seen) as u64;
     let end = alone(list, b, seen) as u64;
-    let read = parts::part(parts::part(seen, 0, end), 2048, end);
-    values_words(parts::part(seen, 0, n), read);
+    let read = slice::part(slice::part(seen, 0, end), 2048, end);
+    values_words(slice::part(seen, 0, n), read);
     stores_words(a, b);
     counts_words(bytes::pair_at(a, 65674), bytes::pair_at(b, 65674));
 }
@@ -239,7 +239,7 @@ fn both_ways(list: &[u8], out: &[u8], a: &mut [u8], b: &mut [u8], seen: &mut [u8
 fn perform(list: &[u8]) {
     let room: &mut [u8] = &mut [0; 2048];
     let n = compiled(b"the show", list, room);
-    let out = parts::part(room, 0, n);
+    let out = slice::part(room, 0, n);
     both_ways(list, out, &mut [0; 65728], &mut [0; 65728], &mut [0; 4096]);
 }
 
@@ -266,7 +266,7 @@ fn long_show() {
     text::say(b"\nA show of three packets: 369 rising writes, then 369 rising reads\n");
     let n = rising(list, 0, true, 369);
     let m = rising(list, n, false, 369);
-    perform(parts::part(list, 0, m as u64));
+    perform(slice::part(list, 0, m as u64));
 }
 
 pub(crate) fn all() {

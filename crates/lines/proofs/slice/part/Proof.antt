@@ -1,7 +1,7 @@
 use Rattle.lines.proofs.PartLaws.{part-is}
 use borrow.Author.Needs.{needs}
-use Rattle.lines.proofs.parts.part.Statement.{statement}
-use Rattle.lines.proofs.parts.part.Tie as tie
+use Rattle.lines.proofs.slice.part.Statement.{statement}
+use Rattle.lines.proofs.slice.part.Tie as tie
 
 within-requires : tie.Need-within-requires
 within-requires c κs = search needs

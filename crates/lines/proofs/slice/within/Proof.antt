@@ -1,5 +1,5 @@
-use Rattle.lines.proofs.parts.within.Statement.{statement}
-use Rattle.lines.proofs.parts.within.Tie as tie
+use Rattle.lines.proofs.slice.within.Statement.{statement}
+use Rattle.lines.proofs.slice.within.Tie as tie
 use native.Mathlib.Omega.{arith}
 use lib.ListN.{length-take}
 
