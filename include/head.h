@@ -61,6 +61,8 @@ uint32_t head_check(const uint8_t *packet, size_t packet_length,
  *   pointers  8 numbers, each at most its space's size, or 16 for an info area; 0 in a fresh card
  *   reply     room for 1,472 bytes
  *   value     takes the reply length in bytes, or the refusal's place
+ *   elements  takes the number of elements moved, info reads too: the sum of the commands' counts, at most 1,460; 0 if
+ *             refused
  *
  * Accepted: returns 0. The elements read stand at the front of the reply, low byte first, and its other bytes are
  * unchanged. Store and pointers are as the commands leave them, but the unlock cell (0x1A of space 6) is 0, and the packet
@@ -86,14 +88,14 @@ uint32_t head_run(const uint8_t *packet, size_t packet_length,
                   uint8_t *store, size_t store_length,
                   uint32_t *pointers, size_t pointers_length,
                   uint8_t *reply, size_t reply_length,
-                  uint64_t *value);
+                  uint64_t *value, uint64_t *elements);
 
 /* Runs one SPI burst on space 0 of the store. The whole burst is checked before anything is done.
  *
  *   words   the words sent: a header, then at most as many words as it counts; a read ignores what these hold
  *   store   65,728 bytes
  *   answer  room for as many words as were sent
- *   value   takes 0: every refusal here stands at place 0
+ *   value   takes the number of elements done, at most 127, or the refusal's place, which is 0
  *
  * A header, high bit first: 16 bits of address, 4 of command (0xA read, 0xB write), 1 increment, 7 of count, 4 unused.
  * Accepted: returns 0. As many elements are done as words follow the header, none if it stands alone. The first word of

@@ -16,6 +16,7 @@ use Rattle.packet.specs.declared.judge.Verdict as code
 use Rattle.card.specs.Run.{Outcome, cleared, counted, badState, checked, outcome, runVerdict, runPacket, ran}
 use Rattle.card.specs.Inside.{IsAccepted, Performed}
 use Rattle.card.specs.declared.run.Ran.{Ran}
+use Rattle.card.specs.declared.run.Done.{Done}
 use Rattle.card.proofs.RunLaws.{checked-cases, run-checked, good-state}
 
 module _ (packet store : List ℕ) (p : Pointers) where
@@ -49,26 +50,28 @@ module _ (packet store : List ℕ) (p : Pointers) where
 
   module _ (reply : List ℕ) where
     pub other-room : (length reply ≡ limit → ⊥) → (r : Ran) → verdictListed (r .answer) ≡ Answer.refused 1 0 → r .pointers ≡ p
+        → r .elements ≡ 0
         → ran r store reply ≡ runPacket packet store p reply
     unfolding runPacket runVerdict ran outcome answerTo
-    other-room h r e q = rw (ne-eqb _ _ h, e, q) refl
+    other-room h r e q z = rw (ne-eqb _ _ h, e, q, z) refl
 
     module _ (room : length reply ≡ limit) where
       pub run-refused : (n place : ℕ) (r : Ran) → verdictListed (r .answer) ≡ Answer.refused n place
-          → Answer.refused n place ≡ answerTo (checked packet store p) → r .pointers ≡ p
+          → Answer.refused n place ≡ answerTo (checked packet store p) → r .pointers ≡ p → r .elements ≡ 0
           → ran r store reply ≡ runPacket packet store p reply
       unfolding ran outcome answerTo
-      run-refused n place r a e q = rw (run-checked packet store p reply room) (go (checked packet store p) e)
+      run-refused n place r a e q z = rw (run-checked packet store p reply room) (go (checked packet store p) e)
         where
           go : (v : Verdict) → Answer.refused n place ≡ answerTo v → ran r store reply ≡ outcome v store p reply
-          go (refused m k) e = rw (a, e, q) refl
+          go (refused m k) e = rw (a, e, q, z) refl
           go (accepted c) e = let z : _≡_ {A = ℕ} 0 1 = cc in absurd (omega arith)
 
       pub run-done : (n : ℕ) (r : Ran) (left reply′ : List ℕ) → verdictListed (r .answer) ≡ Answer.accepted (n ∷ [])
           → Answer.accepted (n ∷ []) ≡ answerTo (checked packet store p)
-          → Performed packet store reply p left reply′ (r .pointers) → (store′ : List ℕ) → store′ ≡ counted (cleared left)
+          → (q : Done) → Performed packet store reply p left reply′ q → r .pointers ≡ q .pointers → r .elements ≡ q .elements
+          → (store′ : List ℕ) → store′ ≡ counted (cleared left)
           → ran r store′ reply′ ≡ runPacket packet store p reply
       unfolding ran outcome
-      run-done n r left reply′ a e d store′ q =
+      run-done n r left reply′ a e o d same many store′ q =
           let v = may-run n e .2 ∙ d .judged in
-          rw (run-checked packet store p reply room, v, a, e, ap answerTo v, q, d .stored, d .replied, d .pointed) refl
+          rw (run-checked packet store p reply room, v, a, e, ap answerTo v, q, d .stored, d .replied, same, many, d .pointed, d .moved) refl

@@ -23,11 +23,6 @@ use Rattle.card.specs.Cells.{Cells, cells, filled}
 use Rattle.card.proofs.ElementLaws.{length-part}
 use Rattle.card.proofs.StepBlockLaws.{within-bytes}
 
-pub length-elements : (k : Kind) (s : Space) (n a d : ℕ) (bs : List ℕ) → length (elements k s n a d bs) ≡ n
-unfolding elements
-length-elements k s zero a d bs = refl
-length-elements k s (suc n) a d bs = ap suc (length-elements k s n (a + d) d _)
-
 -- The cells are the burst's steps.
 pub steps-within : (k : Kind) (n a d : ℕ) (bs : List ℕ) → isInfo k ≡ false
     → any pastEnd (elements k registers n a d bs) ≡ false → Cells n a d

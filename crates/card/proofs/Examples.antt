@@ -18,18 +18,18 @@ unfolding Space.row Space.areaRow Bytes.number Bytes.bytesOf Step.isInfo Step.is
 sent words = runBurst words (replicate 65728 0) (replicate (length words) 1)
 
 -- a word missing on a read
-pub one-missing : (sent (0x1000A830 ∷ 7 ∷ 7 ∷ []) .answer ≡ Answer.accepted [])
+pub one-missing : (sent (0x1000A830 ∷ 7 ∷ 7 ∷ []) .answer ≡ Answer.accepted (2 ∷ []))
     × (sent (0x1000A830 ∷ 7 ∷ 7 ∷ []) .room ≡ 0 ∷ 0 ∷ 0 ∷ [])
 unfolding sent
 one-missing = (refl, refl)
 
 -- one of three words written
-pub two-missing : (sent (0x1000B830 ∷ 0x11223344 ∷ []) .answer ≡ Answer.accepted [])
+pub two-missing : (sent (0x1000B830 ∷ 0x11223344 ∷ []) .answer ≡ Answer.accepted (1 ∷ []))
     × (take 8 (drop 0x1000 (sent (0x1000B830 ∷ 0x11223344 ∷ []) .store)) ≡ 0x44 ∷ 0x33 ∷ 0x22 ∷ 0x11 ∷ 0 ∷ 0 ∷ 0 ∷ 0 ∷ [])
 unfolding sent
 two-missing = (refl, refl)
 
-pub header-only : (sent (0x1000A830 ∷ []) .answer ≡ Answer.accepted []) × (sent (0x1000A830 ∷ []) .room ≡ 0 ∷ [])
+pub header-only : (sent (0x1000A830 ∷ []) .answer ≡ Answer.accepted (0 ∷ [])) × (sent (0x1000A830 ∷ []) .room ≡ 0 ∷ [])
 unfolding sent
 header-only = (refl, refl)
 

@@ -18,10 +18,12 @@ use Rattle.packet.proofs.StoreLaws.{length-after, length-values, store-after-ap
 use Rattle.packet.proofs.CommandLaws.{Passed, passes, reply-of-command}
 use Rattle.packet.proofs.InfoLaws.{command-whole}
 use Rattle.packet.proofs.LoopLaws.{At, Turn, at-begin, at-end, at-passed, at-accepted, at-step}
+use Rattle.packet.proofs.CountLaws.{command-elements, few, Paid, paid-start, paid-next}
 use Rattle.card.specs.Inside.{IsAccepted, Performed, laid}
+use Rattle.card.specs.declared.run.Done.{Done}
 
 -- Where the loop stands: the commands before `rest` are done.
-pub record Doing (p : Pointers) (packet store₀ reply₀ store reply : List ℕ) (g : Progress) (place : ℕ) (rest : List ℕ) : Type 0 where
+pub record Doing (p : Pointers) (packet store₀ reply₀ store reply : List ℕ) (g : Progress) (place elements : ℕ) (rest : List ℕ) : Type 0 where
   pub carried : Carried
   pub here : At p packet carried g place rest
   pub fine : IsAccepted (judge p packet)
@@ -32,9 +34,11 @@ pub record Doing (p : Pointers) (packet store₀ reply₀ store reply : List ℕ
       ≡ valuesRead (carried .steps) store₀ ++ drop (length (valuesRead (carried .steps) store₀)) reply₀
   pub count : length (valuesRead (carried .steps) store₀) ≡ g .reply
   pub within : g .reply ≤ limit
+  pub moved : elements ≡ length (carried .steps)
+  pub paid : Paid carried
 
 pub doing-start : (p : Pointers) (packet store reply : List ℕ) → IsAccepted (judge p packet) → length store ≡ storeBytes
-    → length reply ≡ limit → Doing p packet store reply store reply (start p) 0 packet
+    → length reply ≡ limit → Doing p packet store reply store reply (start p) 0 0 packet
 unfolding begin storeAfter valuesRead start
 doing-start p packet store reply a s r =
     record {
@@ -47,6 +51,8 @@ doing-start p packet store reply a s r =
       reply-is = refl;
       count = refl;
       within = omega arith;
+      moved = refl;
+      paid = paid-start p;
     }
 
 is-accepted : (v : Verdict) → IsAccepted v → (c : Carried) × (v ≡ accepted c)
@@ -71,8 +77,8 @@ pub record Ready (g : Progress) (x : Command) (rest store reply : List ℕ) : Ty
       + x .found .fields .count * answered (kindOf (x .found .fields)) (spaceOf (x .found .fields .space))
       ≤ length reply
 
-module _ {p : Pointers} {packet store₀ reply₀ store reply : List ℕ} {g : Progress} {place : ℕ} {rest : List ℕ}
-    (s : Doing p packet store₀ reply₀ store reply g place rest) where
+module _ {p : Pointers} {packet store₀ reply₀ store reply : List ℕ} {g : Progress} {place elements : ℕ} {rest : List ℕ}
+    (s : Doing p packet store₀ reply₀ store reply g place elements rest) where
   pub length-store : length store ≡ length store₀
   length-store = ap length (s .store-is) ∙ length-after _ store₀
 
@@ -83,15 +89,17 @@ module _ {p : Pointers} {packet store₀ reply₀ store reply : List ℕ} {g : P
       let r = s .reply-bytes in
       ap length (s .reply-is) ∙ rw (length-append, length-drop) (omega arith)
 
-  pub doing-end : length rest ≡ 0 → Performed packet store₀ reply₀ p store reply (g .pointers)
+  pub doing-end : length rest ≡ 0 → (q : Done) → q .pointers ≡ g .pointers → q .elements ≡ elements
+      → Performed packet store₀ reply₀ p store reply q
   unfolding progressOf
-  doing-end e =
+  doing-end e q same moved =
       record {
         carried = s .carried;
         judged = at-end rest (s .here) e;
         stored = s .store-is;
         replied = s .reply-is;
-        pointed = ap (λ (g : Progress). g .pointers) (s .here .progress);
+        pointed = same ∙ ap (λ (g : Progress). g .pointers) (s .here .progress);
+        moved = moved ∙ s .moved;
       }
 
   module _ (some : 0 < length rest) (x : Command) (e : x ≡ commandAt g place rest) where
@@ -118,7 +126,8 @@ module _ {p : Pointers} {packet store₀ reply₀ store reply : List ℕ} {g : P
         → store′ ≡ storeAfter (stepsAt (g .pointers) (x .found .fields) rest) store
         → reply′ ≡ laid (g .reply) (valuesRead (stepsAt (g .pointers) (x .found .fields) rest) store) reply
         → Turn p packet (s .carried) (x .next) place k rest
-        × Doing p packet store₀ reply₀ store′ reply′ (x .next) (place + k) (take (length rest - k) (drop k rest))
+        × Doing p packet store₀ reply₀ store′ reply′ (x .next) (place + k) (elements + x .found .fields .count)
+        (take (length rest - k) (drop k rest))
     unfolding commandAt found carry progressOf
     doing-next k q store′ reply′ e₁ e₂ =
         let c = s .carried in
@@ -152,5 +161,22 @@ module _ {p : Pointers} {packet store₀ reply₀ store reply : List ℕ} {g : P
             within =
                 rw (turn .again .progress, reply-append, reply-of-command (c .pointers) (fieldsAt rest) rest)
                 (rw same at (pass .answers));
+            moved =
+                rw (e, length-append, command-elements (c .pointers) (fieldsAt rest) rest)
+                (ap (λ (n : ℕ). n + fieldsAt rest .count) (s .moved));
+            paid = paid-next c rest (pass .present) (s .paid);
           },
         )
+
+    -- the count stays small
+    pub count-small : 256 * (elements + x .found .fields .count) ≤ 127 * (limit + length packet) + 32512
+    unfolding commandAt found progressOf
+    count-small =
+        let q = s .paid in
+        let m = s .moved in
+        let w = s .within in
+        let b = few rest in
+        let r = ap (λ (g : Progress). g .reply) (s .here .progress) in
+        let a = s .here .at in
+        let l = s .here .end in
+        rw e (omega arith)

@@ -25,8 +25,9 @@ use Rattle.packet.specs.Bytes.{number, bytesOf}
 use Rattle.packet.proofs.StoreLaws.{Spared, getD-sets, slice-sets, spared-byte, length-after, length-values}
 use Rattle.packet.proofs.InfoLaws.{accepted-whole}
 use Rattle.packet.proofs.JudgeLaws.{pointers-kept}
+use Rattle.packet.proofs.CountLaws.{few-elements}
 use Rattle.packet.proofs.RefusalLaws.{RefusedAt, refused-in-table, accepted-within, accepted-inside}
-use Rattle.card.specs.Run.{unlockCell, countCell, cleared, countBytes, counted, badState, checked, outcome, runVerdict, runPacket}
+use Rattle.card.specs.Run.{unlockCell, countCell, cleared, countBytes, counted, badState, checked, outcome, runVerdict, runPacket, mostElements}
 
 -- the unlock cell is address 0x1A of space 6
 pub unlock-cell : unlockCell ≡ at (statusWrite 0x1A [])
@@ -145,7 +146,7 @@ module _ (packet store : List ℕ) (p : Pointers) (reply : List ℕ) where
 
   pub other-room-refused : (length reply ≡ limit → ⊥)
       → runPacket packet store p reply
-      ≡ record { answer = Answer.refused 1 0; store = store; reply = reply; pointers = p }
+      ≡ record { answer = Answer.refused 1 0; elements = 0; store = store; reply = reply; pointers = p }
   unfolding runPacket runVerdict outcome answerTo
   other-room-refused h = rw (ne-eqb _ _ h) refl
 
@@ -218,10 +219,10 @@ module _ (packet store : List ℕ) (p : Pointers) (reply : List ℕ) where
   -- A refusal changes nothing lent.
   pub refusal-changes-nothing : (n place : ℕ) → runPacket packet store p reply .answer ≡ Answer.refused n place
       → (runPacket packet store p reply .store ≡ store) × (runPacket packet store p reply .reply ≡ reply)
-      × (runPacket packet store p reply .pointers ≡ p)
+      × (runPacket packet store p reply .pointers ≡ p) × (runPacket packet store p reply .elements ≡ 0)
   unfolding runPacket outcome
   refusal-changes-nothing n place e =
-      rw (refused-verdict n place (runVerdict packet store p reply) e) (refl, refl, refl)
+      rw (refused-verdict n place (runVerdict packet store p reply) e) (refl, refl, refl, refl)
 
   -- A run's refusal is 1 at 0 for another reply room, or else the check's.
   pub data RunRefused (n place : ℕ) : Type 0 where
@@ -249,6 +250,25 @@ module _ (packet store : List ℕ) (p : Pointers) (reply : List ℕ) where
       (λ _ e. let z : _≡_ {A = ℕ} 0 1 = cc in absurd (omega arith))
       (λ _ _ e. let z : _≡_ {A = ℕ} 0 1 = cc in absurd (omega arith))
       (λ state _ e. good-state store p state .0)
+
+  -- Never more than 1,460 elements are moved.
+  pub at-most : runPacket packet store p reply .elements ≤ mostElements
+  unfolding runPacket runVerdict outcome
+  at-most = go (eqb (length reply) limit)
+    where
+      checked-most : outcome (checked packet store p) store p reply .elements ≤ mostElements
+      checked-most =
+          checked-cases packet store p (λ v. outcome v store p reply .elements ≤ mostElements) (λ _. omega arith)
+          (λ _ _. omega arith)
+          (λ _ l. judged (judge p packet) l refl)
+        where
+          judged : (v : Verdict) → length packet ≤ limit → judge p packet ≡ v → outcome v store p reply .elements ≤ mostElements
+          judged (refused n place) l e = omega arith
+          judged (accepted c) l e = few-elements p packet c l e
+
+      go : (b : Bool) → outcome (cond b (checked packet store p) (refused 1 0)) store p reply .elements ≤ mostElements
+      go true = checked-most
+      go false = omega arith
 
   module _ (room : length reply ≡ limit) where
     -- The reply past the answered length is unchanged.

@@ -134,9 +134,9 @@ answers-split write p n m vs us l = ap (λ (t : List ℕ). 0 ∷ t) (sym (replic
 answers-split infoRead p n m vs us l = let z : _≡_ {A = ℕ} 0 1 = cc in absurd (omega arith)
 
 -- the two parts of a burst do what the whole does
-pub record InTwo (all first second : Burst) : Type 0 where
-  pub first-accepted : first .answer ≡ Answer.accepted []
-  pub second-accepted : second .answer ≡ Answer.accepted []
+pub record InTwo (n m : ℕ) (all first second : Burst) : Type 0 where
+  pub first-accepted : first .answer ≡ Answer.accepted (n ∷ [])
+  pub second-accepted : second .answer ≡ Answer.accepted (m ∷ [])
   pub store : second .store ≡ all .store
   pub answer : all .room ≡ first .room ++ drop 1 (second .room)
 
@@ -150,14 +150,14 @@ unfolding runBurst
 runs-as words store room s = rw (sound-passes words store room s)
 
 -- The header alone is a burst of no elements: no cell changes, and the answer is the one word 0.
-pub header-alone : (w : ℕ) (store room : List ℕ) → runBurst (w ∷ []) store room .answer ≡ Answer.accepted []
-    → runBurst (w ∷ []) store room ≡ record { answer = Answer.accepted []; store = store; room = 0 ∷ [] }
+pub header-alone : (w : ℕ) (store room : List ℕ) → runBurst (w ∷ []) store room .answer ≡ Answer.accepted (0 ∷ [])
+    → runBurst (w ∷ []) store room ≡ record { answer = Answer.accepted (0 ∷ []); store = store; room = 0 ∷ [] }
 unfolding burstOutcome burstSteps elements storeAfter valuesRead burstWords isWrite wordsOfBytes
 header-alone w store room e = runs-as (w ∷ []) store room (accepted-sound (w ∷ []) store room e) ∙ go (burstKind (headerOf (firstWord (w ∷ []))))
   where
     go : (k : Kind)
-        → _≡_ {A = Burst} (record { answer = Answer.accepted []; store = store; room = burstWords k 0 [] })
-        (record { answer = Answer.accepted []; store = store; room = 0 ∷ [] })
+        → _≡_ {A = Burst} (record { answer = Answer.accepted (0 ∷ []); store = store; room = burstWords k 0 [] })
+        (record { answer = Answer.accepted (0 ∷ []); store = store; room = 0 ∷ [] })
     go read = refl
     go write = refl
     go infoRead = refl
@@ -256,7 +256,7 @@ module _ (w : ℕ) (xs ys store room : List ℕ) (s : Sound (w ∷ (xs ++ ys)) s
       ∙ reply-of-elements _ _ _ _ _ _
 
   outcomes-split : (room₁ room₂ : List ℕ) → 1 ≤ length ys
-      → InTwo
+      → InTwo (length xs) (length ys)
       (burstOutcome 0 (w ∷ (xs ++ ys)) store room)
       (burstOutcome 0 (w ∷ xs) store room₁)
       (burstOutcome 0 (nextWord w xs ys ∷ ys) (burstOutcome 0 (w ∷ xs) store room₁ .store) room₂)
@@ -265,8 +265,8 @@ module _ (w : ℕ) (xs ys store room : List ℕ) (s : Sound (w ∷ (xs ++ ys)) s
       let v = nextWord w xs ys in
       let same = next-header left in
       record {
-        first-accepted = refl;
-        second-accepted = refl;
+        first-accepted = rw (came-cons w xs) refl;
+        second-accepted = rw (came-cons v ys) refl;
         store =
             rw (came-cons w (xs ++ ys), came-cons w xs, came-cons v ys, same)
             (sym (store-split (headerOf w) w v xs ys store));
@@ -278,9 +278,9 @@ module _ (w : ℕ) (xs ys store room : List ℕ) (s : Sound (w ∷ (xs ++ ys)) s
 -- A burst that is accepted may be sent in two: its header with the first words, and then the rest from the
 -- next address under a header of their own.
 pub in-two : (w : ℕ) (xs ys store room room₁ room₂ : List ℕ)
-    → runBurst (w ∷ (xs ++ ys)) store room .answer ≡ Answer.accepted [] → 1 ≤ length ys
+    → runBurst (w ∷ (xs ++ ys)) store room .answer ≡ Answer.accepted (came (w ∷ (xs ++ ys)) ∷ []) → 1 ≤ length ys
     → length room₁ ≡ suc (length xs) → length room₂ ≡ suc (length ys)
-    → InTwo
+    → InTwo (length xs) (length ys)
     (runBurst (w ∷ (xs ++ ys)) store room)
     (runBurst (w ∷ xs) store room₁)
     (runBurst (nextWord w xs ys ∷ ys) (runBurst (w ∷ xs) store room₁ .store) room₂)

@@ -25,7 +25,8 @@ use Rattle.card.specs.Spi.{readCommand, writeCommand, headerOf, headerWo
 use Rattle.card.specs.Spi.{firstWord, bytesOfWords, wordsOfBytes, burstKind, burstSteps, came, burstRefusals, burstWords}
 use Rattle.card.specs.Spi.{burstOutcome, runBurst}
 use Rattle.card.specs.Cells.{Cells, cells, filled}
-use Rattle.card.proofs.CellLaws.{length-elements, steps-within, cells-fewer, reads-cells, writes-fill, filled-outside}
+use Rattle.packet.proofs.CountLaws.{length-elements}
+use Rattle.card.proofs.CellLaws.{steps-within, cells-fewer, reads-cells, writes-fill, filled-outside}
 use Rattle.card.proofs.StepBlockLaws.{reads-keep}
 
 -- A header in range comes back from its word. The other way holds but for the four unused bits.
@@ -231,7 +232,7 @@ module _ (words store room : List ℕ) (h : Header) (stride : ℕ) (ready : Read
   -- What it leaves, cell by cell.
   pub burst-reads : (h .command ≡ writeCommand → ⊥) → (after : List ℕ)
       → after ≡ 0 ∷ cells (length room - 1) (h .address) stride store
-      → runBurst words store room ≡ record { answer = Answer.accepted []; store = store; room = after }
+      → runBurst words store room ≡ record { answer = Answer.accepted (came words ∷ []); store = store; room = after }
   unfolding runBurst burstOutcome burstWords burstKind burstSteps isWrite
   burst-reads k after e =
       let c = reads-cells (came words) (h .address) stride (bytesOfWords (drop 1 words)) store (ready-sound .whole) ready-within in
@@ -239,7 +240,7 @@ module _ (words store room : List ℕ) (h : Header) (stride : ℕ) (ready : Read
 
   pub burst-writes : h .command ≡ writeCommand → (after room' : List ℕ)
       → after ≡ filled (drop 1 words) (h .address) stride store → room' ≡ replicate (length room) 0
-      → runBurst words store room ≡ record { answer = Answer.accepted []; store = after; room = room' }
+      → runBurst words store room ≡ record { answer = Answer.accepted (came words ∷ []); store = after; room = room' }
   unfolding runBurst burstOutcome burstWords burstKind burstSteps isWrite
   burst-writes k after room' e f =
       let n : came words ≡ length (drop 1 words) = sym (length-drop 1 words) in
@@ -306,7 +307,7 @@ length-burst-words k n values = ap suc (go (isWrite k))
     go false = length-words-of-bytes n values
 
 room-length : (k : ℕ) (words store room : List ℕ) → (k ≡ 0 → Sound words store room)
-    → burstOutcome k words store room .answer ≡ Answer.accepted []
+    → burstOutcome k words store room .answer ≡ Answer.accepted (came words ∷ [])
     → length (burstOutcome k words store room .room) ≡ length words
 unfolding burstOutcome
 room-length zero words store room s e =
@@ -316,7 +317,7 @@ room-length (suc k) words store room s e = let z : _≡_ {A = ℕ} 0 1 = cc in a
 
 -- the answer's words, by kind
 zeros-or-cells : (k : ℕ) (words store room : List ℕ) → (k ≡ 0 → Sound words store room)
-    → burstOutcome k words store room .answer ≡ Answer.accepted []
+    → burstOutcome k words store room .answer ≡ Answer.accepted (came words ∷ [])
     → (burstOutcome k words store room .room ≡ 0 ∷ drop 1 (burstOutcome k words store room .room))
     × (headerIn words .command ≡ writeCommand → burstOutcome k words store room .room ≡ replicate (length words) 0)
 unfolding burstOutcome burstWords burstKind isWrite
@@ -325,7 +326,7 @@ zeros-or-cells zero words store room s e =
 zeros-or-cells (suc k) words store room s e = let z : _≡_ {A = ℕ} 0 1 = cc in absurd (omega arith)
 
 -- A burst is accepted exactly when no rule holds.
-accepted-passed : (k : ℕ) (words store room : List ℕ) → burstOutcome k words store room .answer ≡ Answer.accepted [] → k ≡ 0
+accepted-passed : (k : ℕ) (words store room : List ℕ) → burstOutcome k words store room .answer ≡ Answer.accepted (came words ∷ []) → k ≡ 0
 unfolding burstOutcome
 accepted-passed zero words store room e = refl
 accepted-passed (suc k) words store room e = let z : _≡_ {A = ℕ} 0 1 = cc in absurd (omega arith)
@@ -380,7 +381,7 @@ module _ (words store room : List ℕ) where
       )
 
   -- The answer to an accepted burst has as many words as were sent.
-  pub burst-answer-length : runBurst words store room .answer ≡ Answer.accepted []
+  pub burst-answer-length : runBurst words store room .answer ≡ Answer.accepted (came words ∷ [])
       → length (runBurst words store room .room) ≡ length words
   unfolding runBurst
   burst-answer-length =
@@ -396,19 +397,22 @@ module _ (words store room : List ℕ) where
   unfolding runBurst
   burst-outside = store-outside (first (burstRefusals words store room)) words store room (sound words store room)
 
-  pub accepted-sound : runBurst words store room .answer ≡ Answer.accepted [] → Sound words store room
+  pub accepted-sound : runBurst words store room .answer ≡ Answer.accepted (came words ∷ []) → Sound words store room
   unfolding runBurst
   accepted-sound e = sound words store room (accepted-passed (first (burstRefusals words store room)) words store room e)
 
   -- The answer's first word is 0, and on a write all are.
-  pub burst-answer : runBurst words store room .answer ≡ Answer.accepted []
+  pub burst-answer : runBurst words store room .answer ≡ Answer.accepted (came words ∷ [])
       → (runBurst words store room .room ≡ 0 ∷ drop 1 (runBurst words store room .room))
       × (headerIn words .command ≡ writeCommand → runBurst words store room .room ≡ replicate (length words) 0)
   unfolding runBurst
   burst-answer = zeros-or-cells (first (burstRefusals words store room)) words store room (sound words store room)
 
-  -- An accepted burst does at most 127 elements.
-  pub burst-at-most : runBurst words store room .answer ≡ Answer.accepted []
-      → length (burstSteps (headerIn words) (came words) words) ≤ 127
-  unfolding burstSteps headerOf
-  burst-at-most e = rw length-elements (omega (arith, accepted-sound e .sent))
+  -- The number answered is that of the elements done, and at most 127.
+  pub burst-elements : length (burstSteps (headerIn words) (came words) words) ≡ came words
+  unfolding burstSteps
+  burst-elements = length-elements _ _ _ _ _ _
+
+  pub burst-at-most : runBurst words store room .answer ≡ Answer.accepted (came words ∷ []) → came words ≤ 127
+  unfolding headerOf
+  burst-at-most e = omega (arith, accepted-sound e .sent)

@@ -10,6 +10,7 @@ use Rattle.packet.specs.Step.{storeAfter, valuesRead}
 use Rattle.packet.specs.Command.{rowOf, addressUsed, stride}
 use Rattle.packet.specs.Judge.{Carried, Verdict, refused, accepted, judge}
 use Rattle.card.specs.declared.run.Span.{Span}
+use Rattle.card.specs.declared.run.Done.{Done}
 
 -- n elements of w bytes, d apart from place i on, stand within a list of the given length
 abbrev pub Within : ℕ → ℕ → ℕ → ℕ → ℕ → Type 0
@@ -36,10 +37,11 @@ spanAt p f rest =
     record { at = w .place + addressUsed p f rest; step = stride f; element = w .element; count = f .count }
 
 -- doing all commands of an accepted packet
-pub record Performed (packet store reply : List ℕ) (p : Pointers) (store′ reply′ : List ℕ) (q : Pointers) : Type 0 where
+pub record Performed (packet store reply : List ℕ) (p : Pointers) (store′ reply′ : List ℕ) (q : Done) : Type 0 where
   pub carried : Carried
   pub judged : judge p packet ≡ accepted carried
   pub stored : store′ ≡ storeAfter (carried .steps) store
   pub replied : reply′
       ≡ valuesRead (carried .steps) store ++ drop (length (valuesRead (carried .steps) store)) reply
-  pub pointed : q ≡ carried .pointers
+  pub pointed : q .pointers ≡ carried .pointers
+  pub moved : q .elements ≡ length (carried .steps)

@@ -16,9 +16,10 @@ use Rattle.packet.specs.Judge.{Verdict, refused, accepted, judge}
 use Rattle.packet.specs.Verdict.{answerTo, verdictListed}
 use Rattle.card.specs.declared.run.Ran.{Ran}
 
--- All that a run answers and leaves.
+-- All that a run answers and leaves. `elements`: how many it moved.
 pub record Outcome : Type 0 where
   pub answer : Answer
+  pub elements : ℕ
   pub store : List ℕ
   pub reply : List ℕ
   pub pointers : Pointers
@@ -54,11 +55,12 @@ checked packet store p =
 -- bytes read stand at the front of the reply.
 unfoldable pub outcome : Verdict → List ℕ → Pointers → List ℕ → Outcome
 outcome (refused n place) store p reply =
-    record { answer = answerTo (refused n place); store = store; reply = reply; pointers = p }
+    record { answer = answerTo (refused n place); elements = 0; store = store; reply = reply; pointers = p }
 outcome (accepted c) store p reply =
     let values = valuesRead (c .steps) store in
     record {
       answer = answerTo (accepted c);
+      elements = length (c .steps);
       store = counted (cleared (storeAfter (c .steps) store));
       reply = values ++ drop (length values) reply;
       pointers = c .pointers;
@@ -74,4 +76,8 @@ runPacket packet store p reply = outcome (runVerdict packet store p reply) store
 
 -- what a run of the code answers and leaves
 unfoldable pub ran : Ran → List ℕ → List ℕ → Outcome
-ran r store reply = record { answer = verdictListed (r .answer); store = store; reply = reply; pointers = r .pointers }
+ran r store reply = record { answer = verdictListed (r .answer); elements = r .elements; store = store; reply = reply; pointers = r .pointers }
+
+-- the most elements that a packet can move
+abbrev pub mostElements : ℕ
+mostElements = 1460

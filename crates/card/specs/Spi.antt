@@ -105,13 +105,13 @@ pub record Burst : Type 0 where
 unfoldable pub burstWords : Kind → ℕ → List ℕ → List ℕ
 burstWords k n values = 0 ∷ cond (isWrite k) (replicate n 0) (wordsOfBytes n values)
 
--- An accepted burst does the elements that came.
+-- An accepted burst does the elements that came, and answers how many.
 unfoldable pub burstOutcome : ℕ → List ℕ → List ℕ → List ℕ → Burst
 burstOutcome zero words store room =
     let h = headerOf (firstWord words) in
     let steps = burstSteps h (came words) words in
     record {
-      answer = Answer.accepted [];
+      answer = Answer.accepted (came words ∷ []);
       store = storeAfter steps store;
       room = burstWords (burstKind h) (came words) (valuesRead steps store);
     }
@@ -121,7 +121,7 @@ unfoldable pub runBurst : List ℕ → List ℕ → List ℕ → Burst
 runBurst words store room = burstOutcome (first (burstRefusals words store room)) words store room
 
 unfoldable pub burstListed : BurstAnswer → Answer
-burstListed burst-answer.Accepted = Answer.accepted []
+burstListed (burst-answer.Accepted n) = Answer.accepted (n ∷ [])
 burstListed (burst-answer.Refused r) = refusal r
 
 -- what a burst of the code answers and leaves

@@ -107,13 +107,20 @@ fn do_command(
     }
 }
 
-// Does all commands of a packet that the check accepted, and answers the pointers that they leave.
-fn perform(packet: &[u8], store: &mut [u8], p: Pointers, reply: &mut [u8]) -> Pointers
+// What the commands leave beside store and reply: the pointers, and how many elements were moved.
+struct Done {
+    pointers: Pointers,
+    elements: u64,
+}
+
+// Does all commands of a packet that the check accepted.
+fn perform(packet: &[u8], store: &mut [u8], p: Pointers, reply: &mut [u8]) -> Done
     requires { ⌜ IsAccepted (judge p (now packet)) × (length (now store) ≡ storeBytes) × (length (now reply) ≡ limit) ⌝ }
     ensures { λ r. ⌜ Performed (now (packet .entry)) (now (store .entry)) (now (reply .entry)) p (now (store .exit)) (now (reply .exit)) r ⌝ }
 {
     let mut at = judge::begin(p);
     let mut place: usize = 0;
+    let mut elements: u64 = 0;
     let mut rest = packet;
     while 0 < rest.len() {
         let c = command::command_at(rest, at, place);
@@ -124,14 +131,17 @@ fn perform(packet: &[u8], store: &mut [u8], p: Pointers, reply: &mut [u8]) -> Po
         let k = command::command_bytes(fields);
         at = c.next;
         place += k;
+        elements += fields.count as u64;
         rest = &rest[k..];
     }
-    at.pointers
+    let pointers = at.pointers;
+    Done { pointers, elements }
 }
 
-// The check's answer, and the pointers afterwards.
+// The check's answer, how many elements were moved, and the pointers afterwards.
 pub struct Ran {
     pub answer: Verdict,
+    pub elements: u64,
     pub pointers: Pointers,
 }
 
@@ -160,6 +170,7 @@ pub fn run(packet: &[u8], store: &mut [u8], p: Pointers, reply: &mut [u8]) -> Ra
     if reply.len() != command::LIMIT {
         return Ran {
             answer: check::refused(1),
+            elements: 0,
             pointers: p,
         };
     }
@@ -167,14 +178,17 @@ pub fn run(packet: &[u8], store: &mut [u8], p: Pointers, reply: &mut [u8]) -> Ra
     let Verdict::Accepted(length) = answer else {
         return Ran {
             answer,
+            elements: 0,
             pointers: p,
         };
     };
-    let pointers = perform(packet, store, p, reply);
+    let done = perform(packet, store, p, reply);
     clear_unlock(store);
     count_packet(store);
+    let pointers = done.pointers;
     Ran {
         answer: Verdict::Accepted(length),
+        elements: done.elements,
         pointers,
     }
 }

@@ -33,7 +33,7 @@ pub enum HeaderWritten {
 }
 
 pub enum BurstAnswer {
-    Accepted,
+    Accepted(u64),
     Refused(Refusal),
 }
 
@@ -167,10 +167,11 @@ pub fn burst(words: &[u32], store: &mut [u8], answer: &mut [u32]) -> BurstAnswer
     let h = header_of(first_word(words));
     let from = h.address as usize;
     let stride = stride_of(h);
+    let came = (words.len() - 1) as u64;
     if h.command == WRITE {
         write_cells(words, store, from, stride, answer);
-    } else {
-        read_cells(store, from, stride, answer);
+        return BurstAnswer::Accepted(came);
     }
-    BurstAnswer::Accepted
+    read_cells(store, from, stride, answer);
+    BurstAnswer::Accepted(came)
 }

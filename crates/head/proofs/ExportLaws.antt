@@ -46,7 +46,7 @@ module _ (packet store pointers reply : List ℕ) where
   eight h = rw (eq-eqb _ _ h)
 
   pub not-eight : (length pointers ≡ 8 → ⊥)
-      → runLeft 1 0 store pointers reply ≡ exportRun packet store pointers reply
+      → runLeft 1 0 0 store pointers reply ≡ exportRun packet store pointers reply
   unfolding exportRun
   not-eight h = rw (ne-eqb _ _ h)
 
@@ -58,7 +58,7 @@ module _ (packet store pointers reply : List ℕ) where
       → pointers′ ≡ pointerList (r .pointers)
       → value ≡ valueOf (verdictListed (r .answer))
       → number ≡ numberOf (verdictListed (r .answer))
-      → runLeft number value store′ pointers′ reply′ ≡ exportRun packet store pointers reply
+      → runLeft number value (r .elements) store′ pointers′ reply′ ≡ exportRun packet store pointers reply
   unfolding ofOutcome ran
   ran-left p r number value store′ pointers′ reply′ count given done put v n =
       let e : ofOutcome (ran r store′ reply′) ≡ exportRun packet store pointers reply =

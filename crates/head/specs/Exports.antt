@@ -101,23 +101,24 @@ exportSpi words store room =
 pub record RunExport : Type 0 where
   pub number : ℕ
   pub value : ℕ
+  pub elements : ℕ
   pub store : List ℕ
   pub pointers : List ℕ
   pub reply : List ℕ
 
-abbrev pub runLeft : ℕ → ℕ → List ℕ → List ℕ → List ℕ → RunExport
-runLeft number value store pointers reply =
-    record { number = number; value = value; store = store; pointers = pointers; reply = reply }
+abbrev pub runLeft : ℕ → ℕ → ℕ → List ℕ → List ℕ → List ℕ → RunExport
+runLeft number value elements store pointers reply =
+    record { number = number; value = value; elements = elements; store = store; pointers = pointers; reply = reply }
 
 unfoldable pub ofOutcome : Outcome → RunExport
 ofOutcome o =
-    runLeft (numberOf (o .answer)) (valueOf (o .answer)) (o .store) (pointerList (o .pointers)) (o .reply)
+    runLeft (numberOf (o .answer)) (valueOf (o .answer)) (o .elements) (o .store) (pointerList (o .pointers)) (o .reply)
 
 -- Refused with 1 where there are not eight pointers.
 unfoldable pub exportRun : List ℕ → List ℕ → List ℕ → List ℕ → RunExport
 exportRun packet store pointers reply =
     cond (eqb (length pointers) 8) (ofOutcome (runPacket packet store (pointersOf pointers) reply))
-    (runLeft 1 0 store pointers reply)
+    (runLeft 1 0 0 store pointers reply)
 
 -- A word's fields as seven bytes: write, address, info, space, size, increment, count. A flag is 0 or 1.
 unfoldable pub fieldBytes : Fields → List ℕ

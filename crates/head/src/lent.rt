@@ -120,7 +120,7 @@ pub(crate) fn burst_number(answer: BurstAnswer) -> u32
     ensures { λ r. ⌜ r ≡ numberOf (burstListed answer) ⌝ }
 {
     match answer {
-        BurstAnswer::Accepted => 0,
+        BurstAnswer::Accepted(_) => 0,
         BurstAnswer::Refused(r) => r.number,
     }
 }
@@ -129,7 +129,7 @@ pub(crate) fn burst_value(answer: BurstAnswer) -> u64
     ensures { λ r. ⌜ r ≡ valueOf (burstListed answer) ⌝ }
 {
     match answer {
-        BurstAnswer::Accepted => 0,
+        BurstAnswer::Accepted(n) => n,
         BurstAnswer::Refused(r) => r.place,
     }
 }

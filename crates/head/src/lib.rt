@@ -34,23 +34,26 @@ pub extern "C" fn head_run(
     pointers: &mut [u32],
     reply: &mut [u8],
     value: &mut u64,
+    elements: &mut u64,
 ) -> u32
-    ensures { λ r. ⌜ runLeft r (now (value .exit)) (now (store .exit)) (now (pointers .exit)) (now (reply .exit)) ≡ exportRun (now (packet .entry)) (now (store .entry)) (now (pointers .entry)) (now (reply .entry)) ⌝ }
+    ensures { λ r. ⌜ runLeft r (now (value .exit)) (now (elements .exit)) (now (store .exit)) (now (pointers .exit)) (now (reply .exit)) ≡ exportRun (now (packet .entry)) (now (store .entry)) (now (pointers .entry)) (now (reply .entry)) ⌝ }
 {
     if pointers.len() != 8 {
         *value = 0;
+        *elements = 0;
         return 1;
     }
     let p = lent::pointers_of(pointers);
     let ran = run::run(packet, store, p, reply);
     let after = ran.pointers;
     lent::put_pointers(after, pointers);
+    *elements = ran.elements;
     let answer = ran.answer;
     *value = lent::verdict_value(answer);
     lent::verdict_number(answer)
 }
 
-// Runs one SPI burst on space 0. `value` is 0, or the refusal's place.
+// Runs one SPI burst on space 0. `value` is the number of elements done, or the refusal's place.
 #[no_mangle]
 pub extern "C" fn head_spi(
     words: &[u32],

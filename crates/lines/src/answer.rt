@@ -157,7 +157,7 @@ pub fn ran(answer: Verdict, reply: &[u8]) {
 // A burst's answer, up to the line's end.
 pub fn burst(outcome: BurstAnswer, words: &[u32]) {
     match outcome {
-        BurstAnswer::Accepted => {
+        BurstAnswer::Accepted(_) => {
             text::say(b" accepted:");
             text::spi_words(words);
         }

@@ -13,3 +13,4 @@ pub mod JudgeLaws
 pub mod LoopLaws
 pub mod RefusalLaws
 pub mod InfoLaws
+pub mod CountLaws

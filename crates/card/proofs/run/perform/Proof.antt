@@ -3,18 +3,18 @@ use Rattle.card.proofs.run.perform.Statement.{statement}
 use Rattle.card.proofs.run.perform.Tie as tie
 use native.Mathlib.Omega.{arith}
 use borrow.Author.Needs.{needs}
-use mathlib.Core.Path.{ap, sym, _∙_}
+use mathlib.Core.Path.{refl, ap, sym, _∙_}
 use lib.ListN.{length-take, length-drop}
 use Rattle.packet.specs.Verdict.{start}
 use Rattle.packet.proofs.LoopLaws.{Turn}
-use Rattle.card.proofs.PerformLaws.{Doing, doing-start, doing-end, doing-next, ready, length-store, length-reply}
+use Rattle.card.proofs.PerformLaws.{Doing, doing-start, doing-end, doing-next, count-small, ready, length-store, length-reply}
 
 abbrev Inv-loop : tie.InvT-loop
-Inv-loop packet store₀ reply₀ at₀ place₀ rest₀ store reply at place rest =
-    Doing (at₀ .pointers) packet store₀ reply₀ store reply at place rest
+Inv-loop packet store₀ reply₀ at₀ place₀ elements₀ rest₀ store reply at place elements rest =
+    Doing (at₀ .pointers) packet store₀ reply₀ store reply at place elements rest
 
 abbrev μ-loop : tie.MeasureT-loop
-μ-loop packet store₀ reply₀ at₀ place₀ rest₀ store reply at place rest = length rest
+μ-loop packet store₀ reply₀ at₀ place₀ elements₀ rest₀ store reply at place elements rest = length rest
 
 begin-requires : tie.Need-begin-requires Inv-loop μ-loop
 begin-requires c κs = search needs
@@ -54,20 +54,26 @@ turn c =
 add-place : tie.Need-add-place Inv-loop μ-loop
 add-place c = let t = turn c in let e = c .before .before .before .before .before .before .before .before .before .before .before .before .before .loop .inv .here .end in omega (arith, c .before .before .before .before .before .before .before .before .before .before .before .before .before .before .before .before .before .before .good)
 
+cast-elements : tie.Need-cast-elements Inv-loop μ-loop
+cast-elements c = search needs
+
+add-elements : tie.Need-add-elements Inv-loop μ-loop
+add-elements c = let b = c .before .before .before .before .before .before .before .before .before .before .before .before in let h = count-small (b .before .before .loop .inv) (b .before .loop-test .taken) _ (b .command-at .ensures) in omega (arith, c .before .before .before .before .before .before .before .before .before .before .before .before .before .before .before .before .before .before .before .good)
+
 sub-rest : tie.Need-sub-rest Inv-loop μ-loop
-sub-rest c = turn c .whole
+sub-rest c = turn (c .before) .whole
 
 part-rest-start : tie.Need-part-rest-start Inv-loop μ-loop
-part-rest-start c = turn c .whole
+part-rest-start c = turn (c .before) .whole
 
 part-rest-end : tie.Need-part-rest-end Inv-loop μ-loop
 part-rest-end c = search needs
 
 loop-less : tie.Need-loop-less Inv-loop μ-loop
-loop-less c = let t = turn (c .before) in simp (length-take, length-drop) (omega arith)
+loop-less c = let t = turn (c .before .before) in simp (length-take, length-drop) (omega arith)
 
 loop-again : tie.Need-loop-again Inv-loop μ-loop
-loop-again c = let b = c .before .before .before .before .before .before .before .before .before .before .before .before in doing-next (b .before .before .loop .inv) (b .before .loop-test .taken) _ (b .command-at .ensures) _ (c .before .before .command-bytes .ensures) _ _ (c .before .before .before .before .before .before .before .do-command .ensures .0) (c .before .before .before .before .before .before .before .do-command .ensures .1) .1
+loop-again c = let b = c .before .before .before .before .before .before .before .before .before .before .before .before .before in doing-next (b .before .before .loop .inv) (b .before .loop-test .taken) _ (b .command-at .ensures) _ (c .before .before .before .command-bytes .ensures) _ _ (c .before .before .before .before .before .before .before .before .do-command .ensures .0) (c .before .before .before .before .before .before .before .before .do-command .ensures .1) .1
 
 same-length : tie.Need-same-length Inv-loop μ-loop
 same-length c = length-store (c .before .before .loop .inv)
@@ -77,7 +83,7 @@ same-length-2 c = length-reply (c .before .before .loop .inv) ∙ sym (c .before
 
 returns : tie.Need-returns Inv-loop μ-loop
 unfolding start
-returns c = rw (ap (λ g. g .pointers) (c .before .before .before .begin .ensures)) at (doing-end (c .before .before .loop .inv) (omega arith))
+returns c = rw (ap (λ g. g .pointers) (c .before .before .before .begin .ensures)) at (doing-end (c .before .before .loop .inv) (omega arith) (record { pointers = c .before .before .loop .at .pointers; elements = c .before .before .loop .elements }) refl refl)
 
 pub perform-spec : {M : Type 1} → statement M
 perform-spec =
@@ -91,6 +97,8 @@ perform-spec =
     do-command-requires
     command-bytes-requires
     add-place
+    cast-elements
+    add-elements
     sub-rest
     part-rest-start
     part-rest-end

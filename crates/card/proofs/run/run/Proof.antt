@@ -10,7 +10,7 @@ refused-requires : tie.Need-refused-requires
 refused-requires c κs = search needs
 
 returns : tie.Need-returns
-returns c = other-room _ _ _ _ (c .before .if1 .taken) _ (c .refused .ensures) refl
+returns c = other-room _ _ _ _ (c .before .if1 .taken) _ (c .refused .ensures) refl refl
 
 check-requires : tie.Need-check-requires
 check-requires c κs = search needs
@@ -26,7 +26,7 @@ same-length c = search needs
 
 returns-2 : tie.Need-returns-2
 unfolding verdictListed
-returns-2 c = run-refused _ _ _ _ (c .before .before .before .before .if1 .left) _ _ _ (ap verdictListed (c .enum-told .given .1)) (ap verdictListed (sym (c .enum-told .given .1)) ∙ c .before .before .check .ensures) refl
+returns-2 c = run-refused _ _ _ _ (c .before .before .before .before .if1 .left) _ _ _ (ap verdictListed (c .enum-told .given .1)) (ap verdictListed (sym (c .enum-told .given .1)) ∙ c .before .before .check .ensures) refl refl
 
 perform-requires : tie.Need-perform-requires
 unfolding verdictListed
@@ -48,7 +48,7 @@ same-length-3 c = search needs
 
 returns-3 : tie.Need-returns-3
 unfolding verdictListed
-returns-3 c = run-done _ _ _ _ (c .before .before .before .before .before .before .before .before .before .before .before .before .before .before .before .before .before .before .before .before .if1 .left) (c .before .before .before .before .before .before .before .before .before .before .before .before .before .before .before .before .answer .given .0 .0) _ _ _ refl (ap verdictListed (sym (c .before .before .before .before .before .before .before .before .before .before .before .before .before .before .before .before .answer .given .1)) ∙ c .before .before .before .before .before .before .before .before .before .before .before .before .before .before .before .before .before .before .check .ensures) (c .before .before .before .before .before .before .before .before .before .before .before .before .perform .ensures) _ (c .before .before .count-packet .ensures ∙ ap counted (c .before .before .before .before .before .before .clear-unlock .ensures))
+returns-3 c = run-done _ _ _ _ (c .before .before .before .before .before .before .before .before .before .before .before .before .before .before .before .before .before .before .before .before .before .if1 .left) (c .before .before .before .before .before .before .before .before .before .before .before .before .before .before .before .before .before .answer .given .0 .0) _ _ _ refl (ap verdictListed (sym (c .before .before .before .before .before .before .before .before .before .before .before .before .before .before .before .before .before .answer .given .1)) ∙ c .before .before .before .before .before .before .before .before .before .before .before .before .before .before .before .before .before .before .before .check .ensures) _ (c .before .before .before .before .before .before .before .before .before .before .before .before .before .perform .ensures) refl refl _ (c .before .before .before .count-packet .ensures ∙ ap counted (c .before .before .before .before .before .before .before .clear-unlock .ensures))
 
 pub run-spec : {M : Type 1} → statement M
 run-spec =

@@ -33,20 +33,23 @@ stride-of-requires : tie.Need-stride-of-requires
 stride-of-requires c κs = search needs
 
 -- past the test the burst is sound
-ready : (c : tie.After-struct-known2)
-    → Ready (now (c .before .before .before .before .before .before .before .before .before .before .before .before .args .words)) (now (c .before .before .before .before .before .before .before .before .before .before .before .before .args .store)) (now (c .before .before .before .before .before .before .before .before .before .before .before .before .args .answer)) (c .before .before .before .header-of .result) (c .before .stride-of .result)
+ready : (c : tie.After-stride-of)
+    → Ready (now (c .before .before .before .before .before .before .before .before .before .before .before .args .words)) (now (c .before .before .before .before .before .before .before .before .before .before .before .args .store)) (now (c .before .before .before .before .before .before .before .before .before .before .before .args .answer)) (c .before .before .header-of .result) (c .stride-of .result)
 ready c =
     record {
-      passed = sym (c .before .before .before .before .before .before .refusal-of .ensures) ∙ c .before .before .before .before .before .if1 .left;
-      header = c .before .before .before .header-of .ensures ∙ ap headerOf (c .before .before .before .before .first-word .ensures);
-      apart = c .before .stride-of .ensures .0;
+      passed = sym (c .before .before .before .before .before .refusal-of .ensures) ∙ c .before .before .before .before .if1 .left;
+      header = c .before .before .header-of .ensures ∙ ap headerOf (c .before .before .before .first-word .ensures);
+      apart = c .stride-of .ensures .0;
     }
 
+sub-came : tie.Need-sub-came
+sub-came c = ready-lengths _ _ _ _ _ (ready c) .1
+
 write-cells-requires : tie.Need-write-cells-requires
-write-cells-requires c κs = let r = ready (c .before .before .before) in let l = ready-lengths _ _ _ _ _ r in (l .0, l .1, l .2, c .before .before .before .before .stride-of .ensures .1, ready-within _ _ _ _ _ r)
+write-cells-requires c κs = let r = ready (c .before .before .before .before) in let l = ready-lengths _ _ _ _ _ r in (l .0, l .1, l .2, c .before .before .before .before .stride-of .ensures .1, ready-within _ _ _ _ _ r)
 
 read-cells-requires : tie.Need-read-cells-requires
-read-cells-requires c κs = let r = ready (c .before .before .before) in let l = ready-lengths _ _ _ _ _ r in (l .0, omega (arith, l .1, l .2), c .before .before .before .before .stride-of .ensures .1, rw (← l .2) at (ready-within _ _ _ _ _ r))
+read-cells-requires c κs = let r = ready (c .before .before .before .before) in let l = ready-lengths _ _ _ _ _ r in (l .0, omega (arith, l .1, l .2), c .before .before .before .before .stride-of .ensures .1, rw (← l .2) at (ready-within _ _ _ _ _ r))
 
 same-length-3 : tie.Need-same-length-3
 same-length-3 c = search needs
@@ -56,7 +59,7 @@ same-length-4 c = search needs
 
 returns-2 : tie.Need-returns-2
 unfolding burstLeft burstListed
-returns-2 c = rw (burst-writes _ _ _ _ _ (ready (c .before .before .before .before .before .before .before .before)) (c .before .before .before .before .before .before .before .if2 .taken) _ _ (c .before .before .before .before .write-cells .ensures .0) (c .before .before .before .before .write-cells .ensures .1)) refl
+returns-2 c = rw (burst-writes _ _ _ _ _ (ready (c .before .before .before .before .before .before .before .before .before)) (c .before .before .before .before .before .before .before .if2 .taken) _ _ (c .before .before .before .before .write-cells .ensures .0) (c .before .before .before .before .write-cells .ensures .1)) refl
 
 same-length-5 : tie.Need-same-length-5
 same-length-5 c = search needs
@@ -66,7 +69,7 @@ same-length-6 c = search needs
 
 returns-3 : tie.Need-returns-3
 unfolding burstLeft burstListed
-returns-3 c = rw (burst-reads _ _ _ _ _ (ready (c .before .before .before .before .before .before)) (c .before .before .before .before .before .if2 .left) _ (c .before .before .read-cells .ensures)) refl
+returns-3 c = rw (burst-reads _ _ _ _ _ (ready (c .before .before .before .before .before .before .before)) (c .before .before .before .before .before .if2 .left) _ (c .before .before .read-cells .ensures)) refl
 
 pub burst-spec : {M : Type 1} → statement M
 burst-spec =
@@ -80,11 +83,12 @@ burst-spec =
     header-of-requires
     cast-from
     stride-of-requires
+    sub-came
     write-cells-requires
-    read-cells-requires
     same-length-3
     same-length-4
     returns-2
+    read-cells-requires
     same-length-5
     same-length-6
     returns-3)

@@ -4,19 +4,19 @@ use Rattle.head.proofs.lent.burst_value.Tie as tie
 use Rattle.card.specs.Spi.{burstListed}
 use Rattle.head.specs.Exports.{valueOf}
 
-enum-told : tie.Need-enum-told
-enum-told c = search needs
-
 enum-known-answer : tie.Need-enum-known-answer
 enum-known-answer c = search needs
 
+enum-known-answer-2 : tie.Need-enum-known-answer-2
+enum-known-answer-2 c = search needs
+
 returns : tie.Need-returns
 unfolding valueOf burstListed
-returns c = rw (c .enum-told .given .1)
+returns c = rw (c .before .answer .given .1)
 
 returns-2 : tie.Need-returns-2
 unfolding valueOf burstListed
-returns-2 c = rw (c .before .answer .given .1)
+returns-2 c = rw (c .before .answer2 .given .1)
 
 pub burst-value-spec : {M : Type 1} → statement M
-burst-value-spec = tie.close (tie.spec enum-told enum-known-answer returns returns-2)
+burst-value-spec = tie.close (tie.spec enum-known-answer enum-known-answer-2 returns returns-2)
