@@ -96,7 +96,9 @@ impl Part {
         };
         let (library_store, model_store) = self.store.lend(store_bytes);
         let (library_answer, model_answer) = self.answer.lend(answer_words);
-        let expected = numbers(&burst(words, model_store, model_answer), |()| 0);
+        let expected = numbers(&burst(words, model_store, model_answer), |&elements| {
+            elements
+        });
         let lent = words.to_vec();
         let answer = exports::spi(&lent, library_store, library_answer);
         self.equal(answer, expected).map_err(context)?;
@@ -107,7 +109,7 @@ impl Part {
             let (library_store, _) = self.store.lend(store_bytes);
             let (library_answer, _) = self.answer.lend(answer_words);
             let answer = head::spi(words, library_store, library_answer);
-            let answer = wrapped(&answer, |()| 0);
+            let answer = wrapped(&answer, |&elements| elements);
             self.equal(answer, expected).map_err(context)?;
         }
         self.store.keep();
@@ -137,6 +139,10 @@ impl Part {
 
     fn equal(&mut self, answer: Answer, expected: Answer) -> Result<(), String> {
         same_answer(answer, expected)?;
+        let (number, elements) = answer;
+        if number == 0 && elements > HIGHEST_COUNT.into() {
+            return Err(format!("{elements} elements moved"));
+        }
         let refused = expected.0 != 0;
         self.store.compare(refused)?;
         self.answer.compare(refused)

@@ -23,7 +23,8 @@ pub fn packet(rng: &mut Rng, pointers: [u32; POINTERS]) -> Vec<u8> {
         42..=45 => packet.reply_just_past(),
         46..=55 => packet.eeprom_play(),
         56..=61 => packet.info_play(),
-        62..=75 => packet.faults(),
+        62 => packet.most_elements(),
+        63..=75 => packet.faults(),
         76..=87 => packet.damaged(),
         88..=90 => packet.random_bytes(),
         91..=93 => packet.too_long(),
@@ -234,6 +235,19 @@ impl<'r> Packet<'r> {
         }
     }
 
+    /// 736 reads and 724 writes, which are the most that a packet can hold, or one read more. No
+    /// room is left for addresses, so there are fewer where a pointer doesn't serve.
+    fn most_elements(&mut self) {
+        let more = self.rng.pick(&[0, 0, 0, 1]);
+        let counts = [(127, 127); 5].into_iter().chain([(101 + more, 89)]);
+        for (reads, writes) in counts {
+            // All but the registers have elements of 2 bytes.
+            let area = self.rng.pick(&Area::ALL[1..]);
+            self.at_pointer(false, area, reads);
+            self.at_pointer(true, Space::Status.into(), writes);
+        }
+    }
+
     /// Legal commands with a faulty one among them.
     fn faults(&mut self) {
         for _ in 0..self.rng.between(0, 5) {
@@ -423,6 +437,13 @@ impl<'r> Packet<'r> {
         self.unlocked = value == UNLOCK_VALUE;
     }
 
+    /// Adds a command without address or increment, if the pointer serves.
+    fn at_pointer(&mut self, write: bool, area: Area, count: usize) {
+        if self.pointer_serves(area, write) {
+            self.draft(Draft::new(write, None, area, false, count));
+        }
+    }
+
     fn add_read(&mut self, area: impl Into<Area>, address: u32, count: usize) {
         let area = area.into();
         if self.room() < 4 || count * area.element() as usize > self.reply_room() {
@@ -501,15 +522,19 @@ impl<'r> Packet<'r> {
 
     /// Whether an address is given, and the one used: the pointer where it serves.
     fn given_or_pointer(&mut self, area: Area, write: bool) -> (Option<u16>, u32) {
-        let pointer = self.pointers[area.index()];
-        let serves = pointer.is_multiple_of(area.element())
-            && pointer < area.bytes()
-            && !(write && area.space.read_only_at(pointer));
-        if serves && self.rng.coin() {
-            return (None, pointer);
+        if self.pointer_serves(area, write) && self.rng.coin() {
+            return (None, self.pointers[area.index()]);
         }
         let address = self.address(area, write);
         (Some(address as u16), address)
+    }
+
+    /// Whether an element can be reached at the pointer.
+    fn pointer_serves(&self, area: Area, write: bool) -> bool {
+        let pointer = self.pointers[area.index()];
+        pointer.is_multiple_of(area.element())
+            && pointer < area.bytes()
+            && !(write && area.space.read_only_at(pointer))
     }
 
     /// A legal address: often near a limit, or where others have been.

@@ -52,6 +52,16 @@ pub fn same_answer(answer: Answer, expected: Answer) -> Result<(), String> {
     Err(format!("the library: {answer}; expected: {expected}"))
 }
 
+/// A count that is answered beside the value must be the expected one.
+pub fn same_count(what: &str, count: u64, expected: u64) -> Result<(), String> {
+    if count == expected {
+        return Ok(());
+    }
+    Err(format!(
+        "the library counts {count} {what}; expected: {expected}"
+    ))
+}
+
 fn in_words((number, value): Answer) -> String {
     match number {
         0 => format!("accepted with {value}"),

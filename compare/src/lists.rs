@@ -5,7 +5,7 @@ use crate::lent::Lent;
 use crate::rng::Rng;
 use crate::tally::Tally;
 use crate::trace;
-use crate::{hex, numbers, same_answer, same_input, Answer, Outcome};
+use crate::{hex, numbers, same_answer, same_count, same_input, Answer, Outcome};
 use head::exports;
 use model::area::POINTERS;
 use model::packing::compile;
@@ -91,7 +91,7 @@ impl Part {
         let lent = list.to_vec();
         let (number, bytes, packets) = exports::compile(&lent, library);
         let same = same_answer((number, bytes), expected)
-            .and_then(|()| same_count(packets, expected_packets))
+            .and_then(|()| same_count("packets", packets, expected_packets))
             .and_then(|()| same_input(&lent, list))
             .and_then(|()| out.compare(expected.0 != 0));
         same.map_err(|what| format!("{what}\nroom of {room} bytes\nlist of {}", hex(list)))?;
@@ -172,15 +172,6 @@ fn from_record(list: &[u8], index: u64) -> &[u8] {
 fn names(record: &[u8], address: u32) -> bool {
     let [low, high] = (address as u16).to_le_bytes();
     record[2] == Space::Status.number() && record[4..6] == [low, high]
-}
-
-fn same_count(packets: u64, expected: u64) -> Result<(), String> {
-    if packets == expected {
-        return Ok(());
-    }
-    Err(format!(
-        "the library counts {packets} packets; expected: {expected}"
-    ))
 }
 
 /// The output's length if the list is good, 100 if not.

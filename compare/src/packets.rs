@@ -7,8 +7,10 @@ use crate::lent::Lent;
 use crate::rng::Rng;
 use crate::tally::Tally;
 use crate::{
-    hex, numbers, packet_count, same_answer, same_input, status_cell, wrapped, Answer, Outcome,
+    hex, numbers, packet_count, same_answer, same_count, same_input, status_cell, wrapped, Answer,
+    Outcome,
 };
+use head::exports;
 use model::area::{Area, POINTERS};
 use model::packet::{check, run};
 use model::store::{Space, COUNT_ADDRESS, STORE_BYTES, UNLOCK_ADDRESS, UNLOCK_VALUE};
@@ -16,7 +18,10 @@ use model::PACKET_BYTES;
 
 const ENDINGS: [u32; 13] = [0, 1, 2, 3, 4, 5, 6, 7, 8, 9, 10, 11, 12];
 
-const SITUATIONS: [&str; 23] = [
+/// The most elements that a packet can move.
+const MOST_ELEMENTS: u64 = 1_460;
+
+const SITUATIONS: [&str; 24] = [
     EMPTY,
     FULL_PACKET,
     FULL_REPLY,
@@ -40,6 +45,7 @@ const SITUATIONS: [&str; 23] = [
     COUNT_TO_0,
     COUNT_WRITTEN,
     COUNT_WRITTEN_TO_0,
+    ALL_ELEMENTS,
 ];
 const EMPTY: &str = "empty packet accepted";
 const FULL_PACKET: &str = "packet of 1,472 bytes accepted";
@@ -54,6 +60,7 @@ const HUGE_POINTER: &str = "pointer of 4,294,967,295 refused";
 const COUNT_TO_0: &str = "packet count from 65,535 to 0";
 const COUNT_WRITTEN: &str = "packet count written by the packet";
 const COUNT_WRITTEN_TO_0: &str = "packet count written as 65,535, and 0 afterwards";
+const ALL_ELEMENTS: &str = "1,460 elements moved";
 const CHECK_SITUATIONS: [&str; 2] = [ACCEPTED_BUT_ROOM, REFUSED_AFTER_ROOM];
 const ACCEPTED_BUT_ROOM: &str = "accepted, and run with a wrong reply room";
 const REFUSED_AFTER_ROOM: &str = "refused above 1, and run with a wrong reply room";
@@ -180,13 +187,20 @@ impl Part {
         let (library_pointers, model_pointers) = self.pointers.lend(rooms.pointers);
         let (library_reply, model_reply) = self.reply.lend(rooms.reply);
         let lent = packet.to_vec();
-        let answer = head::run(&lent, library_store, library_pointers, library_reply);
-        let expected = run(packet, model_store, model_pointers, model_reply);
-        let expected = numbers(&expected, |&length| length as u64);
-        let answer = wrapped(&answer, |&length| length as u64);
-        same_answer(answer, expected)?;
+        let (number, value, elements) =
+            exports::run(&lent, library_store, library_pointers, library_reply);
+        let result = run(packet, model_store, model_pointers, model_reply);
+        let expected = numbers(&result, |ran| ran.length as u64);
+        let expected_elements = result.map_or(0, |ran| ran.elements);
+        same_answer((number, value), expected)?;
+        same_count("elements", elements, expected_elements)?;
+        if elements > MOST_ELEMENTS {
+            return Err(format!("{elements} elements moved"));
+        }
         same_input(&lent, packet)?;
         self.compare(expected.0 != 0)?;
+        self.tally
+            .situation(ALL_ELEMENTS, elements == MOST_ELEMENTS);
         Ok(expected)
     }
 

@@ -4,8 +4,9 @@ use crate::cues;
 use crate::lists::packets;
 use crate::rng::Rng;
 use crate::tally::Tally;
-use crate::{hex, packet_count, status_cell, Outcome};
-use model::area::Area;
+use crate::trace;
+use crate::{hex, packet_count, same_count, status_cell, Outcome};
+use model::area::{Area, POINTERS};
 use model::cue::Records;
 use model::store::{Space, COUNT_ADDRESS, STORE_BYTES, UNLOCK_ADDRESS};
 use model::PACKET_BYTES;
@@ -92,11 +93,15 @@ fn run_all(rng: &mut Rng, packets: &[&[u8]], store: &mut [u8]) -> Result<Vec<u8>
         rng.fill(&mut reply);
         let checked = head::check(packet, store, &pointers);
         let ran = head::run(packet, store, &mut pointers, &mut reply);
-        if ran != checked {
+        if ran.map(|ran| ran.length) != checked {
             return Err(format!("packet {number}: run {ran:?}, check {checked:?}"));
         }
-        let length = ran.map_err(|refusal| format!("packet {number} {refusal}"))?;
-        let answered = reply.get(..length).ok_or("a reply longer than its room")?;
+        let ran = ran.map_err(|refusal| format!("packet {number} {refusal}"))?;
+        let commands = trace::commands(packet, [0; POINTERS]);
+        let counts = commands.iter().map(|command| command.fields.count);
+        same_count("elements", ran.elements, counts.map(u64::from).sum())?;
+        let answered = reply.get(..ran.length);
+        let answered = answered.ok_or("a reply longer than its room")?;
         replies.extend_from_slice(answered);
     }
     Ok(replies)

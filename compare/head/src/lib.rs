@@ -12,8 +12,9 @@
 //! // Write 0x12345678 to register 0x1000, then read it back.
 //! let packet = [0x81, 0xC2, 0x00, 0x10, 0x78, 0x56, 0x34, 0x12, 0x81, 0x42, 0x00, 0x10];
 //! assert_eq!(head::check(&packet, &store, &pointers)?, 4);
-//! let length = head::run(&packet, &mut store, &mut pointers, &mut reply)?;
-//! assert_eq!(reply[..length], [0x78, 0x56, 0x34, 0x12]);
+//! let ran = head::run(&packet, &mut store, &mut pointers, &mut reply)?;
+//! assert_eq!(reply[..ran.length], [0x78, 0x56, 0x34, 0x12]);
+//! assert_eq!(ran.elements, 2);
 //!
 //! // A read with count 0 is refused.
 //! let refusal = head::run(&[0x80, 0x02], &mut store, &mut pointers, &mut reply).unwrap_err();
@@ -66,6 +67,15 @@ pub struct Fields {
     pub count: u8,
 }
 
+/// What an accepted packet came to.
+#[derive(Clone, Copy, Debug, PartialEq, Eq)]
+pub struct Ran {
+    /// The reply's length.
+    pub length: usize,
+    /// How many elements were read or written: the sum of the commands' counts, at most 1,460.
+    pub elements: u64,
+}
+
 /// What a compiled list came to.
 #[cfg(feature = "compile")]
 #[derive(Clone, Copy, Debug, PartialEq, Eq)]
@@ -86,7 +96,7 @@ pub fn check(packet: &[u8], store: &[u8], pointers: &[u32]) -> Result<usize, Ref
     Ok(value as usize)
 }
 
-/// Runs one packet on a card and answers the reply's length.
+/// Runs one packet on a card and answers the reply's length and the number of elements moved.
 ///
 /// What [`check`] refuses in the state that the run starts from is refused alike; it need not have
 /// been called. `store` and `pointers` are as there, and are what the next packet starts from.
@@ -98,19 +108,24 @@ pub fn run(
     store: &mut [u8],
     pointers: &mut [u32],
     reply: &mut [u8],
-) -> Result<usize, Refusal> {
-    let (number, value) = exports::run(packet, store, pointers, reply);
+) -> Result<Ran, Refusal> {
+    let (number, value, elements) = exports::run(packet, store, pointers, reply);
     accepted(number, value)?;
-    Ok(value as usize)
+    Ok(Ran {
+        length: value as usize,
+        elements,
+    })
 }
 
-/// Runs one SPI burst on the registers of a card.
+/// Runs one SPI burst on the registers of a card and answers the number of elements moved, at most
+/// 127.
 ///
 /// `words` are the header and as many words as its count says; of a burst that was cut short, those
 /// that came. `store` must have [`STORE_BYTES`], and `answer` as many words as `words`.
-pub fn spi(words: &[u32], store: &mut [u8], answer: &mut [u32]) -> Result<(), Refusal> {
+pub fn spi(words: &[u32], store: &mut [u8], answer: &mut [u32]) -> Result<u64, Refusal> {
     let (number, value) = exports::spi(words, store, answer);
-    accepted(number, value)
+    accepted(number, value)?;
+    Ok(value)
 }
 
 /// Compiles a cue list to packets in `out`, each after a mark and its length.
@@ -212,14 +227,16 @@ pub mod exports {
         (number, value)
     }
 
-    /// Answers the refusal number, and the reply's length or the place.
+    /// Answers the refusal number, the reply's length or the place, and the elements moved, 0 if
+    /// refused.
     pub fn run(
         packet: &[u8],
         store: &mut [u8],
         pointers: &mut [u32],
         reply: &mut [u8],
-    ) -> (u32, u64) {
+    ) -> (u32, u64, u64) {
         let mut value = UNWRITTEN;
+        let mut elements = UNWRITTEN;
         // SAFETY: as in `check`.
         let number = unsafe {
             c::head_run(
@@ -232,12 +249,13 @@ pub mod exports {
                 reply.as_mut_ptr(),
                 reply.len(),
                 &mut value,
+                &mut elements,
             )
         };
-        (number, value)
+        (number, value, elements)
     }
 
-    /// Answers the refusal number, and 0 or the place.
+    /// Answers the refusal number, and the elements moved or the place.
     pub fn spi(words: &[u32], store: &mut [u8], answer: &mut [u32]) -> (u32, u64) {
         let mut value = UNWRITTEN;
         // SAFETY: as in `check`.
@@ -311,6 +329,7 @@ mod c {
             reply: *mut u8,
             reply_len: usize,
             value: *mut u64,
+            elements: *mut u64,
         ) -> u32;
 
         pub fn head_spi(

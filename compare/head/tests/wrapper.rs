@@ -1,6 +1,10 @@
 //! Some of the documents' examples through the wrapper.
 
-use head::{Refusal, PACKET_BYTES, POINTERS, STORE_BYTES};
+use head::{Ran, Refusal, PACKET_BYTES, POINTERS, STORE_BYTES};
+
+fn ran(length: usize, elements: u64) -> Result<Ran, Refusal> {
+    Ok(Ran { length, elements })
+}
 
 #[test]
 fn refused_packet_changes_nothing() {
@@ -14,7 +18,7 @@ fn refused_packet_changes_nothing() {
     });
     assert_eq!(head::check(&packet, &store, &pointers), refused);
     let answer = head::run(&packet, &mut store, &mut pointers, &mut reply);
-    assert_eq!(answer, refused);
+    assert_eq!(answer.map(|ran| ran.length), refused);
     assert!(store.iter().all(|&byte| byte == 0xEE));
     assert_eq!(pointers, [0; POINTERS]);
     assert_eq!(reply, [0xEE; PACKET_BYTES]);
@@ -28,7 +32,7 @@ fn pointers_carry_on() {
     for first in [0, 4] {
         assert_eq!(head::check(&[0x81, 0x02], &store, &pointers), Ok(4));
         let answer = head::run(&[0x81, 0x02], &mut store, &mut pointers, &mut reply);
-        assert_eq!(answer, Ok(4));
+        assert_eq!(answer, ran(4, 1));
         assert_eq!(reply[..5], [first, first + 1, first + 2, first + 3, 0xEE]);
     }
     assert_eq!(pointers, [8, 0, 0, 0, 0, 0, 0, 0]);
@@ -56,7 +60,7 @@ fn wrong_reply_room_is_refused_by_the_run_alone() {
     let refused = |number| Err(Refusal { number, place: 0 });
     assert_eq!(head::check(&packet, &store, &pointers), refused(2));
     let answer = head::run(&packet, &mut store, &mut pointers, &mut reply);
-    assert_eq!(answer, refused(1));
+    assert_eq!(answer.map(|ran| ran.length), refused(1));
 }
 
 #[test]
@@ -67,12 +71,35 @@ fn accepted_packets_are_counted() {
     let read = [0x01, 0x59, 0x0A, 0x00];
     for count in [0xFFFF_u16, 0, 1] {
         let answer = head::run(&read, &mut store, &mut pointers, &mut reply);
-        assert_eq!(answer, Ok(2));
+        assert_eq!(answer, ran(2, 1));
         assert_eq!(reply[..2], count.to_le_bytes());
         let refusal = head::run(&[0], &mut store, &mut pointers, &mut reply).unwrap_err();
         assert_eq!(refusal.to_string(), "refused 3 at 0");
     }
     assert_eq!(store[65_674..65_676], [2, 0]);
+}
+
+#[test]
+fn most_elements() {
+    let mut store = vec![0; STORE_BYTES];
+    let mut pointers = [0; POINTERS];
+    let mut reply = [0; PACKET_BYTES];
+    // 736 reads of the EEPROM and 724 writes of the status space, all at the pointers.
+    let mut packet = Vec::new();
+    for count in [127, 127, 127, 127, 127, 101] {
+        packet.extend([count, 0x09]);
+    }
+    for count in [127, 127, 127, 127, 127, 89] {
+        packet.extend([count, 0x99]);
+        packet.resize(packet.len() + 2 * usize::from(count), 0);
+    }
+    assert_eq!(packet.len(), PACKET_BYTES);
+    let answer = head::run(&packet, &mut store, &mut pointers, &mut reply);
+    assert_eq!(answer, ran(PACKET_BYTES, 1_460));
+    // One element more is refused, and none is reported.
+    packet[10] += 1;
+    let answer = head::exports::run(&packet, &mut store, &mut pointers, &mut reply);
+    assert_eq!(answer, (12, 10, 0));
 }
 
 #[test]
@@ -83,7 +110,7 @@ fn info_areas() {
     // Reads register 4, and then the whole info area of the registers.
     let packet = [0x81, 0x42, 4, 0, 0x88, 0x61, 0, 0];
     let answer = head::run(&packet, &mut store, &mut pointers, &mut reply);
-    assert_eq!(answer, Ok(20));
+    assert_eq!(answer, ran(20, 9));
     let info = [
         0x00, 0x5A, 0x04, 0x81, 0x10, 0, 8, 0, 0, 0, 0, 0, 0, 0, 0, 0,
     ];
@@ -109,12 +136,12 @@ fn burst() {
     let mut answer = [7; 4];
     assert_eq!(
         head::spi(&[0x1000_B830, 1, 2, 3], &mut store, &mut answer),
-        Ok(())
+        Ok(3)
     );
     assert_eq!(answer, [0; 4]);
     assert_eq!(
         head::spi(&[0x1000_A830, 0, 0, 0], &mut store, &mut answer),
-        Ok(())
+        Ok(3)
     );
     assert_eq!(answer, [0, 1, 2, 3]);
     let refusal = head::spi(&[], &mut store, &mut []).unwrap_err();
@@ -127,7 +154,7 @@ fn short_burst() {
     let mut answer = [7; 3];
     assert_eq!(
         head::spi(&[0x1000_A830, 0, 0], &mut store, &mut answer),
-        Ok(())
+        Ok(2)
     );
     assert_eq!(answer, [0, 0x0302_0100, 0x0706_0504]);
     let refusal = head::spi(&[0xFFFC_B820, 1], &mut store, &mut [0; 2]).unwrap_err();

@@ -17,30 +17,42 @@ pub fn check(packet: &[u8], store: &[u8], pointers: &[u32]) -> Result<usize, Ref
     Ok(walk.replied)
 }
 
-/// Runs a packet and answers the reply's length. It refuses what the check refuses, and a wrong
-/// reply room.
+/// What an accepted packet came to.
+#[derive(Clone, Copy, Debug, PartialEq, Eq)]
+pub struct Ran {
+    /// The reply's length.
+    pub length: usize,
+    /// How many elements were read or written.
+    pub elements: u64,
+}
+
+/// Runs a packet. It refuses what the check refuses, and a wrong reply room.
 pub fn run(
     packet: &[u8],
     store: &mut [u8],
     pointers: &mut [u32],
     reply: &mut [u8],
-) -> Result<usize, Refusal> {
+) -> Result<Ran, Refusal> {
     if reply.len() != PACKET_BYTES {
         return Err(Refusal::whole(1));
     }
     check(packet, store, pointers)?;
 
     let mut walk = start(packet, store, pointers)?;
-    let mut replied = 0;
+    let mut ran = Ran {
+        length: 0,
+        elements: 0,
+    };
     while !walk.at_end() {
         let command = walk.command()?;
-        replied += command.run(store, &mut reply[replied..]);
+        ran.length += command.run(store, &mut reply[ran.length..]);
+        ran.elements += u64::from(command.count);
     }
     *status_cell(store, UNLOCK_ADDRESS) = [0; 2];
     let count = status_cell(store, COUNT_ADDRESS);
     *count = u16::from_le_bytes(*count).wrapping_add(1).to_le_bytes();
     pointers.copy_from_slice(&walk.pointers);
-    Ok(replied)
+    Ok(ran)
 }
 
 fn status_cell(store: &mut [u8], address: u32) -> &mut [u8; 2] {

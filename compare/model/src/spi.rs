@@ -44,9 +44,11 @@ fn is_command(command: u8) -> bool {
     command == READ || command == WRITE
 }
 
-/// Runs a burst. `answer` has as many words as are sent. A burst that was cut short, with fewer
-/// words than its header promises, does those that came.
-pub fn burst(words: &[u32], store: &mut [u8], answer: &mut [u32]) -> Result<(), Refusal> {
+/// Runs a burst and answers how many elements were moved.
+///
+/// `answer` has as many words as are sent. A burst that was cut short, with fewer words than its
+/// header promises, does those that came.
+pub fn burst(words: &[u32], store: &mut [u8], answer: &mut [u32]) -> Result<u64, Refusal> {
     if store.len() != STORE_BYTES || answer.len() != words.len() {
         return Err(Refusal::whole(1));
     }
@@ -66,7 +68,7 @@ pub fn burst(words: &[u32], store: &mut [u8], answer: &mut [u32]) -> Result<(), 
             store[at..at + 4].copy_from_slice(&sent.to_le_bytes());
         }
     }
-    Ok(())
+    Ok(words[1..].len() as u64)
 }
 
 /// The header of a good burst, or the lowest number that it is refused with.

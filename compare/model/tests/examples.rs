@@ -1,7 +1,7 @@
 //! The worked examples of the scope document, in its order, and those of the requests after it.
 
 use model::area::POINTERS;
-use model::packet::{check, run};
+use model::packet::{check, run, Ran};
 use model::packing::{compile, Compiled};
 use model::spi::{burst, Header};
 use model::store::STORE_BYTES;
@@ -48,7 +48,12 @@ impl Card {
         check(packet, &self.store, &self.pointers)
     }
 
+    /// Runs a packet and answers the reply's length.
     fn run(&mut self, packet: &[u8]) -> Result<usize, Refusal> {
+        self.run_counted(packet).map(|ran| ran.length)
+    }
+
+    fn run_counted(&mut self, packet: &[u8]) -> Result<Ran, Refusal> {
         run(packet, &mut self.store, &mut self.pointers, &mut self.reply)
     }
 
@@ -312,13 +317,13 @@ fn bursts_move_registers() {
     let mut store = Card::new().store;
     let mut answer = [7; 4];
     // The unused low bits are ignored.
-    burst(&[0x1000_B83F, 1, 2, 3], &mut store, &mut answer).unwrap();
-    assert_eq!(answer, [0; 4]);
+    let moved = burst(&[0x1000_B83F, 1, 2, 3], &mut store, &mut answer);
+    assert_eq!((moved, answer), (Ok(3), [0; 4]));
     assert_eq!(store[0x1000..0x100C], [1, 0, 0, 0, 2, 0, 0, 0, 3, 0, 0, 0]);
-    burst(&[0x1000_A830, 9, 9, 9], &mut store, &mut answer).unwrap();
-    assert_eq!(answer, [0, 1, 2, 3]);
-    burst(&[0x1004_A030, 9, 9, 9], &mut store, &mut answer).unwrap();
-    assert_eq!(answer, [0, 2, 2, 2]);
+    let moved = burst(&[0x1000_A830, 9, 9, 9], &mut store, &mut answer);
+    assert_eq!((moved, answer), (Ok(3), [0, 1, 2, 3]));
+    let moved = burst(&[0x1004_A030, 9, 9, 9], &mut store, &mut answer);
+    assert_eq!((moved, answer), (Ok(3), [0, 2, 2, 2]));
 }
 
 #[test]
@@ -327,20 +332,21 @@ fn short_bursts_do_the_words_that_came() {
     let mut store = fresh.clone();
     let mut answer = [7; 3];
     let register = |at: usize| u32::from_le_bytes(fresh[at..at + 4].try_into().unwrap());
-    burst(&[0x1000_A830, 9, 9], &mut store, &mut answer).unwrap();
-    assert_eq!(answer, [0, register(0x1000), register(0x1004)]);
+    let moved = burst(&[0x1000_A830, 9, 9], &mut store, &mut answer);
+    let cells = [0, register(0x1000), register(0x1004)];
+    assert_eq!((moved, answer), (Ok(2), cells));
     assert!(store == fresh);
 
-    burst(&[0x1000_B830, 1, 2], &mut store, &mut answer).unwrap();
-    assert_eq!(answer, [0; 3]);
+    let moved = burst(&[0x1000_B830, 1, 2], &mut store, &mut answer);
+    assert_eq!((moved, answer), (Ok(2), [0; 3]));
     assert_eq!(store[0x1000..0x1008], [1, 0, 0, 0, 2, 0, 0, 0]);
     assert_eq!(store[0x1008..], fresh[0x1008..]);
 
     let mut answer = [7];
     let header = [0x1000_B830];
     let before = store.clone();
-    burst(&header, &mut store, &mut answer).unwrap();
-    assert_eq!(answer, [0]);
+    let moved = burst(&header, &mut store, &mut answer);
+    assert_eq!((moved, answer), (Ok(0), [0]));
     assert!(store == before);
 }
 
@@ -517,4 +523,49 @@ fn info_pointers_end_at_16() {
         card.pointers[index] += 1;
         assert_eq!(card.run(&[]), Err(Refusal::whole(1)));
     }
+}
+
+#[test]
+fn elements_are_the_sum_of_the_counts() {
+    let mut card = Card::new();
+    // Two writes, three reads and five info reads.
+    let packet = [
+        0x02, 0xD9, 4, 0, 1, 2, 3, 4, 0x83, 0x42, 0, 0, 0x85, 0x61, 0, 0,
+    ];
+    let ran = Ran {
+        length: 22,
+        elements: 10,
+    };
+    assert_eq!(card.run_counted(&packet), Ok(ran));
+    let ran = Ran {
+        length: 0,
+        elements: 0,
+    };
+    assert_eq!(card.run_counted(&[]), Ok(ran));
+}
+
+#[test]
+fn no_packet_moves_more_than_1460_elements() {
+    // At the pointers: reads of the EEPROM and writes of the status space, without increment.
+    let reads = |count: u8| vec![count, 0x09];
+    let writes = |count: u8| [vec![count, 0x99], vec![0; 2 * usize::from(count)]].concat();
+    let mut packet = Vec::new();
+    for count in [127, 127, 127, 127, 127, 101] {
+        packet.extend(reads(count));
+    }
+    for count in [127, 127, 127, 127, 127, 89] {
+        packet.extend(writes(count));
+    }
+    assert_eq!(packet.len(), 1_472);
+    let ran = Ran {
+        length: 1_472,
+        elements: 1_460,
+    };
+    assert_eq!(Card::new().run_counted(&packet), Ok(ran));
+    // One read more, and one write more.
+    packet[10] += 1;
+    Card::refuses(&packet, 12, 10);
+    packet[10] -= 1;
+    packet.extend([0, 0]);
+    Card::refuses(&packet, 2, 0);
 }
