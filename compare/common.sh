@@ -1,7 +1,6 @@
 # For run, bench and callgrind: finds the library and the toolchain, and builds.
 # Needs: here, the folder of this file; name, the command that was called.
 
-features=
 library=$here/../target/staticlib/libhead.a
 
 fail() {
@@ -13,15 +12,14 @@ need() {
     command -v "$1" >/dev/null 2>&1 || fail "no $1 on the path: $2"
 }
 
-# Takes --no-compile and the library's path from the front of the arguments, up to "--". Sets
-# taken to how many there were.
+# Takes the library's path from the front of the arguments, up to "--". Sets taken to how many there
+# were.
 take_options() {
     taken=0
     for word in "$@"; do
         taken=$((taken + 1))
         case $word in
         --) return ;;
-        --no-compile) features=--no-default-features ;;
         -*) fail "no option '$word' here; $usage" ;;
         *) library=$word ;;
         esac
@@ -35,10 +33,9 @@ build() {
     HEAD_LIB_SUM=$(cksum <"$library")
     CARGO_TARGET_DIR=${CARGO_TARGET_DIR:-$here/../target/compare}
     export HEAD_LIB HEAD_LIB_SUM CARGO_TARGET_DIR
-    in_workspace build ||
-        fail "the build failed; a library without head_compile needs --no-compile"
+    in_workspace build || fail "the build failed"
 }
 
 in_workspace() {
-    (cd "$here" && cargo "$1" --quiet --release --offline --locked -j1 --workspace $features)
+    (cd "$here" && cargo "$1" --quiet --release --offline --locked -j1 --workspace)
 }

@@ -70,11 +70,6 @@ impl Tally {
         let situations = situations.map(|(name, _)| format!("{}: {name}", self.part));
         endings.chain(situations).collect()
     }
-
-    fn count(&self, ending: u32) -> Option<u64> {
-        let found = self.endings.iter().find(|(known, _)| *known == ending);
-        found.map(|(_, count)| *count)
-    }
 }
 
 fn named(ending: u32) -> String {
@@ -84,30 +79,14 @@ fn named(ending: u32) -> String {
     }
 }
 
-/// Prints one table: a row for each ending, a column for each part.
-pub fn print_table(tallies: &[Tally]) {
-    let mut endings: Vec<u32> = tallies
-        .iter()
-        .flat_map(|tally| tally.endings.iter().map(|(ending, _)| *ending))
-        .collect();
-    endings.sort_unstable();
-    endings.dedup();
-
-    print_row("ending", tallies.iter().map(|tally| tally.part.to_string()));
-    for ending in endings {
-        let cells = tallies.iter().map(|tally| match tally.count(ending) {
-            Some(count) => count.to_string(),
-            None => "-".to_string(),
-        });
-        print_row(&named(ending), cells);
+/// Prints a line for each part: how often which refusal number was met, 0 for accepted.
+pub fn print_endings(tallies: &[Tally]) {
+    println!("\nendings met, by refusal number; 0 is accepted");
+    for tally in tallies {
+        print!("{:<12}{:>8} ", tally.part, tally.calls);
+        for (ending, count) in &tally.endings {
+            print!("  {ending}: {count}");
+        }
+        println!();
     }
-    print_row("all", tallies.iter().map(|tally| tally.calls.to_string()));
-}
-
-fn print_row(name: &str, cells: impl Iterator<Item = String>) {
-    print!("{name:<12}");
-    for cell in cells {
-        print!("{cell:>10}");
-    }
-    println!();
 }

@@ -207,7 +207,7 @@ pub mod exports {
     use super::c;
 
     /// What a value holds before the call, so that one that was not written is seen.
-    const UNWRITTEN: u64 = u64::MAX;
+    pub(crate) const UNWRITTEN: u64 = u64::MAX;
 
     /// Answers the refusal number, and the reply's length or the place.
     pub fn check(packet: &[u8], store: &[u8], pointers: &[u32]) -> (u32, u64) {

@@ -1,30 +1,38 @@
 //! Runs the comparison. Exits with 1 where anything differs or an ending was never met, and with
 //! 2 where it was called wrongly.
 
-use compare::tally::{print_table, Tally};
+use compare::tally::{print_endings, Tally};
 use compare::Outcome;
 use std::process::ExitCode;
 use std::time::Instant;
 
-const USAGE: &str = "usage: compare [words] [packets] [bursts] [lists] [shows]
-               [--seed N] [--packets N] [--bursts N] [--lists N] [--shows N]
-Without a part named, all are run.";
+const USAGE: &str = "usage: compare [PART]... [--PART N]... [--seed N] [--names]
+Without a part named, all are run; --PART N makes N cases of a part; --names lists the parts.";
 
-#[cfg(feature = "compile")]
-const PARTS: [&str; 5] = ["words", "packets", "bursts", "lists", "shows"];
-#[cfg(not(feature = "compile"))]
-const PARTS: [&str; 3] = ["words", "packets", "bursts"];
+/// A part of the comparison: its name, how many cases it makes unless told otherwise (0 where that
+/// is not to be chosen), and what runs it, given the seed and that number.
+struct Part(&'static str, u64, fn(u64, u64) -> Outcome);
+
+const PARTS: &[Part] = &[
+    Part("words", 0, |seed, _| compare::words::compare(seed)),
+    Part("packets", 500_000, compare::packets::compare),
+    Part("bursts", 200_000, compare::bursts::compare),
+    Part("lists", 30_000, compare::lists::compare),
+    Part("shows", 8_000, compare::shows::compare),
+];
 
 struct Options {
     parts: Vec<&'static str>,
     seed: u64,
-    packets: u64,
-    bursts: u64,
-    lists: u64,
-    shows: u64,
+    /// How many cases each of [`PARTS`] makes.
+    counts: Vec<u64>,
 }
 
 fn main() -> ExitCode {
+    if std::env::args().skip(1).eq(["--names"]) {
+        PARTS.iter().for_each(|part| println!("{}", part.0));
+        return ExitCode::SUCCESS;
+    }
     let options = match options(std::env::args().skip(1)) {
         Ok(options) => options,
         Err(problem) => {
@@ -33,9 +41,6 @@ fn main() -> ExitCode {
         }
     };
     println!("compare: seed {}", options.seed);
-    if cfg!(not(feature = "compile")) {
-        println!("compare: built without compile: lists and shows are NOT compared");
-    }
     match run_all(&options) {
         Ok(tallies) => verdict(&tallies),
         Err(difference) => {
@@ -45,37 +50,38 @@ fn main() -> ExitCode {
     }
 }
 
-fn options(arguments: impl Iterator<Item = String>) -> Result<Options, String> {
+fn options(mut arguments: impl Iterator<Item = String>) -> Result<Options, String> {
     let mut options = Options {
         parts: Vec::new(),
         seed: 1,
-        packets: 500_000,
-        bursts: 200_000,
-        lists: 30_000,
-        shows: 8_000,
+        counts: PARTS.iter().map(|part| part.1).collect(),
     };
-    let mut arguments = arguments;
     while let Some(argument) = arguments.next() {
-        let number = match argument.as_str() {
-            "--seed" => &mut options.seed,
-            "--packets" => &mut options.packets,
-            "--bursts" => &mut options.bursts,
-            "--lists" => &mut options.lists,
-            "--shows" => &mut options.shows,
-            name => {
-                let part = PARTS.iter().find(|part| **part == name);
-                let part = part.ok_or_else(|| format!("no part or option '{name}' here"))?;
-                options.parts.push(part);
+        let unknown = || format!("no part or option '{argument}' here");
+        let number = match argument.strip_prefix("--") {
+            None => {
+                let part = place(&argument).ok_or_else(unknown)?;
+                options.parts.push(PARTS[part].0);
                 continue;
+            }
+            Some("seed") => &mut options.seed,
+            Some(name) => {
+                let counted = place(name).filter(|&part| PARTS[part].1 > 0);
+                &mut options.counts[counted.ok_or_else(unknown)?]
             }
         };
         let value = arguments.next().and_then(|value| value.parse().ok());
         *number = value.ok_or_else(|| format!("{argument} needs a number"))?;
     }
     if options.parts.is_empty() {
-        options.parts = PARTS.to_vec();
+        options.parts = PARTS.iter().map(|part| part.0).collect();
     }
     Ok(options)
+}
+
+/// A part's place in [`PARTS`].
+fn place(name: &str) -> Option<usize> {
+    PARTS.iter().position(|part| part.0 == name)
 }
 
 fn run_all(options: &Options) -> Outcome {
@@ -92,21 +98,12 @@ fn run_all(options: &Options) -> Outcome {
 }
 
 fn run(part: &str, options: &Options) -> Outcome {
-    match part {
-        "words" => compare::words::compare(options.seed),
-        "packets" => compare::packets::compare(options.seed, options.packets),
-        "bursts" => compare::bursts::compare(options.seed, options.bursts),
-        #[cfg(feature = "compile")]
-        "lists" => compare::lists::compare(options.seed, options.lists),
-        #[cfg(feature = "compile")]
-        "shows" => compare::shows::compare(options.seed, options.shows),
-        other => unreachable!("{other} is no part"),
-    }
+    let part = place(part).expect("a part that was named");
+    PARTS[part].2(options.seed, options.counts[part])
 }
 
 fn verdict(tallies: &[Tally]) -> ExitCode {
-    println!();
-    print_table(tallies);
+    print_endings(tallies);
     for tally in tallies {
         tally.print_situations();
     }
