@@ -156,6 +156,30 @@ uint32_t head_compile(const uint8_t *list, size_t list_length,
                       uint8_t *out, size_t out_length,
                       uint64_t *bytes, uint64_t *packets);
 
+/* Saves what can be saved of a damaged cue list. Both rooms are held against what is needed before a byte is written.
+ *
+ *   list     the damaged list, list_length bytes; may be empty
+ *   out      room for the records kept, at least list_length bytes
+ *   log      room for two numbers for each stretch skipped: its start in the list, and its length; log_length counts numbers,
+ *            and an odd one over is unused
+ *   bytes    takes the bytes kept, or the refusal's place
+ *   entries  takes the number of stretches skipped, 0 if refused
+ *
+ * The list is scanned from its start. Where a record stands that head_compile would not refuse with 22 to 24, it is kept, and
+ * the scan goes on behind it; any other byte is skipped, and the scan goes on behind that byte. Skipped bytes that touch are
+ * one stretch.
+ * Accepted: returns 0. The records kept stand in out, in order, and the stretches skipped in log; what is beyond is
+ * unchanged in both. The output is a list that head_compile takes, unless it has more than 100,000 records (21). A good
+ * list comes out unchanged, with no entries. An entry for every seven bytes of the list, and one more, is always room enough.
+ *
+ *   26  out_length below list_length, which is the place
+ *   27  log for fewer entries than needed; their number is the place
+ */
+uint32_t head_salvage(const uint8_t *list, size_t list_length,
+                      uint8_t *out, size_t out_length,
+                      uint64_t *log, size_t log_length,
+                      uint64_t *bytes, uint64_t *entries);
+
 #ifdef __cplusplus
 }
 #endif

@@ -2,6 +2,7 @@
 pub mod Examples
 pub mod Relations
 pub mod RecordLaws
+pub mod OwnBytesLaws
 pub mod PacketLaws
 pub mod PackingLaws
 pub mod OutputLaws

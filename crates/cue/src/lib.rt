@@ -5,7 +5,7 @@ use lbp16::Refusal;
 mod emit;
 mod packer;
 mod plan;
-mod records;
+pub mod records;
 
 ghost use mathlib.Core.Path.{_≡_};
 ghost use Rattle.cue.specs.Demand3.{Demand3};

@@ -1,5 +1,6 @@
 // What C programs call; include/head.h declares it. Each function returns the refusal's number, 0 if accepted.
 mod lent;
+mod repair;
 
 use card::check;
 use card::run;

@@ -19,7 +19,7 @@ use Rattle.report.specs.Report.{said}
 
 -- opens every definition that the examples compute with
 all : Bool
-unfolding Space.spaceOf Space.spaceNumber Space.isAbsent Space.row Space.areaRow Word.bit Word.wordOf Bytes.number Bytes.bytesOf Step.isInfo Step.rowBy Step.carried Step.answered Step.replyBytes Step.isStatus Step.isWrite Step.namesUnlock Step.turned Step.unlocked Rules.first Rules.misaligned Rules.pastEnd Rules.barred Records.markAt Records.recordKind Records.recordBytes Records.recordSpace Records.valueBytes Records.recordStep Records.reserved Records.badElement Records.upperHalf Records.recordRefusals Records.withRecord Records.recordsFrom Records.recordsOf Packing.commandFields Packing.joinAll Packing.commandBytes Packing.packetBytes Packing.elementSteps Packing.commandSteps Packing.packetSteps Packing.unlockCommand Packing.keepsLimits Packing.commandsOf Packing.sameKind Packing.joined Packing.joins Packing.needsUnlock Packing.started Packing.turnBy Packing.turn Packing.packFrom Packing.packets Output.framed Output.outputOf Compile.packed Compile.output Compile.compiledTo Compile.compiled Text.ascii Text.digit Text.decimalFrom Text.decimal Report.refusedLine Report.tooLongLine Report.answerBytes Report.compiledBytes Report.said
+unfolding Space.spaceOf Space.spaceNumber Space.isAbsent Space.row Space.areaRow Word.bit Word.wordOf Bytes.number Bytes.bytesOf Step.isInfo Step.rowBy Step.carried Step.answered Step.replyBytes Step.isStatus Step.isWrite Step.namesUnlock Step.turned Step.unlocked Rules.first Rules.misaligned Rules.pastEnd Rules.barred Records.markAt Records.recordKind Records.recordBytes Records.recordSpace Records.valueBytes Records.recordStep Records.reserved Records.badElement Records.upperHalf Records.recordRefusals Records.withRecord Records.recordsFrom Records.recordsOf Packing.commandFields Packing.joinAll Packing.commandBytes Packing.packetBytes Packing.elementSteps Packing.commandSteps Packing.packetSteps Packing.unlockCommand Packing.keepsLimits Packing.commandsOf Packing.sameKind Packing.joined Packing.joins Packing.needsUnlock Packing.started Packing.turnBy Packing.turn Packing.packFrom Packing.packets Output.framed Output.outputOf Compile.packed Compile.output Compile.compiledTo Compile.compiled Text.ascii Text.digit Text.decimalFrom Text.decimal Text.pairLine Report.refusedLine Report.tooLongLine Report.answerBytes Report.compiledBytes Report.said
 all = true
 
 -- the two bytes "RD" alone

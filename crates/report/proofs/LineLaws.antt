@@ -1,15 +1,19 @@
 -- Laws of what is put into the room.
-use Prim.Native.Nat.{ℕ, suc, _+_, _/_, _%_, _≤_, _<_}
+use Prim.Native.Nat.{ℕ, suc, _+_, _-_, _/_, _%_, _≤_, _<_}
 use mathlib.Core.Path.{_≡_, refl, ap, sym, _∙_}
+use mathlib.Core.Bool.{true, false, _||_}
 use mathlib.Core.List.{List, _++_, append-assoc}
 use native.Mathlib.Omega.{arith}
 use native.Mathlib.Nat.{zero-add}
 use native.Mathlib.Numerals.{add-one}
 use lib.ListN.{length, getD, set, take, drop, length-append}
 use lib.Seq.{sets, drop-cons, length-sets, sets-eq, take-at, drop-at}
+use lib.Dec.{ltb}
+use borrow.Author.Tests.{lt-ltb, le-ltb, ltb-false}
+use Rattle.lbp16.proofs.BoolLaws.{or-false, same-ltb}
 use Rattle.cue.proofs.WriteLaws.{sets-append}
-use Rattle.report.specs.Text.{ascii, digit, decimal}
-use Rattle.report.specs.Report.{refusedLine}
+use Rattle.report.specs.Text.{ascii, digit, decimal, pairLine}
+use Rattle.report.specs.Line.{crowded, pairPut, textPut}
 use Rattle.report.specs.Inside.{Put}
 use Rattle.report.proofs.TextLaws.{decimal-digit, decimal-more}
 
@@ -52,12 +56,52 @@ length-one n h = rw (decimal-digit n h) refl
 pub length-more : (n : ℕ) → 10 ≤ n → length (decimal n) ≡ length (decimal (n / 10)) + 1
 length-more n h = rw (decimal-more n h, length-append) refl
 
--- the parts of the line for a refusal
-pub refusal-put : (n k : ℕ) {l l₁ l₂ l₃ : List ℕ} {a b m : ℕ} → Put (ascii "refused " ++ decimal n) 0 l l₁ a
-    → Put (ascii " at " ++ decimal k) a l₁ l₂ b → Put (ascii "\n") b l₂ l₃ m → Put (refusedLine n k) 0 l l₃ m
-unfolding refusedLine
-refusal-put n k p q r =
-    rw (append-assoc (ascii "refused " ++ decimal n) (ascii " at ") (decimal k)) (put-both (put-both p q) r)
+-- the parts of a line of two numbers
+pub pair-put : (first second : List ℕ) (n k : ℕ) {l l₁ l₂ l₃ : List ℕ} {at a b m : ℕ} → Put (first ++ decimal n) at l l₁ a
+    → Put (second ++ decimal k) a l₁ l₂ b → Put (ascii "\n") b l₂ l₃ m → Put (pairLine first n second k) at l l₃ m
+unfolding pairLine
+pair-put first second n k p q r = rw (append-assoc (first ++ decimal n) second (decimal k)) (put-both (put-both p q) r)
+
+-- a line of two numbers where there is room for it, and where there is not
+module _ (first second room : List ℕ) (at : ℕ) where
+  pub crowded-room : length room < 105 → true ≡ crowded first second at room
+  unfolding crowded
+  crowded-room h = let l : length room < at + 105 = omega arith in rw (lt-ltb (length room) (at + 105) l) refl
+
+  pub crowded-is : 105 ≤ length room
+      → (ltb (length room - 105) at || ltb 32 (length first) || ltb 32 (length second)) ≡ crowded first second at room
+  unfolding crowded
+  crowded-is h =
+      rw (same-ltb (length room - 105) at (length room) (at + 105) (λ k. omega arith) (λ k. omega arith)) refl
+
+  pub room-left : crowded first second at room ≡ false → at + length first + length second + 41 ≤ length room
+  unfolding crowded
+  room-left e =
+      let o = or-false (ltb (length room) (at + 105) || ltb 32 (length first)) (ltb 32 (length second)) e in
+      let q = or-false (ltb (length room) (at + 105)) (ltb 32 (length first)) (o .0) in
+      omega (arith, ltb-false (length room) (at + 105) (q .0), ltb-false 32 (length first) (q .1), ltb-false 32 (length second) (o .1))
+
+  pub pair-fits : (n k m : ℕ) (room₁ : List ℕ) → crowded first second at room ≡ false
+      → Put (pairLine first n second k) at room room₁ m
+      → (m ≡ pairPut first n second k at room .next) × (room₁ ≡ pairPut first n second k at room .room)
+  unfolding pairPut
+  pair-fits n k m room₁ e p = rw e (p .behind, p .written)
+
+  pub pair-crowded : (n k : ℕ) → crowded first second at room ≡ true
+      → (at ≡ pairPut first n second k at room .next) × (room ≡ pairPut first n second k at room .room)
+  unfolding pairPut
+  pair-crowded n k e = rw e (refl, refl)
+
+-- a text where it fits, and where it does not
+module _ (text room : List ℕ) (at : ℕ) where
+  pub text-fits : (m : ℕ) (room₁ : List ℕ) → at + length text ≤ length room → Put text at room room₁ m
+      → (m ≡ textPut text at room .next) × (room₁ ≡ textPut text at room .room)
+  unfolding textPut
+  text-fits m room₁ h p = rw (le-ltb (length room) (at + length text) h) (p .behind, p .written)
+
+  pub text-none : length room < at + length text → (at ≡ textPut text at room .next) × (room ≡ textPut text at room .room)
+  unfolding textPut
+  text-none h = rw (lt-ltb (length room) (at + length text) h) (refl, refl)
 
 -- a text put at the front: it stands there, and behind it all is as before
 pub put-front : {text l l₁ : List ℕ} {n : ℕ} → Put text 0 l l₁ n → (take n l₁ ≡ text) × (drop n l₁ ≡ drop n l)

@@ -6,7 +6,7 @@ use lib.ListN.{length, take, drop, getD, replicate}
 use lib.Dec.{ltb}
 use Rattle.lbp16.specs.Answer.{Answer}
 use Rattle.cue.specs.Compile.{Compiled, compiled}
-use Rattle.report.specs.Text.{ascii, decimal}
+use Rattle.report.specs.Text.{ascii, pairLine}
 
 -- the most bytes that a list may have, and the bytes of the output room
 abbrev pub mostBytes : ℕ
@@ -16,7 +16,7 @@ abbrev pub roomBytes : ℕ
 roomBytes = 32768
 
 unfoldable pub refusedLine : ℕ → ℕ → List ℕ
-refusedLine n k = ascii "refused " ++ decimal n ++ ascii " at " ++ decimal k ++ ascii "\n"
+refusedLine n k = pairLine (ascii "refused ") n (ascii " at ") k
 
 unfoldable pub tooLongLine : List ℕ
 tooLongLine = ascii "too long\n"

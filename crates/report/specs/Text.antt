@@ -22,3 +22,7 @@ decimalFrom (suc fuel) n = cond (ltb n 10) (digit n ∷ []) (decimalFrom fuel (n
 -- a number's decimal digits, the highest first; 0 is one digit
 unfoldable pub decimal : ℕ → List ℕ
 decimal n = decimalFrom n n
+
+-- a line of two numbers, each behind its text
+unfoldable pub pairLine : List ℕ → ℕ → List ℕ → ℕ → List ℕ
+pairLine first n second k = first ++ decimal n ++ second ++ decimal k ++ ascii "\n"

@@ -1,7 +1,7 @@
 // What the compiling program writes: a list's packets, or a line that says why there are none.
 use cue::CompileAnswer;
 
-mod line;
+pub mod line;
 
 ghost use mathlib.Core.Path.{_≡_};
 ghost use Rattle.report.specs.Report.{reportLeft, reportOf};

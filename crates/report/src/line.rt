@@ -1,9 +1,11 @@
 // The lines that stand in place of an output.
 use lbp16::Refusal;
+ghost use mathlib.Core.Path.{_≡_};
 ghost use Prim.Native.Nat.{_+_, _≤_};
 ghost use mathlib.Core.List.{_++_};
 ghost use lib.ListN.{length};
-ghost use Rattle.report.specs.Text.{decimal};
+ghost use Rattle.report.specs.Text.{decimal, pairLine};
+ghost use Rattle.report.specs.Line.{crowded, pairPut, textPut};
 ghost use Rattle.report.specs.Report.{refusedLine, tooLongLine};
 ghost use Rattle.report.specs.Inside.{Put};
 
@@ -18,6 +20,20 @@ fn put_text(out: &mut [u8], at: usize, text: &[u8]) -> usize
         i += 1;
     }
     at + i
+}
+
+// The same where the text fits; else nothing is put.
+pub fn text(out: &mut [u8], at: usize, text: &[u8]) -> usize
+    ensures placed { λ r. ⌜ r ≡ textPut (now (text .entry)) at (now (out .entry)) .next ⌝ }
+    ensures left { λ r. ⌜ now (out .exit) ≡ textPut (now (text .entry)) at (now (out .entry)) .room ⌝ }
+{
+    if out.len() < text.len() {
+        return at;
+    }
+    if out.len() - text.len() < at {
+        return at;
+    }
+    put_text(out, at, text)
 }
 
 fn put_decimal(out: &mut [u8], at: usize, n: u64) -> usize
@@ -43,15 +59,44 @@ fn put_numbered(out: &mut [u8], at: usize, text: &[u8], n: u64) -> usize
     put_decimal(out, next, n)
 }
 
+// A line of two numbers.
+fn put_pair(out: &mut [u8], at: usize, first: &[u8], n: u64, second: &[u8], k: u64) -> usize
+    requires { ⌜ at + length (now first) + length (now second) + 41 ≤ length (now out) ⌝ }
+    ensures { λ r. ⌜ Put (pairLine (now (first .entry)) n (now (second .entry)) k) at (now (out .entry)) (now (out .exit)) r ⌝ }
+{
+    let at = put_numbered(out, at, first, n);
+    let at = put_numbered(out, at, second, k);
+    put_text(out, at, b"\n")
+}
+
+// Whether the longest line of two numbers behind short texts passes the room's end.
+fn no_room(out: &[u8], at: usize, first: &[u8], second: &[u8]) -> bool
+    ensures { λ r. ⌜ r ≡ crowded (now (first .entry)) (now (second .entry)) at (now (out .entry)) ⌝ }
+{
+    if out.len() < 105 {
+        return true;
+    }
+    (out.len() - 105 < at) | (32 < first.len()) | (32 < second.len())
+}
+
+// The same where there is room for the longest such line of short texts; else nothing is put.
+pub fn pair(out: &mut [u8], at: usize, first: &[u8], n: u64, second: &[u8], k: u64) -> usize
+    ensures placed { λ r. ⌜ r ≡ pairPut (now (first .entry)) n (now (second .entry)) k at (now (out .entry)) .next ⌝ }
+    ensures left { λ r. ⌜ now (out .exit) ≡ pairPut (now (first .entry)) n (now (second .entry)) k at (now (out .entry)) .room ⌝ }
+{
+    if no_room(out, at, first, second) {
+        return at;
+    }
+    put_pair(out, at, first, n, second, k)
+}
+
 pub(crate) fn put_refusal(out: &mut [u8], r: Refusal) -> usize
     requires { ⌜ 64 ≤ length (now out) ⌝ }
     ensures { λ n. ⌜ Put (refusedLine (r .number) (r .place)) 0 (now (out .entry)) (now (out .exit)) n ⌝ }
 {
     let number = r.number as u64;
     let place = r.place;
-    let at = put_numbered(out, 0, b"refused ", number);
-    let at = put_numbered(out, at, b" at ", place);
-    put_text(out, at, b"\n")
+    put_pair(out, 0, b"refused ", number, b" at ", place)
 }
 
 pub(crate) fn put_too_long(out: &mut [u8]) -> usize

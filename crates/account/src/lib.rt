@@ -1,0 +1,115 @@
+// What the salvaging program writes: a playable list, or an account of what was skipped.
+use report::line;
+use salvage::scan;
+
+mod lines;
+
+ghost use mathlib.Core.Path.{_≡_};
+ghost use Prim.Native.Nat.{_≤_};
+ghost use lib.ListN.{length};
+ghost use Rattle.account.specs.Account.{answered, fixed, accounted, Said, isLog, wished, mostRead, usageLine, tooLongLine};
+ghost use Rattle.account.specs.Inside.{Taken, Lined};
+
+// The most bytes that a list may have.
+const MOST: usize = 1000000;
+
+// What the program is asked for.
+pub enum Wish {
+    List,
+    Log,
+    Usage,
+}
+
+fn is_log(word: &[u8]) -> bool
+    ensures { λ r. ⌜ r ≡ isLog (now (word .entry)) ⌝ }
+{
+    if word.len() != 5 {
+        return false;
+    }
+    (word[0] == b'-')
+        & (word[1] == b'-')
+        & (word[2] == b'l')
+        & (word[3] == b'o')
+        & (word[4] == b'g')
+}
+
+// `count`: how many words the program was started with, its name among them; `word`: the first behind it.
+pub fn wish_of(count: usize, word: &[u8]) -> Wish
+    ensures { λ r. ⌜ r ≡ wished count (now (word .entry)) ⌝ }
+{
+    if count == 1 {
+        return Wish::List;
+    }
+    if (count == 2) & is_log(word) {
+        return Wish::Log;
+    }
+    Wish::Usage
+}
+
+// The bytes of standard input that are looked at: one more than a list may have, and none where nothing is done with them.
+pub fn most_read(wish: Wish) -> usize
+    ensures { λ r. ⌜ r ≡ mostRead wish ⌝ }
+{
+    match wish {
+        Wish::Usage => 0,
+        Wish::List => 1000001,
+        Wish::Log => 1000001,
+    }
+}
+
+// The playable list.
+fn put_list(input: &[u8], room: &mut [u8], log: &mut [u64]) -> usize
+    requires { ⌜ Taken (now input) (now room) (now log) ⌝ }
+    ensures { λ r. ⌜ Said (fixed (now (input .entry)) (now (room .entry)) (now (log .entry))) (now (room .exit)) (now (log .exit)) r ⌝ }
+{
+    let counts = scan::count(input);
+    salvage::salvage(input, room, log);
+    counts.bytes
+}
+
+// The account, put over the playable list.
+fn put_account(input: &[u8], room: &mut [u8], log: &mut [u64]) -> usize
+    requires { ⌜ Taken (now input) (now room) (now log) ⌝ }
+    ensures { λ r. ⌜ Said (accounted (now (input .entry)) (now (room .entry)) (now (log .entry))) (now (room .exit)) (now (log .exit)) r ⌝ }
+{
+    let counts = scan::count(input);
+    salvage::salvage(input, room, log);
+    let numbers = 2 * counts.entries;
+    let at = lines::put_lines(room, &log[..numbers]);
+    lines::put_kept(room, at, counts.records as u64, counts.bytes as u64)
+}
+
+fn put_usage(room: &mut [u8]) -> usize
+    requires { ⌜ 64 ≤ length (now room) ⌝ }
+    ensures { λ r. ⌜ Lined usageLine 0 (now (room .entry)) (now (room .exit)) r ⌝ }
+{
+    line::text(room, 0, b"usage: cuefix [--log] < LIST\n")
+}
+
+fn put_too_long(room: &mut [u8]) -> usize
+    requires { ⌜ 64 ≤ length (now room) ⌝ }
+    ensures { λ r. ⌜ Lined tooLongLine 0 (now (room .entry)) (now (room .exit)) r ⌝ }
+{
+    line::text(room, 0, b"too long\n")
+}
+
+// The bytes to write stand at the front of the room; how many they are is answered.
+pub fn answer(wish: Wish, input: &[u8], room: &mut [u8; 3715000], log: &mut [u64; 285716]) -> usize
+    ensures { λ r. ⌜ Said (answered wish (now (input .entry)) (now (room .entry)) (now (log .entry))) (now (room .exit)) (now (log .exit)) r ⌝ }
+{
+    match wish {
+        Wish::Usage => put_usage(room),
+        Wish::List => {
+            if MOST < input.len() {
+                return put_too_long(room);
+            }
+            put_list(input, room, log)
+        }
+        Wish::Log => {
+            if MOST < input.len() {
+                return put_too_long(room);
+            }
+            put_account(input, room, log)
+        }
+    }
+}

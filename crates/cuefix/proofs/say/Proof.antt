@@ -1,0 +1,21 @@
+use mathlib.Core.Path.{sym}
+use native.Mathlib.Omega.{arith}
+use lib.Seq.{length-take-le}
+use borrow.Author.Needs.{needs}
+use Rattle.cuefix.proofs.say.Statement.{statement}
+use Rattle.cuefix.proofs.say.Tie as tie
+
+returns : tie.Need-returns
+returns c = search needs
+
+slice-aggregate-answer : tie.Need-slice-aggregate-answer
+slice-aggregate-answer c = sym (length-take-le _ _ (omega arith))
+
+answer-requires : tie.Need-answer-requires
+answer-requires c κs = search needs
+
+returns-2 : tie.Need-returns-2
+returns-2 c = search needs
+
+pub say-spec : {M : Type 1} → statement M
+say-spec = tie.close (tie.spec returns slice-aggregate-answer answer-requires returns-2)
