@@ -13,6 +13,7 @@ pub mod lent;
 pub mod lists;
 pub mod packets;
 pub mod rng;
+pub mod salvage;
 #[cfg(feature = "compile")]
 pub mod shows;
 pub mod tally;

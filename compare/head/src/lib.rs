@@ -25,6 +25,10 @@
 use std::error::Error;
 use std::fmt;
 
+pub mod salvage;
+
+pub use salvage::{salvage, Salvaged};
+
 /// The length that a store must have.
 pub const STORE_BYTES: usize = 65_728;
 

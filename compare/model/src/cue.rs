@@ -64,15 +64,10 @@ impl<'a> Records<'a> {
         if self.read == MOST_RECORDS {
             return Err(21);
         }
-        let bytes = match self.rest {
-            [b'R', b'D', ..] => 6,
-            [b'W', b'R', ..] => 10,
-            _ => return Err(22),
-        };
-        let (record, rest) = self.rest.split_at_checked(bytes).ok_or(22u32)?;
-        self.rest = rest;
+        let (record, bytes) = first(self.rest)?;
+        self.rest = &self.rest[bytes..];
         self.read += 1;
-        check(record)
+        Ok(record)
     }
 }
 
@@ -84,8 +79,24 @@ impl Iterator for Records<'_> {
             return None;
         }
         let place = self.read;
-        Some(self.record().map_err(|number| Refusal { number, place }))
+        let record = self.record();
+        if record.is_err() {
+            self.rest = &[];
+        }
+        Some(record.map_err(|number| Refusal { number, place }))
     }
+}
+
+/// The record at the front of the bytes and its length, or the lowest number from 22 on that it
+/// is refused with.
+pub fn first(bytes: &[u8]) -> Result<(Record, usize), u32> {
+    let length = match bytes {
+        [b'R', b'D', ..] => 6,
+        [b'W', b'R', ..] => 10,
+        _ => return Err(22),
+    };
+    let record = bytes.get(..length).ok_or(22u32)?;
+    check(record).map(|record| (record, length))
 }
 
 /// Takes a whole record of 6 or 10 bytes apart.

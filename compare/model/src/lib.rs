@@ -8,6 +8,7 @@ pub mod area;
 pub mod cue;
 pub mod packet;
 pub mod packing;
+pub mod salvage;
 pub mod spi;
 pub mod store;
 pub mod words;

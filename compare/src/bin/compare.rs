@@ -19,6 +19,7 @@ const PARTS: &[Part] = &[
     Part("bursts", 200_000, compare::bursts::compare),
     Part("lists", 30_000, compare::lists::compare),
     Part("shows", 8_000, compare::shows::compare),
+    Part("salvage", 20_000, compare::salvage::compare),
 ];
 
 struct Options {
