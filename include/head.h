@@ -179,6 +179,71 @@ uint32_t head_salvage(const uint8_t *list, size_t list_length,
                       uint8_t *out, size_t out_length,
                       uint64_t *log, size_t log_length,
                       uint64_t *bytes, uint64_t *entries);
+/* Daughter cards: serial cards whose memory holds a process table, which describes the card's fields.
+ *
+ * In the four functions below, memory is the card's memory from address 0, table the address of its table in it. Fields stand in a
+ * channel's three registers in table order, from the low bit of the first word upward, inputs (read from the card) and outputs
+ * (written to it) apart; a field of both directions stands in both. A value is 64 bits: of a signed field (types 3 and 5) two's
+ * complement of its own width, sign-extended; of any other, pads too, its plain bits.
+ *
+ *   41  the table needs a byte past memory_length (an entry, a record, a string's NUL), or a record, type, mode type or
+ *       direction is not one that the card's manual lists
+ *   42  a field of 0 or more than 64 bits, or more than 96 bits in one direction
+ *   40  see each function
+ *
+ * 41 comes first, wherever in the table it is found, then 42, then 40. */
+
+/* The words of a field. */
+#define HEAD_FIELD_WORDS 7
+
+/* The registers of eight channels, three words each, and how many values a direction has at most. */
+#define HEAD_REGISTERS 24
+#define HEAD_FIELD_VALUES 96
+
+/* How many fields the table has.
+ *
+ *   inputs, outputs  take the number of fields each way, both 0 if refused; a field of both directions counts in both
+ */
+uint32_t head_table(const uint8_t *memory, size_t memory_length, uint16_t table,
+                    uint64_t *inputs, uint64_t *outputs);
+
+/* One field of the table.
+ *
+ *   index  from 0, in table order over both directions; mode records are not counted
+ *   field  room for 7 words: width in bits, type, direction byte (0x00 input, 0x40 both, 0x80 output), the bits of minimum
+ *          and of maximum (IEEE-754), and the places in memory of unit and name, each ended by a NUL
+ *
+ *   40  index past the last field, or field_length is not 7; nothing is written
+ */
+uint32_t head_field(const uint8_t *memory, size_t memory_length, uint16_t table, uint64_t index,
+                    uint32_t *field, size_t field_length);
+
+/* Packs the values of one direction into the registers of one channel.
+ *
+ *   direction  0 inputs, 1 outputs
+ *   channel    0 to 7
+ *   values     one for each field of that direction, in table order
+ *   registers  24 words: three for channel 0, three for channel 1, ..
+ *
+ * Accepted: all 96 bits of the channel are written, those that no field has as 0; the other channels are unchanged.
+ *
+ *   40  direction above 1, channel above 7, registers_length not 24, values_length not the number of fields, or a value
+ *       that does not fit its field; nothing is written
+ */
+uint32_t head_pack(const uint8_t *memory, size_t memory_length, uint16_t table, uint32_t direction, uint32_t channel,
+                   const uint64_t *values, size_t values_length,
+                   uint32_t *registers, size_t registers_length);
+
+/* Unpacks the values of one direction from the registers of one channel, the other way round.
+ *
+ *   values  room for one value for each field of that direction
+ *
+ *   40  direction above 1, channel above 7, registers_length not 24, or values_length not the number of fields; nothing is
+ *       written
+ */
+uint32_t head_unpack(const uint8_t *memory, size_t memory_length, uint16_t table, uint32_t direction, uint32_t channel,
+                     const uint32_t *registers, size_t registers_length,
+                     uint64_t *values, size_t values_length);
 
 #ifdef __cplusplus
 }

@@ -1,6 +1,7 @@
 // What C programs call; include/head.h declares it. Each function returns the refusal's number, 0 if accepted.
 mod lent;
 mod repair;
+pub mod serial;
 
 use card::check;
 use card::run;

@@ -1,0 +1,46 @@
+use Rattle.daughter.proofs.line.fields.Statement.{statement}
+use Rattle.daughter.proofs.line.fields.Tie as tie
+use Rattle.daughter.proofs.line.field.Reads as field-reads
+use borrow.Author.Needs.{needs}
+use Prim.Native.Nat.{_≤_, _-_}
+
+abbrev Inv-loop : tie.InvT-loop
+Inv-loop memory table index₀ index = index ≤ 193
+
+abbrev μ-loop : tie.MeasureT-loop
+μ-loop memory table index₀ index = 193 - index
+
+loop-holds : tie.Need-loop-holds Inv-loop μ-loop
+loop-holds c = search needs
+
+field-requires : tie.Need-field-requires Inv-loop μ-loop
+field-requires c κs = search needs
+
+returns : tie.Need-returns Inv-loop μ-loop
+returns c = search needs
+
+add-index : tie.Need-add-index Inv-loop μ-loop
+add-index c = search needs
+
+loop-less : tie.Need-loop-less Inv-loop μ-loop
+loop-less c = search needs
+
+loop-again : tie.Need-loop-again Inv-loop μ-loop
+loop-again c = search needs
+
+returns-2 : tie.Need-returns-2 Inv-loop μ-loop
+returns-2 c = search needs
+
+pub fields-spec : {M : Type 1} → statement M
+fields-spec =
+    tie.close
+    (tie.spec
+    Inv-loop
+    μ-loop
+    loop-holds
+    field-requires
+    returns
+    add-index
+    loop-less
+    loop-again
+    returns-2)

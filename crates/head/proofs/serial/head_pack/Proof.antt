@@ -1,0 +1,44 @@
+use borrow.Author.Needs.{needs}
+use Rattle.head.proofs.serial.head_pack.Statement.{statement}
+use Rattle.head.proofs.serial.head_pack.Tie as tie
+use Rattle.head.proofs.serial.call_number.Reads as call-number-reads
+use Rattle.head.proofs.serial.direction_of.Reads as direction-of-reads
+use Rattle.head.proofs.serial.table_or_40.Reads as table-or-40-reads
+use Rattle.sserial.proofs.call.pack.Reads as pack-reads
+use mathlib.Core.Path.{ap, _∙_}
+use Rattle.head.specs.Serial.{exported}
+use Rattle.head.proofs.SerialLaws.{numbered, no-pack, pack-by}
+
+table-or-40-requires : tie.Need-table-or-40-requires
+table-or-40-requires c κs = search needs
+
+returns : tie.Need-returns
+returns c = rw (no-pack _ _ _ _ _ (c .before .if1 .taken)) (numbered _ (c .table-or-40 .ensures))
+
+direction-of-requires : tie.Need-direction-of-requires
+direction-of-requires c κs = search needs
+
+pack-requires : tie.Need-pack-requires
+pack-requires c κs = search needs
+
+call-number-requires : tie.Need-call-number-requires
+call-number-requires c κs = search needs
+
+same-length : tie.Need-same-length
+same-length c = search needs
+
+returns-2 : tie.Need-returns-2
+unfolding exported
+returns-2 c = let p = c .before .before .before in rw (pack-by _ _ _ _ _ (p .before .before .before .if1 .left) _ (p .before .before .direction-of .ensures)) (numbered _ (c .call-number .ensures) ∙ ap exported (p .pack .ensures))
+
+pub head-pack-spec : {M : Type 1} → statement M
+head-pack-spec =
+    tie.close
+    (tie.spec
+    table-or-40-requires
+    returns
+    direction-of-requires
+    pack-requires
+    call-number-requires
+    same-length
+    returns-2)

@@ -1,0 +1,33 @@
+use borrow.Author.Needs.{needs}
+use Rattle.head.proofs.serial.head_table.Statement.{statement}
+use Rattle.head.proofs.serial.head_table.Tie as tie
+use Rattle.head.proofs.serial.table_inputs.Reads as table-inputs-reads
+use Rattle.head.proofs.serial.table_number.Reads as table-number-reads
+use Rattle.head.proofs.serial.table_outputs.Reads as table-outputs-reads
+use Rattle.sserial.proofs.survey.survey.Reads as survey-reads
+use Rattle.head.proofs.SerialLaws.{table-exported}
+
+survey-requires : tie.Need-survey-requires
+survey-requires c κs = search needs
+
+table-inputs-requires : tie.Need-table-inputs-requires
+table-inputs-requires c κs = search needs
+
+table-outputs-requires : tie.Need-table-outputs-requires
+table-outputs-requires c κs = search needs
+
+table-number-requires : tie.Need-table-number-requires
+table-number-requires c κs = search needs
+
+returns : tie.Need-returns
+returns c = table-exported _ _ _ _ _ (c .before .before .before .survey .ensures) (c .table-number .ensures) (c .before .before .table-inputs .ensures) (c .before .table-outputs .ensures)
+
+pub head-table-spec : {M : Type 1} → statement M
+head-table-spec =
+    tie.close
+    (tie.spec
+    survey-requires
+    table-inputs-requires
+    table-outputs-requires
+    table-number-requires
+    returns)

@@ -1,0 +1,22 @@
+use borrow.Author.Needs.{needs}
+use Rattle.head.proofs.serial.table_number.Statement.{statement}
+use Rattle.head.proofs.serial.table_number.Tie as tie
+use Rattle.sserial.specs.Calls.{tableListed}
+use Rattle.head.specs.Exports.{numberOf}
+
+enum-told : tie.Need-enum-told
+enum-told c = search needs
+
+enum-known-answer : tie.Need-enum-known-answer
+enum-known-answer c = search needs
+
+returns : tie.Need-returns
+unfolding numberOf tableListed
+returns c = rw (c .enum-told .given .1)
+
+returns-2 : tie.Need-returns-2
+unfolding numberOf tableListed
+returns-2 c = rw (c .before .answer .given .1)
+
+pub table-number-spec : {M : Type 1} → statement M
+table-number-spec = tie.close (tie.spec enum-told enum-known-answer returns returns-2)

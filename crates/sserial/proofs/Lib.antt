@@ -1,0 +1,12 @@
+pub mod ValueLaws
+pub mod LayoutLaws
+pub mod BitLaws
+pub mod ChannelLaws
+pub mod TableLaws
+pub mod SurveyLaws
+pub mod CheckedLaws
+pub mod FieldLaws
+pub mod WalkLaws
+pub mod CallLaws
+pub mod SerialLaws
+pub mod Examples

@@ -1,0 +1,51 @@
+use borrow.Author.Needs.{needs}
+use Rattle.sserial.proofs.call.unpack.Statement.{statement}
+use Rattle.sserial.proofs.call.unpack.Tie as tie
+use Rattle.sserial.proofs.call.fields_of.Reads as fields-of-reads
+use Rattle.sserial.proofs.call.unpack_fields.Reads as unpack-fields-reads
+use Rattle.sserial.proofs.survey.survey.Reads as survey-reads
+use mathlib.Core.Path.{sym}
+use Rattle.sserial.specs.Table.{checkedAt}
+use Rattle.sserial.specs.Calls.{tableListed, callListed}
+use Rattle.sserial.proofs.CheckedLaws.{accepted-checked}
+use Rattle.sserial.proofs.CallLaws.{layable, unpacked-laid, unpacked-refused}
+
+survey-requires : tie.Need-survey-requires
+survey-requires c κs = search needs
+
+enum-known-answer : tie.Need-enum-known-answer
+enum-known-answer c = search needs
+
+enum-known-answer-2 : tie.Need-enum-known-answer-2
+enum-known-answer-2 c = search needs
+
+fields-of-requires : tie.Need-fields-of-requires
+fields-of-requires c κs = search needs
+
+unpack-fields-requires : tie.Need-unpack-fields-requires
+unfolding tableListed checkedAt
+unpack-fields-requires c κs = let b = c .before .before .before in layable _ _ _ _ _ _ (accepted-checked _ _ _ (rw (b .answer2 .given .1) at (b .before .before .survey .ensures))) (c .before .fields-of .ensures)
+
+returns : tie.Need-returns
+unfolding tableListed callListed
+returns c = sym (unpacked-refused _ _ _ _ _ _ _ _ (rw (c .before .answer .given .1) at (c .before .before .before .survey .ensures)))
+
+same-length : tie.Need-same-length
+same-length c = search needs
+
+returns-2 : tie.Need-returns-2
+unfolding tableListed checkedAt
+returns-2 c = let b = c .before .before .before .before .before .before in rw (unpacked-laid _ _ _ _ _ _ (accepted-checked _ _ _ (rw (b .answer2 .given .1) at (b .before .before .survey .ensures)) .laid)) (c .before .before .unpack-fields .ensures)
+
+pub unpack-spec : {M : Type 1} → statement M
+unpack-spec =
+    tie.close
+    (tie.spec
+    survey-requires
+    enum-known-answer
+    enum-known-answer-2
+    fields-of-requires
+    unpack-fields-requires
+    returns
+    same-length
+    returns-2)

@@ -1,0 +1,47 @@
+use borrow.Author.Needs.{needs}
+use Rattle.sserial.proofs.channels.channels_of.Statement.{statement}
+use Rattle.sserial.proofs.channels.channels_of.Tie as tie
+use Rattle.sserial.proofs.channels.row_of.Reads as row-of-reads
+use Rattle.sserial.specs.Inside.{rowsFrom}
+
+row-of-requires : tie.Need-row-of-requires
+row-of-requires c κs = search needs
+
+row-of-requires-2 : tie.Need-row-of-requires-2
+row-of-requires-2 c κs = search needs
+
+row-of-requires-3 : tie.Need-row-of-requires-3
+row-of-requires-3 c κs = search needs
+
+row-of-requires-4 : tie.Need-row-of-requires-4
+row-of-requires-4 c κs = search needs
+
+row-of-requires-5 : tie.Need-row-of-requires-5
+row-of-requires-5 c κs = search needs
+
+row-of-requires-6 : tie.Need-row-of-requires-6
+row-of-requires-6 c κs = search needs
+
+row-of-requires-7 : tie.Need-row-of-requires-7
+row-of-requires-7 c κs = search needs
+
+row-of-requires-8 : tie.Need-row-of-requires-8
+row-of-requires-8 c κs = search needs
+
+returns : tie.Need-returns
+unfolding rowsFrom
+returns c = let d = c .before .before .before in simp (c .row-of8 .ensures, c .before .row-of7 .ensures, c .before .before .row-of6 .ensures, d .row-of5 .ensures, d .before .row-of4 .ensures, d .before .before .row-of3 .ensures, d .before .before .before .row-of2 .ensures, d .before .before .before .before .row-of .ensures)
+
+pub channels-of-spec : {M : Type 1} → statement M
+channels-of-spec =
+    tie.close
+    (tie.spec
+    row-of-requires
+    row-of-requires-2
+    row-of-requires-3
+    row-of-requires-4
+    row-of-requires-5
+    row-of-requires-6
+    row-of-requires-7
+    row-of-requires-8
+    returns)

@@ -1,0 +1,4 @@
+pub mod Table
+pub mod Layout
+pub mod Calls
+pub mod Inside
