@@ -4,6 +4,7 @@
 //! that was answered or lent, byte for byte.
 
 pub mod bursts;
+pub mod cards;
 #[cfg(feature = "compile")]
 pub mod cues;
 pub mod drafts;
@@ -16,6 +17,7 @@ pub mod rng;
 pub mod salvage;
 #[cfg(feature = "compile")]
 pub mod shows;
+pub mod sserial;
 pub mod tally;
 pub mod trace;
 pub mod words;

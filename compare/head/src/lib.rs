@@ -26,6 +26,7 @@ use std::error::Error;
 use std::fmt;
 
 pub mod salvage;
+pub mod sserial;
 
 pub use salvage::{salvage, Salvaged};
 

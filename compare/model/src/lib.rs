@@ -10,6 +10,7 @@ pub mod packet;
 pub mod packing;
 pub mod salvage;
 pub mod spi;
+pub mod sserial;
 pub mod store;
 pub mod words;
 

@@ -20,6 +20,7 @@ const PARTS: &[Part] = &[
     Part("lists", 30_000, compare::lists::compare),
     Part("shows", 8_000, compare::shows::compare),
     Part("salvage", 20_000, compare::salvage::compare),
+    Part("sserial", 60_000, compare::sserial::compare),
 ];
 
 struct Options {
