@@ -179,6 +179,7 @@ uint32_t head_salvage(const uint8_t *list, size_t list_length,
                       uint8_t *out, size_t out_length,
                       uint64_t *log, size_t log_length,
                       uint64_t *bytes, uint64_t *entries);
+
 /* Daughter cards: serial cards whose memory holds a process table, which describes the card's fields.
  *
  * In the four functions below, memory is the card's memory from address 0, table the address of its table in it. Fields stand in a
@@ -244,6 +245,40 @@ uint32_t head_pack(const uint8_t *memory, size_t memory_length, uint16_t table, 
 uint32_t head_unpack(const uint8_t *memory, size_t memory_length, uint16_t table, uint32_t direction, uint32_t channel,
                      const uint32_t *registers, size_t registers_length,
                      uint64_t *values, size_t values_length);
+/* The lamp panel: starts exchanges for the channels in asked, where bit c of a mask stands for channel c.
+ *
+ *   running  the started channels
+ *   mask     takes the mask asked for, only if accepted
+ *
+ *   43  asked names a channel that is not in running; *mask keeps its value
+ */
+uint32_t head_panel_start(uint8_t asked, uint8_t running, uint8_t *mask);
+
+/* The lamp panel: what became of the channels in asked. Channels of faults that were not asked don't count.
+ *
+ *   asked_count   takes how many channels were asked
+ *   failed_count  takes how many of these failed
+ *   lowest        takes the lowest of these that failed, 8 if none did
+ */
+void head_panel_report(uint8_t asked, uint8_t faults,
+                       uint8_t *asked_count, uint8_t *failed_count, uint8_t *lowest);
+
+/* The lamp panel: a field's reading. It is the value as a float, times the maximum, divided by one less than 2 to the
+ * width, in that order, each step rounded once (IEEE 754's binary32, ties to even).
+ *
+ *   kind          the field's data type, as the card's table has it
+ *   width         the field's bits
+ *   minimum_bits, maximum_bits  the bounds, as the bits of a float that stand in the table
+ *   reading_bits  takes the reading, as the bits of a float, only if accepted; it is never a NaN
+ *
+ *   44  kind not 2 (unsigned, not the nonvolatile 4), width not 1 to 24, or value too large for the width
+ *   45  a bound that is an infinity or a NaN, or a maximum not above the minimum
+ *   46  the product is not finite
+ *
+ * Refused: *reading_bits keeps its value.
+ */
+uint32_t head_panel_reading(uint32_t kind, uint32_t width, uint64_t value,
+                            uint32_t minimum_bits, uint32_t maximum_bits, uint32_t *reading_bits);
 
 #ifdef __cplusplus
 }

@@ -2,6 +2,7 @@
 mod lent;
 mod repair;
 pub mod serial;
+mod panels;
 
 use card::check;
 use card::run;

@@ -1,0 +1,3 @@
+pub mod Masks
+pub mod Reading
+pub mod FieldReading
