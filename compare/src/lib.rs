@@ -13,6 +13,7 @@ pub mod lent;
 #[cfg(feature = "compile")]
 pub mod lists;
 pub mod packets;
+pub mod panel;
 pub mod rng;
 pub mod salvage;
 #[cfg(feature = "compile")]

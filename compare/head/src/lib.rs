@@ -25,6 +25,7 @@
 use std::error::Error;
 use std::fmt;
 
+pub mod panel;
 pub mod salvage;
 pub mod sserial;
 

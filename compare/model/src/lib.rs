@@ -8,6 +8,7 @@ pub mod area;
 pub mod cue;
 pub mod packet;
 pub mod packing;
+pub mod panel;
 pub mod salvage;
 pub mod spi;
 pub mod sserial;

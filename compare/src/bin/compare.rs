@@ -21,6 +21,7 @@ const PARTS: &[Part] = &[
     Part("shows", 8_000, compare::shows::compare),
     Part("salvage", 20_000, compare::salvage::compare),
     Part("sserial", 60_000, compare::sserial::compare),
+    Part("panel", 400_000, compare::panel::compare),
 ];
 
 struct Options {
