@@ -279,6 +279,35 @@ void head_panel_report(uint8_t asked, uint8_t faults,
  */
 uint32_t head_panel_reading(uint32_t kind, uint32_t width, uint64_t value,
                             uint32_t minimum_bits, uint32_t maximum_bits, uint32_t *reading_bits);
+/* Compiles a cue list that comes in parts, cut anywhere, inside a record too. Each call takes bytes of the part until a
+ * packet is finished, which it writes; until a fault shows; or until the part ends.
+ *
+ *   state   HEAD_PART_BYTES bytes, all 0 before the first call; each call gets it as the last one left it
+ *   part    the list's bytes that are not yet taken, as many as are there; may be empty
+ *   last    not 0 where the list ends at the part's end
+ *   out     room for one packet with its mark and length, at least HEAD_PART_ROOM bytes
+ *   taken   takes how many bytes of the part were taken; the next call gets those behind them
+ *   value   takes how many bytes were written, 0 or one packet behind the mark "LB" and its length; or the refusal's place
+ *
+ * A packet is finished when a record, wholly taken, opens the next one, or where the list ends. At the list's end call again,
+ * with last not 0 and the bytes not yet taken, until 0 bytes are written: then all packets are out. However the list is cut,
+ * the packets are those that head_compile writes for the whole list.
+ * Refused: number and place are those of the whole list. The byte that shows the fault counts as taken; nothing is written
+ * and the open packet is dropped; packets that came out before stand. Later calls repeat the refusal and take nothing.
+ * After the list's end calls take and write nothing and return 0.
+ *
+ *   26  out_length below HEAD_PART_ROOM; the place is HEAD_PART_ROOM, nothing is taken and the state stays
+ *    1  state_length is not HEAD_PART_BYTES, or the state holds numbers that no call leaves there; place 0, nothing changes
+ *   21 to 24 as head_compile: an unknown mark at the record's second byte, 21 at the first byte behind the
+ *       hundred-thousandth record, a record that is cut at the list's end (22), the others at the record's last byte
+ */
+#define HEAD_PART_BYTES 1504
+#define HEAD_PART_ROOM 1476
+uint32_t head_part(uint8_t *state, size_t state_length,
+                   const uint8_t *part, size_t part_length,
+                   uint32_t last,
+                   uint8_t *out, size_t out_length,
+                   uint64_t *taken, uint64_t *value);
 
 #ifdef __cplusplus
 }

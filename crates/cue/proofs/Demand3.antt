@@ -18,7 +18,7 @@ use Rattle.cue.proofs.AnswerLaws.{Both}
 use Rattle.cue.proofs.RunAll.{run-all}
 
 -- Each packet of the packing rule is accepted and does its steps, so the packets hold the records.
-packed-holds : {css : List (List Command)} {xs : List Step} → Packed css xs → Holds (map packetBytes css) xs
+pub packed-holds : {css : List (List Command)} {xs : List Step} → Packed css xs → Holds (map packetBytes css) xs
 packed-holds Packed.none = Holds.none
 packed-holds (Packed.more {cs} k p) =
     Holds.more (read-back cs (k .sound) (k .short) (k .reply)) (k .mixed) (packed-holds p)

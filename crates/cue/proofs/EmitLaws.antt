@@ -60,7 +60,7 @@ plan-more s (refused n i) css e = let z : _≡_ {A = ℕ} 0 1 = cc in absurd (om
 plan-more s (records xs) css e = let q : onward s xs ≡ css = cc in rw (← q) (onward-more s xs)
 
 -- where the parts of a packet stand
-space-le : (s : Space) → spaceNumber s ≤ 7
+pub space-le : (s : Space) → spaceNumber s ≤ 7
 unfolding spaceNumber
 space-le registers = omega arith
 space-le eeprom = omega arith
@@ -86,11 +86,16 @@ shape-next none x u = shape-some _ _ u
 shape-next (some css o) x u = shape-some _ _ u
 
 -- an element stands whole in its record
-element-whole : (k : Kind) (s : Space) → 6 + carried k s ≤ recordBytes k
+pub element-whole : (k : Kind) (s : Space) → 6 + carried k s ≤ recordBytes k
 unfolding recordBytes isWrite carried
 element-whole read s = omega arith
 element-whole write s = omega (arith, carried-le write s)
 element-whole infoRead s = omega arith
+
+-- the element's bytes in the list
+pub bytes-are : (rest : List ℕ) → take (carriedBy (recordAt rest)) (drop 6 rest) ≡ recordStep rest .bytes
+unfolding recordStep valueBytes carriedBy recordAt recordKind recordSpace
+bytes-are rest = sym (take-take _ 4 (drop 6 rest) (carried-le _ _))
 
 -- the room keeps its length
 room-length : (css : List (List Command)) (room : List ℕ) → length (outputBytes css) ≤ length room
@@ -144,10 +149,6 @@ module _ (list rest room : List ℕ) (index : ℕ) (s : Progress) (p : Packer) (
         count = g .count;
         packet = g .packet;
       })
-
-  bytes-are : take (carriedBy (recordAt rest)) (drop 6 rest) ≡ recordStep rest .bytes
-  unfolding recordStep valueBytes carriedBy recordAt recordKind recordSpace
-  bytes-are = sym (take-take _ 4 (drop 6 rest) (carried-le _ _))
 
   pub element-next : 6 + carriedBy (recordAt rest) ≤ length rest
   element-next =

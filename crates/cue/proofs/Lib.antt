@@ -17,3 +17,4 @@ pub mod WriteLaws
 pub mod RoomLaws
 pub mod EmitLaws
 pub mod AnswerLaws
+pub mod GuardedLaws

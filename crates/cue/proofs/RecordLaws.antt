@@ -115,7 +115,7 @@ pub record RefusedRecord (list : List ℕ) (n index : ℕ) : Type 0 where
   pub few : index ≤ mostRecords
 
 -- the table's numbers rise from 21 to 24
-record-rising : (index : ℕ) (rest : List ℕ) → Rising 20 24 (recordRefusals index rest)
+pub record-rising : (index : ℕ) (rest : List ℕ) → Rising 20 24 (recordRefusals index rest)
 unfolding recordRefusals
 record-rising index rest = omega arith
 

@@ -6,3 +6,4 @@ pub mod Play
 pub mod Demand3
 pub mod Examples
 pub mod Inside
+pub mod Guarded

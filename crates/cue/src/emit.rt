@@ -96,7 +96,7 @@ fn put_element(out: &mut [u8], at: usize, rest: &[u8], n: usize)
 }
 
 // One record, of which the packer is already told; `n`: the bytes of its element.
-fn put_record(out: &mut [u8], q: Packer, rest: &[u8], n: usize)
+pub(crate) fn put_record(out: &mut [u8], q: Packer, rest: &[u8], n: usize)
     requires { ⌜ Placed q (length (now out)) × (n ≤ 4) × (6 + n ≤ length (now rest)) ⌝ }
     ensures { λ _. ⌜ now (out .exit) ≡ wrote q (take n (drop 6 (now (rest .entry)))) (now (out .entry)) ⌝ }
 {

@@ -3,7 +3,8 @@
 use lbp16::Refusal;
 
 mod emit;
-mod packer;
+pub mod guarded;
+pub mod packer;
 mod plan;
 pub mod records;
 

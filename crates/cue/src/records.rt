@@ -16,9 +16,9 @@ ghost use Rattle.cue.specs.Inside.{recordAt};
 // The most records that a list may have.
 pub const MOST: usize = 100000;
 
-const READ_MARK: u16 = 0x4452;
+pub const READ_MARK: u16 = 0x4452;
 
-const WRITE_MARK: u16 = 0x5257;
+pub const WRITE_MARK: u16 = 0x5257;
 
 // What a record names, a write's value apart.
 pub struct Record {

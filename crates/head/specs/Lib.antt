@@ -1,3 +1,4 @@
 pub mod Exports
 pub mod Serial
 pub mod Panels
+pub mod Part

@@ -1,8 +1,9 @@
 // What C programs call; include/head.h declares it. Each function returns the refusal's number, 0 if accepted.
 mod lent;
+mod panels;
+pub mod part;
 mod repair;
 pub mod serial;
-mod panels;
 
 use card::check;
 use card::run;

@@ -15,7 +15,7 @@ use Rattle.cue.specs.declared.CompileAnswer.{CompileAnswer}
 use Rattle.cue.proofs.CompileLaws.{accepted-list, answers-alike, outputs-alike, room-beyond, refusal-changes-nothing}
 use Rattle.cue.proofs.CompileLaws.{accepted-exactly, output-at-front}
 use Rattle.cue.proofs.OutputLaws.{output-bound}
-use Rattle.report.specs.Report.{said, reportLeft, reportOf, compiledBytes, answerBytes, refusedLine, tooLongLine, mostBytes, roomBytes}
+use Rattle.report.specs.Report.{said, reportLeft, reportOf, lineLeft, compiledBytes, answerBytes, refusedLine, tooLongLine, mostBytes, roomBytes}
 use Rattle.report.specs.Inside.{Put}
 use Rattle.report.proofs.LineLaws.{put-front}
 
@@ -39,17 +39,34 @@ front-said list before after n count front beyond =
     let whole : after ≡ said list ++ drop n before = sym (take-append-drop n after) ∙ rw (front, beyond) refl in
     rw (whole, count) refl
 
--- what is reported stands in the room
-pub report-fits : (list before after : List ℕ) (n : ℕ) → Reported list before after n → n ≤ length after
-unfolding reportOf
-report-fits list before after n e =
-    let count : n ≡ length (said list) = ap (λ r. r .count) e in
-    let room : length after ≡ length (said list) + length (drop (length (said list)) before) =
-    ap (λ r. length (r .room)) e ∙ length-append (said list) _ in
+pub line-left : (text before after : List ℕ) (n : ℕ) → Put text 0 before after n → reportLeft n after ≡ lineLeft text before
+unfolding lineLeft
+line-left text before after n p =
+    let (front, beyond) = put-front p in
+    let count : n ≡ length text = omega (arith, p .behind) in
+    let whole : after ≡ text ++ drop n before = sym (take-append-drop n after) ∙ rw (front, beyond) refl in
+    rw (whole, count) refl
+
+-- a text at the front stands in the room
+pub line-fits : (text before after : List ℕ) (n : ℕ) → reportLeft n after ≡ lineLeft text before → n ≤ length after
+unfolding lineLeft
+line-fits text before after n e =
+    let count : n ≡ length text = ap (λ r. r .count) e in
+    let room : length after ≡ length text + length (drop (length text) before) =
+    ap (λ r. length (r .room)) e ∙ length-append text _ in
     omega arith
 
+pub line-front : (text before after : List ℕ) (n : ℕ) → reportLeft n after ≡ lineLeft text before → n ≡ length (take n after)
+line-front text before after n e = sym (length-take-le n after (line-fits text before after n e))
+
+-- what is reported stands in the room
+pub report-fits : (list before after : List ℕ) (n : ℕ) → Reported list before after n → n ≤ length after
+unfolding reportOf lineLeft
+report-fits list before after n e = line-fits (said list) before after n e
+
 pub report-front : (list before after : List ℕ) (n : ℕ) → Reported list before after n → n ≡ length (take n after)
-report-front list before after n e = sym (length-take-le n after (report-fits list before after n e))
+unfolding reportOf lineLeft
+report-front list before after n e = line-front (said list) before after n e
 
 -- a line put at the front of the room
 pub line-reported : (list room after text : List ℕ) (n : ℕ) → said list ≡ text → Put text 0 room after n

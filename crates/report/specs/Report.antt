@@ -44,3 +44,7 @@ reportLeft n room = record { count = n; room = room }
 
 unfoldable pub reportOf : List ℕ → List ℕ → Report
 reportOf list room = reportLeft (length (said list)) (said list ++ drop (length (said list)) room)
+
+-- a text at the front of a room
+unfoldable pub lineLeft : List ℕ → List ℕ → Report
+lineLeft text room = reportLeft (length text) (text ++ drop (length text) room)

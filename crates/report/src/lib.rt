@@ -1,10 +1,11 @@
 // What the compiling program writes: a list's packets, or a line that says why there are none.
 use cue::CompileAnswer;
+use lbp16::Refusal;
 
 pub mod line;
 
 ghost use mathlib.Core.Path.{_≡_};
-ghost use Rattle.report.specs.Report.{reportLeft, reportOf};
+ghost use Rattle.report.specs.Report.{reportLeft, reportOf, lineLeft, refusedLine};
 
 // The most bytes that a list may have.
 const MOST: usize = 16384;
@@ -20,4 +21,11 @@ pub fn report(input: &[u8], room: &mut [u8; 32768]) -> usize
         CompileAnswer::Compiled { bytes, packets: _ } => bytes,
         CompileAnswer::Refused(r) => line::put_refusal(room, r),
     }
+}
+
+// The line that names a refusal, at the front of the room.
+pub fn refusal_line(r: Refusal, room: &mut [u8; 64]) -> usize
+    ensures { λ n. ⌜ reportLeft n (now (room .exit)) ≡ lineLeft (refusedLine (r .number) (r .place)) (now (room .entry)) ⌝ }
+{
+    line::put_refusal(room, r)
 }

@@ -1,0 +1,38 @@
+use borrow.Author.Needs.{needs}
+use Rattle.cue.proofs.guarded.put.Statement.{statement}
+use Rattle.cue.proofs.guarded.put.Tie as tie
+use mathlib.Core.Path.{sym, _∙_}
+use Rattle.cue.proofs.GuardedLaws.{placed-within, put-kept, put-is}
+
+record-at-requires : tie.Need-record-at-requires
+record-at-requires c κs = search needs
+
+carried-requires : tie.Need-carried-requires
+carried-requires c κs = search needs
+
+outside-requires : tie.Need-outside-requires
+outside-requires c κs = search needs
+
+returns : tie.Need-returns
+returns c = let b = c .before .before in put-kept _ _ _ _ _ _ (b .before .record-at .ensures) (b .carried .ensures .0) (c .before .outside .ensures) (c .if1 .taken)
+
+put-record-requires : tie.Need-put-record-requires
+put-record-requires c κs = let b = c .before .before in let (placed, whole) = placed-within _ _ _ _ (sym (b .outside .ensures) ∙ c .before .if1 .left) in (placed, b .before .carried .ensures .1, whole)
+
+same-length : tie.Need-same-length
+same-length c = search needs
+
+returns-2 : tie.Need-returns-2
+returns-2 c = let b = c .before .before .before .before .before in put-is _ _ _ _ _ _ (b .before .before .record-at .ensures) (b .before .carried .ensures .0) (b .outside .ensures) _ (c .before .before .before .before .if1 .left) (c .before .before .put-record .ensures)
+
+pub put-spec : {M : Type 1} → statement M
+put-spec =
+    tie.close
+    (tie.spec
+    record-at-requires
+    carried-requires
+    outside-requires
+    returns
+    put-record-requires
+    same-length
+    returns-2)

@@ -1,0 +1,46 @@
+// A cue list that comes in parts, for C.
+use parts::PartAnswer;
+ghost use mathlib.Core.Path.{_≡_};
+ghost use Rattle.parts.specs.Parts.{partListed};
+ghost use Rattle.parts.specs.Promise.{Promised};
+ghost use Rattle.head.specs.Exports.{numberOf, valueOf};
+ghost use Rattle.head.specs.Part.{partLeft, exportPart};
+
+fn part_number(answer: PartAnswer) -> u32
+    ensures { λ r. ⌜ r ≡ numberOf (partListed answer) ⌝ }
+{
+    match answer {
+        PartAnswer::Accepted(_) => 0,
+        PartAnswer::Refused(r) => r.number,
+    }
+}
+
+fn part_value(answer: PartAnswer) -> u64
+    ensures { λ r. ⌜ r ≡ valueOf (partListed answer) ⌝ }
+{
+    match answer {
+        PartAnswer::Accepted(n) => n as u64,
+        PartAnswer::Refused(r) => r.place,
+    }
+}
+
+// Takes bytes of a part until a packet is finished and written, a fault shows or the part ends. `last` is not 0 where the
+// list ends at the part's end. `taken` is how many bytes were taken; `value` the bytes written, or the refusal's place.
+#[no_mangle]
+pub extern "C" fn head_part(
+    state: &mut [u8],
+    part: &[u8],
+    last: u32,
+    out: &mut [u8],
+    taken: &mut u64,
+    value: &mut u64,
+) -> u32
+    ensures compiled { λ r. ⌜ partLeft r (now (taken .exit)) (now (value .exit)) (now (state .exit)) (now (out .exit)) ≡ exportPart (now (state .entry)) (now (part .entry)) last (now (out .entry)) ⌝ }
+    ensures promise { λ r. ⌜ Promised (now (state .exit)) ⌝ }
+{
+    let done = parts::compile_part(state, part, last != 0, out);
+    let answer = done.answer;
+    *taken = done.taken as u64;
+    *value = part_value(answer);
+    part_number(answer)
+}

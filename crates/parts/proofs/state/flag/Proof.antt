@@ -1,0 +1,14 @@
+use Rattle.lbp16.specs.Word.{bit}
+use Rattle.parts.proofs.state.flag.Statement.{statement}
+use Rattle.parts.proofs.state.flag.Tie as tie
+
+returns : tie.Need-returns
+unfolding bit
+returns c = rw (c .if1 .taken)
+
+returns-2 : tie.Need-returns-2
+unfolding bit
+returns-2 c = rw (c .if1 .left)
+
+pub flag-spec : {M : Type 1} → statement M
+flag-spec = tie.close (tie.spec returns returns-2)

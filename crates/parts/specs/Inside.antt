@@ -1,0 +1,97 @@
+-- The inside of private functions' contracts.
+use Prim.Native.Nat.{ℕ, _+_, _*_, _≤_}
+use mathlib.Core.Path.{_≡_}
+use mathlib.Core.List.{List, [], _++_}
+use lib.ListN.{length, take, drop, getD}
+use mathlib.Core.Bool.{Bool, true}
+use Rattle.packet.specs.Step.{Step}
+use Rattle.packet.specs.Rules.{first}
+use Rattle.cue.specs.Records.{mostRecords, recordRefusals}
+use Rattle.cue.specs.Inside.{Progress, summary}
+use Rattle.cue.specs.declared.packer.Packer.{Packer}
+use Rattle.parts.specs.Taking.{State, Taken, Stopped}
+use Rattle.parts.specs.State.{Held, heldTurned, written, packerAt, pairAt, standingOf, frameRoom}
+use Rattle.parts.specs.declared.state.Kept.{Kept}
+use Rattle.parts.specs.declared.take.Stop.{Stop}
+
+-- a state's numbers, and what they mean beside the open packet's room
+unfoldable pub keptAt : List ℕ → Kept
+keptAt s =
+    record {
+      stands = getD s 0 0;
+      collected = getD s 1 0;
+      bytes = take 10 (drop 2 s);
+      index = pairAt s 12 + 65536 * pairAt s 14;
+      packer = packerAt s;
+    }
+
+unfoldable pub meant : Kept → List ℕ → State Held
+meant k room =
+    record {
+      standing = standingOf (k .stands);
+      index = k .index;
+      collected = take (k .collected) (k .bytes);
+      packet = record { packer = k .packer; room = room };
+    }
+
+-- a packer of one open packet, whose frame is at the front of its room
+pub record Alone (p : Packer) : Type 0 where
+  pub frame : p .frame ≡ 0
+  pub end : p .end ≡ 4 + p .packet
+  pub packets : p .packets ≡ 1
+  pub packet : p .packet ≤ 1472
+  pub some : 1 ≤ p .packet
+  pub word : p .word ≤ p .packet
+  pub reply : p .reply ≤ 1472
+  pub count : p .count ≤ 127
+  pub space : p .space ≤ 7
+
+-- or of none
+pub data Sound (p : Packer) : Type 0 where
+  unopened : (u : Bool) → p ≡ summary Progress.none u → Sound p
+  alone : Alone p → Sound p
+
+-- what keeps a call's work in range
+pub record Ranged (k : Kept) : Type 0 where
+  pub stands : k .stands ≤ 24
+  pub collected : k .collected ≤ 9
+  pub bytes : length (k .bytes) ≡ 10
+  pub index : k .index ≤ mostRecords
+  pub sound : Sound (k .packer)
+
+-- the rooms of the open packet and for what is handed out
+pub record Rooms (room out : List ℕ) : Type 0 where
+  pub held : length room ≡ frameRoom
+  pub lent : frameRoom ≤ length out
+
+-- a record that no rule refuses, at some index
+pub record Good (rest : List ℕ) : Type 0 where
+  pub index : ℕ
+  pub passes : first (recordRefusals index rest) ≡ 0
+
+-- The packer `q` after a record, with `n` bytes handed out.
+pub record Turns (h : Held) (x : Step) (q : Packer) (n : ℕ) (out old : List ℕ) : Type 0 where
+  pub packet : heldTurned h x .packet ≡ written q x (h .room)
+  pub count : n ≡ length (heldTurned h x .out)
+  pub handed : out ≡ heldTurned h x .out ++ drop (length (heldTurned h x .out)) old
+  pub lent : length out ≡ length old
+  pub alone : Alone q
+  pub behind : q .unlock ≡ true → 6 ≤ q .word
+
+-- What the code answers and leaves where the definition says `t`, with `n` bytes written; `old`: the room for what is
+-- handed out, before.
+pub record Leaves (t : Taken Held) (k : Kept) (n : ℕ) (room out old : List ℕ) : Type 0 where
+  pub state : meant k room ≡ t .state
+  pub written : n ≡ length (t .out)
+  pub handed : out ≡ t .out ++ drop (length (t .out)) old
+  pub lent : length out ≡ length old
+  pub ranged : Ranged k
+  pub rooms : Rooms room out
+
+pub record Stops (s : Stopped Held) (r : Stop) (room out old : List ℕ) : Type 0 where
+  pub taken : r .taken ≡ s .taken
+  pub left : Leaves (s .left) (r .kept) (r .written) room out old
+
+-- before a part's first byte
+unfoldable pub startAt : Kept → List ℕ → Taken Held
+startAt k room = record { out = []; state = meant k room }

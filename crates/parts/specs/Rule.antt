@@ -1,0 +1,70 @@
+-- The packing rule as a packing of records that come one by one, and what comes out of a whole list.
+use Prim.Native.Nat.{ℕ, zero, suc, _+_}
+use mathlib.Core.List.{List, [], _∷_, _++_}
+use lib.ListN.{length, drop}
+use Rattle.packet.specs.Step.{Step}
+use Rattle.packet.specs.Rules.{first}
+use Rattle.cue.specs.Records.{Listed, records, refused, recordsOf, recordKind, recordBytes, recordStep, recordRefusals}
+use Rattle.cue.specs.Packing.{Command, Open, commandsOf, started, turn, packets}
+use Rattle.cue.specs.Inside.{outputBytes}
+use Rattle.parts.specs.Taking.{Packing}
+
+-- The open packet, if there is one.
+pub data Opened : Type 0 where
+  none : Opened
+  some : Open → Opened
+
+-- one record more: the packets that it closes, and the open packet after it
+unfoldable pub closes : Opened → Step → List (List Command)
+closes none x = []
+closes (some o) x = turn o x .closed
+
+unfoldable pub opens : Opened → Step → Opened
+opens none x = some (started [] x)
+opens (some o) x = some (turn o x .open?)
+
+-- the packet that the list's end closes
+unfoldable pub lastOf : Opened → List (List Command)
+lastOf none = []
+lastOf (some o) = commandsOf o ∷ []
+
+unfoldable pub packingRule : Packing Opened
+packingRule =
+    record {
+      turned = λ o x. record { out = outputBytes (closes o x); packet = opens o x };
+      last = λ o. outputBytes (lastOf o);
+    }
+
+-- the packets that these records close, and the open packet after them
+unfoldable pub closedFrom : Opened → List Step → List (List Command)
+closedFrom o [] = []
+closedFrom o (x ∷ xs) = closes o x ++ closedFrom (opens o x) xs
+
+unfoldable pub openAfter : Opened → List Step → Opened
+openAfter o [] = o
+openAfter o (x ∷ xs) = openAfter (opens o x) xs
+
+-- The records before a list's first bad one; all, if none is.
+unfoldable pub goodThen : ℕ → Step → List Step → List Step
+goodThen zero x xs = x ∷ xs
+goodThen (suc n) x xs = []
+
+unfoldable pub goodFrom : ℕ → ℕ → List ℕ → List Step
+goodFrom zero index rest = []
+goodFrom (suc fuel) index [] = []
+goodFrom (suc fuel) index (b ∷ bs) =
+    let rest = b ∷ bs in
+    goodThen (first (recordRefusals index rest)) (recordStep rest)
+    (goodFrom fuel (index + 1) (drop (recordBytes (recordKind rest)) rest))
+
+unfoldable pub goodRecords : List ℕ → List Step
+goodRecords list = goodFrom (length list) 0 list
+
+-- The packets of a list that comes in parts: the packing rule's; of a refused list those that the records before the bad
+-- one closed.
+unfoldable pub packetsBy : Listed → List Step → List (List Command)
+packetsBy (records xs) ys = packets xs
+packetsBy (refused n i) ys = closedFrom none ys
+
+unfoldable pub packetsOf : List ℕ → List (List Command)
+packetsOf list = packetsBy (recordsOf list) (goodRecords list)
