@@ -54,6 +54,12 @@ impl<T: Copy + PartialEq + std::fmt::Debug> Lent<T> {
         }
     }
 
+    /// Takes over what the library wrote to the first elements, where these are not fixed.
+    pub fn accept(&mut self, length: usize) {
+        let part = MARGIN..MARGIN + length;
+        self.model[part.clone()].copy_from_slice(&self.library[part]);
+    }
+
     fn reset(&mut self) {
         self.library.copy_from_slice(&self.before);
         self.model.copy_from_slice(&self.before);

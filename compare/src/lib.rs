@@ -14,6 +14,7 @@ pub mod lent;
 pub mod lists;
 pub mod packets;
 pub mod panel;
+pub mod parts;
 pub mod rng;
 pub mod salvage;
 #[cfg(feature = "compile")]

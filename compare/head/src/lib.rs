@@ -26,6 +26,7 @@ use std::error::Error;
 use std::fmt;
 
 pub mod panel;
+pub mod parts;
 pub mod salvage;
 pub mod sserial;
 

@@ -9,6 +9,7 @@ pub mod cue;
 pub mod packet;
 pub mod packing;
 pub mod panel;
+pub mod parts;
 pub mod salvage;
 pub mod spi;
 pub mod sserial;

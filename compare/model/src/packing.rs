@@ -37,14 +37,14 @@ pub fn compile(list: &[u8], out: &mut [u8]) -> Result<Compiled, Refusal> {
 
 /// The closed packets and the open one.
 #[derive(Default)]
-struct Output {
-    bytes: Vec<u8>,
+pub(crate) struct Output {
+    pub(crate) bytes: Vec<u8>,
     packets: u64,
     open: Packet,
 }
 
 impl Output {
-    fn add(&mut self, record: &Record) {
+    pub(crate) fn add(&mut self, record: &Record) {
         if self.open.join(record) || self.open.start(record) {
             return;
         }
@@ -53,7 +53,7 @@ impl Output {
         assert!(started, "a single record fits an empty packet");
     }
 
-    fn close(&mut self) {
+    pub(crate) fn close(&mut self) {
         if self.open.last.is_none() {
             return;
         }

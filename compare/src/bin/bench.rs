@@ -14,6 +14,9 @@ use std::hint::black_box;
 use std::process::ExitCode;
 use std::time::{Duration, Instant};
 
+#[path = "bench/parts.rs"]
+mod parts;
+
 /// How often each side is timed. The lowest time counts, since other work on the machine only
 /// adds.
 const ROUNDS: usize = 40;
@@ -63,6 +66,7 @@ fn all_cases() -> Vec<Case> {
     let mut cases = packet_cases();
     cases.extend(burst_cases());
     cases.extend(list_cases());
+    cases.extend(parts::cases());
     cases
 }
 
@@ -75,7 +79,8 @@ fn count(name: &str, times: &str) -> Result<(), String> {
     // The lists take long to make, so they are made last.
     let case = named(packet_cases())
         .or_else(|| named(burst_cases()))
-        .or_else(|| named(list_cases()));
+        .or_else(|| named(list_cases()))
+        .or_else(|| named(parts::cases()));
     let mut case = case.ok_or_else(|| unknown(name))?;
     for _ in 0..times {
         (case.library)();

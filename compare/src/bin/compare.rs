@@ -22,6 +22,7 @@ const PARTS: &[Part] = &[
     Part("salvage", 20_000, compare::salvage::compare),
     Part("sserial", 60_000, compare::sserial::compare),
     Part("panel", 400_000, compare::panel::compare),
+    Part("parts", 6_000, compare::parts::compare),
 ];
 
 struct Options {
