@@ -245,6 +245,7 @@ uint32_t head_pack(const uint8_t *memory, size_t memory_length, uint16_t table, 
 uint32_t head_unpack(const uint8_t *memory, size_t memory_length, uint16_t table, uint32_t direction, uint32_t channel,
                      const uint32_t *registers, size_t registers_length,
                      uint64_t *values, size_t values_length);
+
 /* The lamp panel: starts exchanges for the channels in asked, where bit c of a mask stands for channel c.
  *
  *   running  the started channels
@@ -279,6 +280,7 @@ void head_panel_report(uint8_t asked, uint8_t faults,
  */
 uint32_t head_panel_reading(uint32_t kind, uint32_t width, uint64_t value,
                             uint32_t minimum_bits, uint32_t maximum_bits, uint32_t *reading_bits);
+
 /* Compiles a cue list that comes in parts, cut anywhere, inside a record too. Each call takes bytes of the part until a
  * packet is finished, which it writes; until a fault shows; or until the part ends.
  *
@@ -308,6 +310,28 @@ uint32_t head_part(uint8_t *state, size_t state_length,
                    uint32_t last,
                    uint8_t *out, size_t out_length,
                    uint64_t *taken, uint64_t *value);
+
+/* Says whether two cue lists may be compiled apart and run in either order.
+ *
+ *   first   the one list's records, first_length bytes; may be empty
+ *   second  the other's
+ *   list    takes which list is at fault: 0 the first, 1 the second; 0 if none is
+ *   place   takes the index of the record at fault, from 0; 0 if none is
+ *
+ * Returns 0 exactly if both lists are accepted and neither writes a cell (a space and an address) that the other names. Then
+ * all packets of one list run before all of the other, in either order from the same store and pointers, are accepted, leave the
+ * same store to the byte, the packet count and the unlock cell too, and read the same values for each list. The pointers at the
+ * end may differ. Packets of the two lists are not to be mixed.
+ * The first list's refusal goes before the second's, and both before a clash. The time is in proportion to both lists' lengths.
+ * It uses about 70 KB of stack.
+ *
+ *   21 to 24  as head_compile refuses that list
+ *   51        the second list's record at place writes a cell which the first names, or names a cell which the first writes; it is
+ *             the first such record
+ */
+uint32_t head_independent(const uint8_t *first, size_t first_length,
+                          const uint8_t *second, size_t second_length,
+                          uint64_t *list, uint64_t *place);
 
 #ifdef __cplusplus
 }

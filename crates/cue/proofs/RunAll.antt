@@ -76,7 +76,7 @@ off-cells x h p =
     neither false b s h = (refl, h)
 
 -- the store with both cells at 0: two stores agree off the cells if these are equal
-pub blank : List ℕ → List ℕ
+unfoldable pub blank : List ℕ → List ℕ
 blank store = cleared (sets store countCell (0 ∷ 0 ∷ []))
 
 pub blank-outside : (store : List ℕ) (i : ℕ) → Off unlockCell i → Off countCell i
@@ -182,7 +182,7 @@ pub good-split : (xs ys : List Step) → Good (xs ++ ys) → Good xs × Good ys
 good-split [] ys g = (Good.none, g)
 good-split (x ∷ xs) ys (Good.more b p w g) = let r = good-split xs ys g in (Good.more b p w (r .0), r .1)
 
-unlock-zero : (packets : List (List ℕ)) → unlockAfter packets 0 ≡ 0
+pub unlock-zero : (packets : List (List ℕ)) → unlockAfter packets 0 ≡ 0
 unfolding unlockAfter
 unlock-zero [] = refl
 unlock-zero (p ∷ ps) = refl

@@ -5,7 +5,7 @@ use lbp16::Refusal;
 mod emit;
 pub mod guarded;
 pub mod packer;
-mod plan;
+pub mod plan;
 pub mod records;
 
 ghost use mathlib.Core.Path.{_≡_};

@@ -1,3 +1,4 @@
 pub mod ExportLaws
 pub mod SerialLaws
 pub mod PartLaws
+pub mod TwoListsLaws

@@ -2,3 +2,4 @@ pub mod Exports
 pub mod Serial
 pub mod Panels
 pub mod Part
+pub mod TwoLists

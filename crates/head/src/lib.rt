@@ -4,6 +4,7 @@ mod panels;
 pub mod part;
 mod repair;
 pub mod serial;
+mod two_lists;
 
 use card::check;
 use card::run;

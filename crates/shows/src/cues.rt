@@ -17,7 +17,7 @@ ghost use lib.ListN.{length};
 const WRITE_MARK: u16 = 0x5257;
 
 // A list and what it compiles to in the room lent. The bytes of the output.
-fn compiled(name: &[u8], list: &[u8], room: &mut [u8]) -> u64 {
+pub(crate) fn compiled(name: &[u8], list: &[u8], room: &mut [u8]) -> u64 {
     list::named(name, list);
     let given = cue::compile(list, room);
     list::compiled(given, room);
@@ -123,9 +123,9 @@ fn list_words(list: &[u8]) {
 }
 
 // What the packets so far left: the pointers, and the bytes of their replies.
-struct Left {
-    pointers: Pointers,
-    bytes: usize,
+pub(crate) struct Left {
+    pub(crate) pointers: Pointers,
+    pub(crate) bytes: usize,
 }
 
 fn reply_bytes(answer: Verdict) -> u64 {
@@ -150,17 +150,21 @@ fn play_packet(sent: &[u8], store: &mut [u8], before: Left, replies: &mut [u8]) 
     Left { pointers, bytes }
 }
 
-// Runs the packets of an output in order, from fresh pointers on. The bytes of all replies.
-fn play(out: &[u8], store: &mut [u8], replies: &mut [u8]) -> usize {
+pub(crate) fn fresh() -> Left {
     let pointers = Pointers::fresh();
-    let mut left = Left { pointers, bytes: 0 };
+    Left { pointers, bytes: 0 }
+}
+
+// Runs the packets of an output in order, after those that left this.
+pub(crate) fn play(out: &[u8], store: &mut [u8], before: Left, replies: &mut [u8]) -> Left {
+    let mut left = before;
     let mut rest = out;
     while 4 <= rest.len() {
         let k = list::frame_bytes(rest);
         left = play_packet(&rest[4..k], store, left, replies);
         rest = &rest[k..];
     }
-    left.bytes
+    left
 }
 
 // Where a space starts in the store.
@@ -227,7 +231,8 @@ fn counts_words(packets: u16, records: u16) {
 // The packets run on one store, and the records done on another. The replies go to the front of `seen`, the values read
 // behind its first 2048 bytes.
 fn both_ways(list: &[u8], out: &[u8], a: &mut [u8], b: &mut [u8], seen: &mut [u8]) {
-    let n = play(out, a, seen) as u64;
+    let left = play(out, a, fresh(), seen);
+    let n = left.bytes as u64;
     let end = alone(list, b, seen) as u64;
     let read = slice::part(slice::part(seen, 0, end), 2048, end);
     values_words(slice::part(seen, 0, n), read);

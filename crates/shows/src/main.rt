@@ -1,6 +1,7 @@
 // Compiles long cue lists and plays shows end to end, and writes what comes of it.
 mod buffer;
 mod cues;
+mod two_lists;
 mod work;
 
 use lines::text;
@@ -9,4 +10,5 @@ fn main() {
     text::say(b"Lists, packets and replies are hexadecimal, in the order of the wire.\n");
     cues::all();
     work::all();
+    two_lists::all();
 }

@@ -11,9 +11,6 @@ Inv-loop out store₀ replies₀ p₀ rest₀ store replies p rest = (length sto
 abbrev μ-loop : tie.MeasureT-loop
 μ-loop out store₀ replies₀ p₀ rest₀ store replies p rest = length rest
 
-fresh-requires : tie.Need-fresh-requires Inv-loop μ-loop
-fresh-requires c κs = search needs
-
 loop-holds : tie.Need-loop-holds Inv-loop μ-loop
 loop-holds c = search needs
 
@@ -62,7 +59,6 @@ play-spec =
     (tie.spec
     Inv-loop
     μ-loop
-    fresh-requires
     loop-holds
     frame-bytes-requires
     sub-play-packet

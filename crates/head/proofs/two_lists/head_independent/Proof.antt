@@ -1,0 +1,24 @@
+use borrow.Author.Needs.{needs}
+use Rattle.head.proofs.two_lists.head_independent.Statement.{statement}
+use Rattle.head.proofs.two_lists.head_independent.Tie as tie
+use Rattle.head.proofs.TwoListsLaws.{independent-left, independent-promise}
+
+independent-requires : tie.Need-independent-requires
+independent-requires c κs = search needs
+
+list-of-requires : tie.Need-list-of-requires
+list-of-requires c κs = search needs
+
+place-of-requires : tie.Need-place-of-requires
+place-of-requires c κs = search needs
+
+number-of-requires : tie.Need-number-of-requires
+number-of-requires c κs = search needs
+
+returns : tie.Need-returns
+returns c = let s = c .before .before .before .independent .ensures in (independent-left _ _ _ (s .0) _ (c .number-of .ensures) _ _ (c .before .before .list-of .ensures) (c .before .place-of .ensures), independent-promise _ _ _ (s .0) _ (c .number-of .ensures) (s .1))
+
+pub head-independent-spec : {M : Type 1} → statement M
+head-independent-spec =
+    tie.close
+    (tie.spec independent-requires list-of-requires place-of-requires number-of-requires returns)

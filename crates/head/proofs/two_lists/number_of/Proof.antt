@@ -1,0 +1,29 @@
+use borrow.Author.Needs.{needs}
+use Rattle.head.proofs.two_lists.number_of.Statement.{statement}
+use Rattle.head.proofs.two_lists.number_of.Tie as tie
+use Rattle.head.specs.TwoLists.{independenceListed}
+
+enum-told : tie.Need-enum-told
+enum-told c = search needs
+
+enum-known-answer : tie.Need-enum-known-answer
+enum-known-answer c = search needs
+
+enum-told-2 : tie.Need-enum-told-2
+enum-told-2 c = search needs
+
+returns : tie.Need-returns
+unfolding independenceListed
+returns c = rw (c .enum-told .given .1)
+
+returns-2 : tie.Need-returns-2
+unfolding independenceListed
+returns-2 c = rw (c .before .answer .given .1)
+
+returns-3 : tie.Need-returns-3
+unfolding independenceListed
+returns-3 c = rw (c .enum-told2 .given .1)
+
+pub number-of-spec : {M : Type 1} → statement M
+number-of-spec =
+    tie.close (tie.spec enum-told enum-known-answer enum-told-2 returns returns-2 returns-3)

@@ -1,0 +1,92 @@
+use Rattle.independent.proofs.marks.first_clash.Statement.{statement}
+use Rattle.independent.proofs.marks.first_clash.Tie as tie
+use borrow.Author.Needs.{needs}
+use Prim.Native.Nat.{_≤_, _<_}
+use native.Mathlib.Omega.{arith}
+use lib.ListN.{length}
+use Rattle.independent.proofs.WalkLaws.{place-inside-here, whole-here, shorter}
+use Rattle.independent.proofs.LoopLaws.{Testing, testing-first, testing-again, testing-last, clash-found}
+
+abbrev Inv-loop : tie.InvT-loop
+Inv-loop list marks rest₀ index₀ rest index = Testing list rest index marks
+
+abbrev μ-loop : tie.MeasureT-loop
+μ-loop list marks rest₀ index₀ rest index = length rest
+
+loop-holds : tie.Need-loop-holds Inv-loop μ-loop
+loop-holds c = testing-first _ _ (c .before .before .pre .0)
+
+record-at-requires : tie.Need-record-at-requires Inv-loop μ-loop
+record-at-requires c κs = search needs
+
+place-of-requires : tie.Need-place-of-requires Inv-loop μ-loop
+place-of-requires c κs = search needs
+
+shared-slice-read-clashes : tie.Need-shared-slice-read-clashes Inv-loop μ-loop
+shared-slice-read-clashes c =
+    let b = c .before .before .before in
+    let h = place-inside-here _ _ _ _ (b .before .loop .inv .walk) (b .loop-test .taken) _ (c .before .before .record-at .ensures) _ (c .before .place-of .ensures) in
+    let l = b .before .before .before .before .pre .1 in
+    omega arith
+
+clashes-requires : tie.Need-clashes-requires Inv-loop μ-loop
+clashes-requires c κs = search needs
+
+returns : tie.Need-returns Inv-loop μ-loop
+returns c =
+    let b = c .before .before .before in
+    clash-found _ _ _ _ (b .before .before .before .loop .inv) (b .before .before .loop-test .taken) _ (b .before .record-at .ensures) _ (b .place-of .ensures) _ (c .before .clashes .ensures) (c .if1 .taken)
+
+record-bytes-requires : tie.Need-record-bytes-requires Inv-loop μ-loop
+record-bytes-requires c κs = search needs
+
+whole : (c : tie.After-record-bytes Inv-loop μ-loop) → c .record-bytes .result ≤ length (c .before .before .before .before .before .before .before .loop .rest .now)
+whole c =
+    let b = c .before .before .before .before .before in
+    whole-here _ _ _ _ (b .before .before .loop .inv .walk) (b .before .loop-test .taken) _ (b .record-at .ensures) _ (c .record-bytes .ensures .0)
+
+sub-rest : tie.Need-sub-rest Inv-loop μ-loop
+sub-rest c = whole c
+
+part-rest-start : tie.Need-part-rest-start Inv-loop μ-loop
+part-rest-start c = let h = whole c in search needs
+
+part-rest-end : tie.Need-part-rest-end Inv-loop μ-loop
+part-rest-end c = let h = whole c in search needs
+
+add-index : tie.Need-add-index Inv-loop μ-loop
+add-index c = let h = c .before .before .before .before .before .before .before .before .loop .inv .walk .few in omega arith
+
+loop-less : tie.Need-loop-less Inv-loop μ-loop
+loop-less c =
+    let b = c .before .before .before .before .before .before in
+    shorter _ _ _ _ (b .before .before .loop .inv .walk) (b .before .loop-test .taken) _ (b .record-at .ensures) _ (c .before .record-bytes .ensures .0)
+
+loop-again : tie.Need-loop-again Inv-loop μ-loop
+loop-again c =
+    let b = c .before .before .before .before .before in
+    testing-again _ _ _ _ (b .before .before .before .loop .inv) (b .before .before .loop-test .taken) _ (b .before .record-at .ensures) _ (b .place-of .ensures) _ (c .before .before .before .clashes .ensures) (c .before .before .if1 .left) _ (c .before .record-bytes .ensures .0)
+
+returns-2 : tie.Need-returns-2 Inv-loop μ-loop
+returns-2 c = testing-last _ _ _ _ (c .before .loop .inv) (c .loop-test .left)
+
+pub first-clash-spec : {M : Type 1} → statement M
+first-clash-spec =
+    tie.close
+    (tie.spec
+    Inv-loop
+    μ-loop
+    loop-holds
+    record-at-requires
+    place-of-requires
+    shared-slice-read-clashes
+    clashes-requires
+    returns
+    record-bytes-requires
+    sub-rest
+    part-rest-start
+    part-rest-end
+    add-index
+    loop-less
+    loop-again
+    returns-2)

@@ -1,0 +1,14 @@
+use Rattle.independent.proofs.marks.marked.Statement.{statement}
+use Rattle.independent.proofs.marks.marked.Tie as tie
+use Rattle.independent.specs.Inside.{markedBy}
+
+returns : tie.Need-returns
+unfolding markedBy
+returns c = rw (c .if1 .taken)
+
+returns-2 : tie.Need-returns-2
+unfolding markedBy
+returns-2 c = rw (c .if1 .left)
+
+pub marked-spec : {M : Type 1} → statement M
+marked-spec = tie.close (tie.spec returns returns-2)

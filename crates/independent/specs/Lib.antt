@@ -1,0 +1,3 @@
+pub mod Independent
+pub mod EitherOrder
+pub mod Inside
