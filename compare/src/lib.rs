@@ -8,6 +8,7 @@ pub mod cards;
 #[cfg(feature = "compile")]
 pub mod cues;
 pub mod drafts;
+pub mod independent;
 pub mod info;
 pub mod lent;
 #[cfg(feature = "compile")]

@@ -69,7 +69,7 @@ fn play(rng: &mut Rng, tally: &mut Tally, list: &[u8]) -> Result<(), String> {
 }
 
 /// The library's output for a good list.
-fn compiled(list: &[u8]) -> Result<Vec<u8>, String> {
+pub fn compiled(list: &[u8]) -> Result<Vec<u8>, String> {
     // No record takes more than 16 bytes: mark and length, unlock, command and its data.
     let mut out = vec![0; 4 * list.len()];
     let compiled = head::compile(list, &mut out).map_err(|refusal| refusal.to_string())?;
@@ -85,7 +85,7 @@ fn compiled(list: &[u8]) -> Result<Vec<u8>, String> {
 }
 
 /// Checks and runs the packets from random pointers and joins the replies.
-fn run_all(rng: &mut Rng, packets: &[&[u8]], store: &mut [u8]) -> Result<Vec<u8>, String> {
+pub fn run_all(rng: &mut Rng, packets: &[&[u8]], store: &mut [u8]) -> Result<Vec<u8>, String> {
     let mut pointers = Area::ALL.map(|area| rng.below(area.bytes() as usize + 1) as u32);
     let mut reply = [0; PACKET_BYTES];
     let mut replies = Vec::new();

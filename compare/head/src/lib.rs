@@ -25,11 +25,13 @@
 use std::error::Error;
 use std::fmt;
 
+pub mod independent;
 pub mod panel;
 pub mod parts;
 pub mod salvage;
 pub mod sserial;
 
+pub use independent::{independent, Dependent};
 pub use salvage::{salvage, Salvaged};
 
 /// The length that a store must have.

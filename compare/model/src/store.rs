@@ -12,7 +12,7 @@ pub const UNLOCK_ADDRESS: u32 = 0x1A;
 /// What opens the EEPROM when it is written to the unlock cell.
 pub const UNLOCK_VALUE: u16 = 0x5A02;
 
-#[derive(Clone, Copy, Debug, PartialEq, Eq)]
+#[derive(Clone, Copy, Debug, PartialEq, Eq, Hash)]
 pub enum Space {
     Registers,
     Eeprom,

@@ -19,6 +19,7 @@ const PARTS: &[Part] = &[
     Part("bursts", 200_000, compare::bursts::compare),
     Part("lists", 30_000, compare::lists::compare),
     Part("shows", 8_000, compare::shows::compare),
+    Part("independent", 5_000, compare::independent::compare),
     Part("salvage", 20_000, compare::salvage::compare),
     Part("sserial", 60_000, compare::sserial::compare),
     Part("panel", 400_000, compare::panel::compare),
