@@ -21,7 +21,7 @@ use Rattle.card.specs.declared.spi.BurstAnswer.{BurstAnswer}
 use Rattle.cue.specs.Compile.{compiled, compileListed, left}
 use Rattle.cue.specs.declared.CompileAnswer.{CompileAnswer}
 use Rattle.cue.proofs.CompileLaws.{RefusedList, refused-numbers}
-use Rattle.head.specs.Exports.{numberOf, valueOf, countOf, spiLeft, exportSpi, compileLeft, exportCompile, given, exportCheck, runLeft, pointerList, ofOutcome, pointersOf, exportRun, fieldBytes, fieldsFrom, exportFields, badFlags, exportWord}
+use Rattle.head.specs.Exports.{fieldsLeft, numberOf, valueOf, countOf, spiLeft, exportSpi, compileLeft, exportCompile, given, exportCheck, runLeft, pointerList, ofOutcome, pointersOf, exportRun, fieldBytes, fieldsFrom, exportFields, badFlags, exportWord}
 
 -- stores to every place of a list leave the values stored
 pub stored-whole : (vs l : List ℕ) → length l ≡ length vs → sets l 0 vs ≡ vs
@@ -120,11 +120,11 @@ compile-accepted list room (CompileAnswer.Refused r) number bytes packets room�
 
 module _ (word : ℕ) (fields : List ℕ) where
   pub seven : length fields ≡ 7
-      → exportFields word fields ≡ record { number = 0; fields = fieldBytes (fieldsOf word) }
+      → exportFields word fields ≡ fieldsLeft 0 (fieldBytes (fieldsOf word))
   unfolding exportFields
   seven h = rw (eq-eqb _ _ h)
 
-  pub not-seven : (length fields ≡ 7 → ⊥) → exportFields word fields ≡ record { number = 13; fields = fields }
+  pub not-seven : (length fields ≡ 7 → ⊥) → exportFields word fields ≡ fieldsLeft 13 fields
   unfolding exportFields
   not-seven h = rw (ne-eqb _ _ h)
 

@@ -149,10 +149,12 @@ pub record FieldsExport : Type 0 where
   pub number : ℕ
   pub fields : List ℕ
 
+abbrev pub fieldsLeft : ℕ → List ℕ → FieldsExport
+fieldsLeft number fields = record { number = number; fields = fields }
+
 unfoldable pub exportFields : ℕ → List ℕ → FieldsExport
 exportFields word fields =
-    cond (eqb (length fields) 7) (record { number = 0; fields = fieldBytes (fieldsOf word) })
-    (record { number = 13; fields = fields })
+    cond (eqb (length fields) 7) (fieldsLeft 0 (fieldBytes (fieldsOf word))) (fieldsLeft 13 fields)
 
 -- a byte of a flag that is neither 0 nor 1
 unfoldable pub badFlags : List ℕ → Bool
@@ -169,3 +171,7 @@ unfoldable pub wordLeft : Answer → ℕ → ℕ
 wordLeft (accepted []) word = word
 wordLeft (accepted (w ∷ ws)) word = w
 wordLeft (refused number place) word = word
+
+-- All that head_word returns and leaves: the number, and what stands in the word lent.
+unfoldable pub wordGiven : Answer → ℕ → Given
+wordGiven a word = given (numberOf a) (wordLeft a word)

@@ -13,7 +13,7 @@ use lbp16::word;
 use lbp16::word::Written;
 ghost use mathlib.Core.Path.{_≡_};
 ghost use Rattle.cue.specs.Demand3.{Demand3};
-ghost use Rattle.head.specs.Exports.{numberOf, given, exportCheck, runLeft, exportRun, spiLeft, exportSpi, compileLeft, exportCompile, exportFields, exportWord, wordLeft};
+ghost use Rattle.head.specs.Exports.{given, exportCheck, runLeft, exportRun, spiLeft, exportSpi, compileLeft, exportCompile, fieldsLeft, exportFields, exportWord, wordGiven};
 
 // Checks one packet: what a run of it would answer on this store and these pointers, with a reply room of 1,472 bytes.
 // `value` is the reply length, or the refusal's place.
@@ -76,8 +76,7 @@ pub extern "C" fn head_spi(
 // The fields of a command word, as seven bytes.
 #[no_mangle]
 pub extern "C" fn head_fields(word: u16, fields: &mut [u8]) -> u32
-    ensures numbered { λ r. ⌜ r ≡ exportFields word (now (fields .entry)) .number ⌝ }
-    ensures left { λ r. ⌜ now (fields .exit) ≡ exportFields word (now (fields .entry)) .fields ⌝ }
+    ensures { λ r. ⌜ fieldsLeft r (now (fields .exit)) ≡ exportFields word (now (fields .entry)) ⌝ }
 {
     if fields.len() != 7 {
         return 13;
@@ -89,8 +88,7 @@ pub extern "C" fn head_fields(word: u16, fields: &mut [u8]) -> u32
 // The command word of seven such bytes; `word` is written only if accepted.
 #[no_mangle]
 pub extern "C" fn head_word(fields: &[u8], word: &mut u16) -> u32
-    ensures numbered { λ r. ⌜ r ≡ numberOf (exportWord (now (fields .entry))) ⌝ }
-    ensures left { λ r. ⌜ now (word .exit) ≡ wordLeft (exportWord (now (fields .entry))) (now (word .entry)) ⌝ }
+    ensures { λ r. ⌜ given r (now (word .exit)) ≡ wordGiven (exportWord (now (fields .entry))) (now (word .entry)) ⌝ }
 {
     if fields.len() != 7 {
         return 13;

@@ -1,12 +1,11 @@
 use borrow.Author.Needs.{needs}
 use Rattle.head.proofs.head_fields.Statement.{statement}
 use Rattle.head.proofs.head_fields.Tie as tie
-use mathlib.Core.Path.{refl, ap, _∙_}
+use mathlib.Core.Path.{refl}
 use Rattle.head.proofs.ExportLaws.{seven, not-seven}
-use Rattle.head.specs.Exports.{fieldBytes}
 
 returns : tie.Need-returns
-returns c = rw (not-seven _ _ (c .if1 .taken)) (refl, refl)
+returns c = rw (not-seven _ _ (c .if1 .taken)) refl
 
 fields-of-requires : tie.Need-fields-of-requires
 fields-of-requires c κs = search needs
@@ -18,7 +17,7 @@ same-length : tie.Need-same-length
 same-length c = search needs
 
 returns-2 : tie.Need-returns-2
-returns-2 c = rw (seven _ _ (c .before .before .before .before .before .if1 .left)) (refl, c .before .before .put-fields .ensures ∙ ap fieldBytes (c .before .before .before .before .fields-of .ensures))
+returns-2 c = rw (seven _ _ (c .before .before .before .before .before .if1 .left), c .before .before .put-fields .ensures, c .before .before .before .before .fields-of .ensures) refl
 
 pub head-fields-spec : {M : Type 1} → statement M
 head-fields-spec =

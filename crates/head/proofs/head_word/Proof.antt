@@ -3,19 +3,19 @@ use Rattle.head.proofs.head_word.Statement.{statement}
 use Rattle.head.proofs.head_word.Tie as tie
 use mathlib.Core.Path.{refl, sym, _∙_}
 use Rattle.lbp16.specs.Word.{listed}
-use Rattle.head.specs.Exports.{numberOf, wordLeft}
+use Rattle.head.specs.Exports.{numberOf, wordLeft, wordGiven}
 use Rattle.head.proofs.ExportLaws.{other-length, flag-above, answered}
 
 returns : tie.Need-returns
-unfolding numberOf wordLeft
-returns c = rw (other-length _ (c .if1 .taken)) (refl, refl)
+unfolding wordGiven numberOf wordLeft
+returns c = rw (other-length _ (c .if1 .taken)) refl
 
 bad-flags-requires : tie.Need-bad-flags-requires
 bad-flags-requires c κs = search needs
 
 returns-2 : tie.Need-returns-2
-unfolding numberOf wordLeft
-returns-2 c = rw (flag-above _ (c .before .before .if1 .left) (sym (c .before .bad-flags .ensures) ∙ c .if2 .taken)) (refl, refl)
+unfolding wordGiven numberOf wordLeft
+returns-2 c = rw (flag-above _ (c .before .before .if1 .left) (sym (c .before .bad-flags .ensures) ∙ c .if2 .taken)) refl
 
 fields-from-requires : tie.Need-fields-from-requires
 fields-from-requires c κs = search needs
@@ -30,12 +30,12 @@ enum-known-written-2 : tie.Need-enum-known-written-2
 enum-known-written-2 c = search needs
 
 returns-3 : tie.Need-returns-3
-unfolding numberOf wordLeft listed
-returns-3 c = let s = c .before .before .before in let t = s .before .before in rw (answered _ _ (s .word-of .result) (t .before .before .if1 .left) (sym (t .before .bad-flags .ensures) ∙ t .if2 .left) (s .before .fields-from .ensures) (s .word-of .ensures), c .before .written .given .1) (refl, refl)
+unfolding wordGiven numberOf wordLeft listed
+returns-3 c = let s = c .before .before .before in let t = s .before .before in rw (answered _ _ (s .word-of .result) (t .before .before .if1 .left) (sym (t .before .bad-flags .ensures) ∙ t .if2 .left) (s .before .fields-from .ensures) (s .word-of .ensures), c .before .written .given .1) refl
 
 returns-4 : tie.Need-returns-4
-unfolding numberOf wordLeft listed
-returns-4 c = let s = c .before .before .before in let t = s .before .before in rw (answered _ _ (s .word-of .result) (t .before .before .if1 .left) (sym (t .before .bad-flags .ensures) ∙ t .if2 .left) (s .before .fields-from .ensures) (s .word-of .ensures), c .before .written2 .given .1) (refl, refl)
+unfolding wordGiven numberOf wordLeft listed
+returns-4 c = let s = c .before .before .before in let t = s .before .before in rw (answered _ _ (s .word-of .result) (t .before .before .if1 .left) (sym (t .before .bad-flags .ensures) ∙ t .if2 .left) (s .before .fields-from .ensures) (s .word-of .ensures), c .before .written2 .given .1) refl
 
 pub head-word-spec : {M : Type 1} → statement M
 head-word-spec =
