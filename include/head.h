@@ -248,12 +248,12 @@ uint32_t head_unpack(const uint8_t *memory, size_t memory_length, uint16_t table
 
 /* The lamp panel: starts exchanges for the channels in asked, where bit c of a mask stands for channel c.
  *
- *   running  the started channels
+ *   started  the channels that are started
  *   mask     takes the mask asked for, only if accepted
  *
- *   43  asked names a channel that is not in running; *mask keeps its value
+ *   43  asked names a channel that is not in started; *mask keeps its value
  */
-uint32_t head_panel_start(uint8_t asked, uint8_t running, uint8_t *mask);
+uint32_t head_panel_start(uint8_t asked, uint8_t started, uint8_t *mask);
 
 /* The lamp panel: what became of the channels in asked. Channels of faults that were not asked don't count.
  *
@@ -267,18 +267,18 @@ void head_panel_report(uint8_t asked, uint8_t faults,
 /* The lamp panel: a field's reading. It is the value as a float, times the maximum, divided by one less than 2 to the
  * width, in that order, each step rounded once (IEEE 754's binary32, ties to even).
  *
- *   kind          the field's data type, as the card's table has it
+ *   type          the field's data type, as the card's table has it
  *   width         the field's bits
  *   minimum_bits, maximum_bits  the bounds, as the bits of a float that stand in the table
  *   reading_bits  takes the reading, as the bits of a float, only if accepted; it is never a NaN
  *
- *   44  kind not 2 (unsigned, not the nonvolatile 4), width not 1 to 24, or value too large for the width
+ *   44  type not 2 (unsigned, not the nonvolatile 4), width not 1 to 24, or value too large for the width
  *   45  a bound that is an infinity or a NaN, or a maximum not above the minimum
  *   46  the product is not finite
  *
  * Refused: *reading_bits keeps its value.
  */
-uint32_t head_panel_reading(uint32_t kind, uint32_t width, uint64_t value,
+uint32_t head_panel_reading(uint32_t type, uint32_t width, uint64_t value,
                             uint32_t minimum_bits, uint32_t maximum_bits, uint32_t *reading_bits);
 
 /* Compiles a cue list that comes in parts, cut anywhere, inside a record too. Each call takes bytes of the part until a
@@ -332,6 +332,33 @@ uint32_t head_part(uint8_t *state, size_t state_length,
 uint32_t head_independent(const uint8_t *first, size_t first_length,
                           const uint8_t *second, size_t second_length,
                           uint64_t *list, uint64_t *place);
+
+/* Judges a recorded show: packets and replies in turn, each behind the mark "LB" (4C 42) and its length, 2 bytes, low byte
+ * first. A packet that reads nothing has a reply of length 0.
+ *
+ *   show      the recording, show_length bytes; may be empty
+ *   store     65,728 bytes, as the show begins
+ *   pointers  8 numbers, as in head_run
+ *   index     takes the number of packets judged if all is well; the packet at fault, from 0, for 61 to 63; the part, from 0,
+ *             for 64 and 65; 0 for 1
+ *   place     takes the wrong byte's place in its reply for 63, else 0
+ *
+ * Returns 0 if the recording is whole, every packet is accepted by the rules of head_run, and every reply is what they give, each
+ * packet run from the state that the one before left. Otherwise the first fault:
+ *
+ *    1  as in head_run, of store and pointers; store and pointers are unchanged
+ *   61  a packet that is refused
+ *   62  a reply of another length
+ *   63  a reply of the right length with a wrong byte
+ *   64  cut: the recording ends inside a part, or where a reply should begin
+ *   65  a part without the mark
+ *
+ * Store and pointers are left as the packets accepted so far leave them, also where a reply is then at fault.
+ */
+uint32_t head_judge(const uint8_t *show, size_t show_length,
+                    uint8_t *store, size_t store_length,
+                    uint32_t *pointers, size_t pointers_length,
+                    uint64_t *index, uint64_t *place);
 
 #ifdef __cplusplus
 }

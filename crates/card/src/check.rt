@@ -12,7 +12,7 @@ ghost use Rattle.card.specs.Run.{badState, checked};
 pub const STORE_BYTES: usize = 65728;
 
 // Refusal 1, of store and pointers.
-fn bad_state(store: &[u8], p: Pointers) -> bool
+pub fn bad_state(store: &[u8], p: Pointers) -> bool
     ensures { λ r. ⌜ r ≡ badState (now (store .entry)) p ⌝ }
 {
     (store.len() != STORE_BYTES) | p.above_size()

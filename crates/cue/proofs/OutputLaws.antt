@@ -6,13 +6,14 @@ use mathlib.Core.Bool.{false}
 use native.Mathlib.Omega.{arith}
 use lib.ListN.{length, take, drop, length-append}
 use lib.Seq.{take-append-seam, drop-append-seam, drop-append-add}
-use borrow.Author.Tests.{le-ltb}
+use borrow.Author.Tests.{le-ltb, eq-eqb, ne-eqb}
 use Rattle.packet.specs.Bytes.{number, bytesOf}
 use Rattle.packet.specs.Step.{Step}
 use Rattle.packet.proofs.StepLaws.{carried-le}
 use Rattle.cue.specs.Records.{records, recordsOf, recordBytes}
 use Rattle.cue.specs.Packing.{Command, joinAll, packetBytes, Open, commandsOf, joined, started, packFrom, packets}
-use Rattle.cue.specs.Output.{packetMark, framed, outputOf, parts, withPart, lengthAt, unsoundAt, apartFrom, apart}
+use Rattle.cue.specs.Output.{packetMark, framed, outputOf, parts, withPart, lengthAt, Front, frontOf, partBytes, behindPart, withFront, apartFrom, apart}
+use Rattle.cue.specs.Output.{part}
 use Rattle.cue.specs.Compile.{packed, output}
 use Rattle.cue.proofs.Relations.{Good}
 use Rattle.cue.proofs.RecordLaws.{listBytes, records-good, list-bytes}
@@ -24,13 +25,18 @@ pub data Short : List (List ℕ) → Type 0 where
   none : Short []
   more : {p : List ℕ} {ps : List (List ℕ)} → length p < 65536 → Short ps → Short (p ∷ ps)
 
--- one packet taken off
-apart-next : (fuel : ℕ) (rest p tail : List ℕ) → 0 < length rest → unsoundAt rest ≡ false
-    → take (lengthAt rest) (drop 4 rest) ≡ p → drop (4 + lengthAt rest) rest ≡ tail
-    → apartFrom (suc fuel) rest ≡ withPart p (apartFrom fuel tail)
-unfolding apartFrom
-apart-next fuel [] p tail h u e f = absurd (omega arith)
-apart-next fuel (b ∷ bs) p tail h u e f = rw (u, e, f) refl
+-- a whole part at the front
+pub front-whole : (rest : List ℕ) → number (take 2 rest) ≡ packetMark → 4 + lengthAt rest ≤ length rest
+    → frontOf rest ≡ part (lengthAt rest)
+unfolding frontOf
+front-whole rest mark whole =
+    rw (
+      ne-eqb (length rest) 0 (λ e. omega arith),
+      le-ltb (length rest) 2 (omega arith),
+      eq-eqb _ _ mark,
+      le-ltb (length rest) (4 + lengthAt rest) whole,
+    )
+    refl
 
 -- mark and length have four bytes
 pub framed-bytes : (p tail : List ℕ) → length (framed p ++ tail) ≡ 4 + length p + length tail
@@ -43,21 +49,30 @@ module _ (p tail : List ℕ) (h : length p < 65536) where
   unfolding lengthAt framed number bytesOf
   framed-length = omega arith
 
-  framed-sound : unsoundAt (framed p ++ tail) ≡ false
-  unfolding unsoundAt framed number bytesOf
-  framed-sound =
-      let all = framed p ++ tail in
-      le-ltb (length all) (4 + lengthAt all) (omega (arith, framed-length, framed-bytes p tail))
+  framed-mark : number (take 2 (framed p ++ tail)) ≡ packetMark
+  unfolding framed number bytesOf
+  framed-mark = refl
+
+  pub framed-front : frontOf (framed p ++ tail) ≡ part (length p)
+  framed-front =
+      rw framed-length at (front-whole (framed p ++ tail) framed-mark (rw framed-length (rw framed-bytes (omega arith))))
+
+  pub framed-part : partBytes (length p) (framed p ++ tail) ≡ p
+  unfolding partBytes framed bytesOf
+  framed-part = take-append-seam p tail
+
+  pub framed-behind : behindPart (length p) (framed p ++ tail) ≡ tail
+  unfolding behindPart framed bytesOf
+  framed-behind =
+      let frame = bytesOf 2 packetMark ++ bytesOf 2 (length p) in
+      drop-append-add frame (p ++ tail) (length p) ∙ drop-append-seam p tail
 
   framed-apart : (fuel : ℕ) → apartFrom (suc fuel) (framed p ++ tail) ≡ withPart p (apartFrom fuel tail)
-  unfolding framed bytesOf
-  framed-apart fuel =
-      let frame = bytesOf 2 packetMark ++ bytesOf 2 (length p) in
-      let behind = drop-append-add frame (p ++ tail) (length p) ∙ drop-append-seam p tail in
-      apart-next fuel _ p tail (omega arith) framed-sound (rw framed-length (take-append-seam p tail)) (rw framed-length behind)
+  unfolding apartFrom withFront
+  framed-apart fuel = rw (framed-front, framed-length, framed-part, framed-behind) refl
 
 apart-from : (fuel : ℕ) {ps : List (List ℕ)} → Short ps → length (outputOf ps) ≤ fuel → apartFrom fuel (outputOf ps) ≡ parts ps
-unfolding outputOf withPart apartFrom
+unfolding outputOf withPart apartFrom withFront frontOf
 apart-from zero Short.none h = refl
 apart-from (suc fuel) Short.none h = refl
 apart-from zero (Short.more {p} {ps} b s) h = absurd (omega (arith, framed-bytes p (outputOf ps)))

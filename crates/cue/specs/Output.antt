@@ -1,7 +1,7 @@
 -- The output: each packet behind the mark "LB" and its length. Taking an output apart again.
 use Prim.Native.Nat.{ℕ, zero, suc, _+_}
 use mathlib.Core.List.{List, [], _∷_, _++_}
-use mathlib.Core.Bool.{Bool, not, _||_, cond}
+use mathlib.Core.Bool.{cond}
 use lib.ListN.{length, take, drop}
 use lib.Dec.{eqb, ltb}
 use Rattle.packet.specs.Bytes.{number, bytesOf}
@@ -29,16 +29,38 @@ withPart p (parts ps) = parts (p ∷ ps)
 unfoldable pub lengthAt : List ℕ → ℕ
 lengthAt rest = number (take 2 (drop 2 rest))
 
-unfoldable pub unsoundAt : List ℕ → Bool
-unsoundAt rest = not (eqb (number (take 2 rest)) packetMark) || ltb (length rest) (4 + lengthAt rest)
+-- What stands at the front of the bytes left: nothing, a part that is cut, bytes without the mark, or a whole part of so many
+-- bytes behind its mark and length. One byte left is cut.
+pub data Front : Type 0 where
+  end : Front
+  cut : Front
+  unmarked : Front
+  part : ℕ → Front
+
+unfoldable pub frontOf : List ℕ → Front
+frontOf rest =
+    cond (eqb (length rest) 0) end
+    (cond (ltb (length rest) 2) cut
+    (cond (eqb (number (take 2 rest)) packetMark)
+    (cond (ltb (length rest) (4 + lengthAt rest)) cut (part (lengthAt rest)))
+    unmarked))
+
+-- the bytes of the part at the front, if it has n, and those behind it
+unfoldable pub partBytes : ℕ → List ℕ → List ℕ
+partBytes n rest = take n (drop 4 rest)
+
+unfoldable pub behindPart : ℕ → List ℕ → List ℕ
+behindPart n rest = drop (4 + n) rest
+
+unfoldable pub withFront : Front → List ℕ → Apart → Apart
+withFront end rest others = parts []
+withFront cut rest others = unsound
+withFront unmarked rest others = unsound
+withFront (part n) rest others = withPart (partBytes n rest) others
 
 unfoldable pub apartFrom : ℕ → List ℕ → Apart
 apartFrom zero rest = parts []
-apartFrom (suc fuel) [] = parts []
-apartFrom (suc fuel) (b ∷ bs) =
-    let rest = b ∷ bs in
-    cond (unsoundAt rest) unsound
-    (withPart (take (lengthAt rest) (drop 4 rest)) (apartFrom fuel (drop (4 + lengthAt rest) rest)))
+apartFrom (suc fuel) rest = withFront (frontOf rest) rest (apartFrom fuel (behindPart (lengthAt rest) rest))
 
 unfoldable pub apart : List ℕ → Apart
 apart output = apartFrom (length output) output

@@ -2,3 +2,4 @@ pub mod ExportLaws
 pub mod SerialLaws
 pub mod PartLaws
 pub mod TwoListsLaws
+pub mod RecordedLaws

@@ -3,3 +3,4 @@ pub mod Serial
 pub mod Panels
 pub mod Part
 pub mod TwoLists
+pub mod Recorded

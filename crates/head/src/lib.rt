@@ -2,6 +2,7 @@
 mod lent;
 mod panels;
 pub mod part;
+mod recorded;
 mod repair;
 pub mod serial;
 mod two_lists;

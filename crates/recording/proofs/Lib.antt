@@ -1,0 +1,9 @@
+-- Laws of the definitions in specs/.
+pub mod PartLaws
+pub mod ReplyLaws
+pub mod PairLaws
+pub mod LoopLaws
+pub mod ShowLaws
+pub mod JudgeLaws
+pub mod YesLaws
+pub mod Examples

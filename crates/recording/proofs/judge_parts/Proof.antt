@@ -1,0 +1,73 @@
+use borrow.Author.Needs.{needs}
+use native.Mathlib.Omega.{arith}
+use mathlib.Core.Path.{_∙_}
+use lib.ListN.{length, length-take, length-drop}
+use Rattle.recording.proofs.LoopLaws.{Judging, judging-start, judging-stop, judging-within, judging-next}
+use Rattle.recording.proofs.judge_parts.Statement.{statement}
+use Rattle.recording.proofs.judge_parts.Tie as tie
+
+abbrev Inv-loop : tie.InvT-loop
+Inv-loop recording store₀ room₀ pointers₀ packets₀ at₀ rest₀ store room pointers packets at rest =
+    Judging recording store₀ pointers₀ room₀ store room pointers packets at rest
+
+abbrev μ-loop : tie.MeasureT-loop
+μ-loop recording store₀ room₀ pointers₀ packets₀ at₀ rest₀ store room pointers packets at rest = length rest
+
+loop-holds : tie.Need-loop-holds Inv-loop μ-loop
+loop-holds c = judging-start _ _ _ _
+
+pair-at-requires : tie.Need-pair-at-requires Inv-loop μ-loop
+pair-at-requires c κs = search needs
+
+good-bytes-requires : tie.Need-good-bytes-requires Inv-loop μ-loop
+good-bytes-requires c κs = search needs
+
+judgment-of-requires : tie.Need-judgment-of-requires Inv-loop μ-loop
+judgment-of-requires c κs = let s = c .before .before .before .before .before .before .before .before .loop .inv in omega (arith, s .few, s .end)
+
+same-length : tie.Need-same-length Inv-loop μ-loop
+same-length c = c .before .before .before .before .before .before .pair-at .kept .1 .0 ∙ c .before .before .before .before .before .before .before .before .before .loop .inv .store-bytes
+
+returns : tie.Need-returns Inv-loop μ-loop
+returns c = judging-stop (c .before .before .before .before .before .before .before .before .before .loop .inv) _ _ _ _ (c .before .before .before .before .before .before .pair-at .ensures) _ (c .before .before .good-bytes .ensures) (c .before .if1 .taken) _ (c .judgment-of .ensures)
+
+add-packets : tie.Need-add-packets Inv-loop μ-loop
+add-packets c = let s = c .before .before .before .before .before .before .before .before .loop .inv in omega (arith, s .few, s .end)
+
+add-at : tie.Need-add-at Inv-loop μ-loop
+add-at c = let w = judging-within (c .before .before .before .before .before .before .before .before .loop .inv) _ _ _ _ (c .before .before .before .before .before .pair-at .ensures) _ (c .before .good-bytes .ensures) (c .if1 .left) in let s = c .before .before .before .before .before .before .before .before .loop .inv in omega (arith, w .whole, s .end)
+
+sub-rest : tie.Need-sub-rest Inv-loop μ-loop
+sub-rest c = judging-within (c .before .before .before .before .before .before .before .before .loop .inv) _ _ _ _ (c .before .before .before .before .before .pair-at .ensures) _ (c .before .good-bytes .ensures) (c .if1 .left) .whole
+
+part-rest-start : tie.Need-part-rest-start Inv-loop μ-loop
+part-rest-start c = judging-within (c .before .before .before .before .before .before .before .before .loop .inv) _ _ _ _ (c .before .before .before .before .before .pair-at .ensures) _ (c .before .good-bytes .ensures) (c .if1 .left) .whole
+
+part-rest-end : tie.Need-part-rest-end Inv-loop μ-loop
+part-rest-end c = search needs
+
+loop-less : tie.Need-loop-less Inv-loop μ-loop
+loop-less c = let w = judging-within (c .before .before .before .before .before .before .before .before .before .loop .inv) _ _ _ _ (c .before .before .before .before .before .before .pair-at .ensures) _ (c .before .before .good-bytes .ensures) (c .before .if1 .left) in simp (length-take, length-drop) (omega (arith, w .some, w .whole))
+
+loop-again : tie.Need-loop-again Inv-loop μ-loop
+loop-again c = judging-next (c .before .before .before .before .before .before .before .before .before .loop .inv) _ _ _ _ (c .before .before .before .before .before .before .pair-at .ensures) _ (c .before .before .good-bytes .ensures) (c .before .if1 .left) (c .before .before .before .before .before .before .pair-at .kept .1 .0)
+
+pub judge-parts-spec : {M : Type 1} → statement M
+judge-parts-spec =
+    tie.close
+    (tie.spec
+    Inv-loop
+    μ-loop
+    loop-holds
+    pair-at-requires
+    good-bytes-requires
+    judgment-of-requires
+    same-length
+    returns
+    add-packets
+    add-at
+    sub-rest
+    part-rest-start
+    part-rest-end
+    loop-less
+    loop-again)
