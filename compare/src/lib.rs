@@ -16,6 +16,7 @@ pub mod lists;
 pub mod packets;
 pub mod panel;
 pub mod parts;
+pub mod recordings;
 pub mod rng;
 pub mod salvage;
 #[cfg(feature = "compile")]

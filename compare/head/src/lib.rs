@@ -28,10 +28,12 @@ use std::fmt;
 pub mod independent;
 pub mod panel;
 pub mod parts;
+pub mod recording;
 pub mod salvage;
 pub mod sserial;
 
 pub use independent::{independent, Dependent};
+pub use recording::{judge, Verdict};
 pub use salvage::{salvage, Salvaged};
 
 /// The length that a store must have.

@@ -11,6 +11,7 @@ pub mod packet;
 pub mod packing;
 pub mod panel;
 pub mod parts;
+pub mod recording;
 pub mod salvage;
 pub mod spi;
 pub mod sserial;

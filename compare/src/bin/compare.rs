@@ -24,6 +24,7 @@ const PARTS: &[Part] = &[
     Part("sserial", 60_000, compare::sserial::compare),
     Part("panel", 400_000, compare::panel::compare),
     Part("parts", 6_000, compare::parts::compare),
+    Part("recordings", 8_000, compare::recordings::compare),
 ];
 
 struct Options {
