@@ -3,6 +3,7 @@
 mod hex;
 mod lists;
 mod manuals;
+mod repair;
 mod scope;
 mod script;
 mod show;
@@ -15,4 +16,5 @@ fn main() {
     scope::all();
     manuals::all();
     lists::all();
+    repair::all();
 }

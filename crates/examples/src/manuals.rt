@@ -115,7 +115,15 @@ fn absent_spaces() {
         b"\
         # Documents 001 and 002: spaces 1 and 4, which this card lacks\n\
         p CIDER register: 01 45 C0 00\n\
+        p NNC5LLHH: 01 C5 C0 00 11 22\n\
+        p NN05: 01 05\n\
+        p NN85: 01 85 11 22\n\
+        p info 1, NN65LLHH: 01 65 00 00\n\
+        p info 1, NN25: 01 25\n\
         p NN51LLHH: 01 51 00 00\n\
+        p NND1LLHHDDDD: 01 D1 00 00 11 22\n\
+        p NN11: 01 11\n\
+        p NN91DDDD: 01 91 11 22\n\
         ",
     );
 }
@@ -126,8 +134,11 @@ fn flash() {
         b"\
         # Documents 001 and 002: space 3, flash, which this card lacks\n\
         p flash read: 01 CE 00 00 56 34 12 00 40 4E 04 00 40 0E 40 0E 40 0E\n\
-        p flash page write: 01 D9 1A 00 03 5A 01 CE 00 00 00 C0 00 00\n\
+        p flash page write, its first two commands: 01 D9 1A 00 03 5A 01 CE 00 00 00 C0 00 00\n\
         p flash sector erase: 01 D9 1A 00 03 5A 01 CE 00 00 00 00 01 00 01 CE 0C 00 00 00 00 00 01 4E 00 00\n\
+        p NN8E: 01 8E 11 22 33 44\n\
+        p info 3, NN6DLLHH: 01 6D 00 00\n\
+        p info 3, NN2D: 01 2D\n\
         ",
     );
 }
