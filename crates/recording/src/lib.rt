@@ -4,7 +4,7 @@ use lbp16::Refusal;
 use lbp16::pointer::Pointers;
 
 mod pair;
-mod part;
+pub mod part;
 
 use pair::Pair;
 ghost use mathlib.Core.Path.{_≡_};

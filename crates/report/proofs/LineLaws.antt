@@ -103,6 +103,15 @@ module _ (text room : List ℕ) (at : ℕ) where
   unfolding textPut
   text-none h = rw (lt-ltb (length room) (at + length text) h) (refl, refl)
 
+  pub text-put : {room₁ : List ℕ} {m : ℕ} → at + length text ≤ length room
+      → (m ≡ textPut text at room .next) × (room₁ ≡ textPut text at room .room) → Put text at room room₁ m
+  unfolding textPut
+  text-put {room₁} {m} h e =
+      let f = le-ltb (length room) (at + length text) h in
+      let p : m ≡ at + length text = e .0 ∙ rw f refl in
+      let q : room₁ ≡ sets room at text = e .1 ∙ rw f refl in
+      record { behind = p; fits = omega arith; written = q }
+
 -- a text put at the front: it stands there, and behind it all is as before
 pub put-front : {text l l₁ : List ℕ} {n : ℕ} → Put text 0 l l₁ n → (take n l₁ ≡ text) × (drop n l₁ ≡ drop n l)
 put-front {text} {l} {l₁} {n} p =

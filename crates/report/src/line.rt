@@ -49,6 +49,16 @@ fn put_decimal(out: &mut [u8], at: usize, n: u64) -> usize
     last + 1
 }
 
+// A number's digits where they fit; else nothing is put.
+pub fn number(out: &mut [u8], at: usize, n: u64) -> usize
+    ensures placed { λ r. ⌜ r ≡ textPut (decimal n) at (now (out .entry)) .next ⌝ }
+    ensures left { λ r. ⌜ now (out .exit) ≡ textPut (decimal n) at (now (out .entry)) .room ⌝ }
+{
+    let mut digits = [0u8; 20];
+    let k = put_decimal(&mut digits, 0, n);
+    text(out, at, &digits[..k])
+}
+
 // A text and behind it a number.
 fn put_numbered(out: &mut [u8], at: usize, text: &[u8], n: u64) -> usize
     requires { ⌜ at + length (now text) + 20 ≤ length (now out) ⌝ }

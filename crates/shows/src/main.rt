@@ -1,6 +1,7 @@
 // Compiles long cue lists and plays shows end to end, and writes what comes of it.
 mod buffer;
 mod cues;
+mod recorded;
 mod two_lists;
 mod work;
 
@@ -11,4 +12,5 @@ fn main() {
     cues::all();
     work::all();
     two_lists::all();
+    recorded::all();
 }

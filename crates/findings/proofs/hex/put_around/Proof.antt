@@ -1,0 +1,41 @@
+use Rattle.findings.proofs.HexLaws.{window-is}
+use borrow.Author.Needs.{needs}
+use Rattle.findings.proofs.hex.put_around.Statement.{statement}
+use Rattle.findings.proofs.hex.put_around.Tie as tie
+
+behind-window-requires : tie.Need-behind-window-requires
+behind-window-requires c κs = search needs
+
+before-window-requires : tie.Need-before-window-requires
+before-window-requires c κs = search needs
+
+sub-put-line : tie.Need-sub-put-line
+sub-put-line c = search needs
+
+part-put-line-start : tie.Need-part-put-line-start
+part-put-line-start c = search needs
+
+part-put-line-end : tie.Need-part-put-line-end
+part-put-line-end c = search needs
+
+put-line-requires : tie.Need-put-line-requires
+put-line-requires c κs = search needs
+
+same-length : tie.Need-same-length
+same-length c = search needs
+
+returns : tie.Need-returns
+returns c = rw (window-is (c .before .before .before .before .before .before .before .before .before .before .args .bytes .now) (c .before .before .before .before .before .before .before .before .before .before .args .k) (c .before .before .before .before .before .before .behind-window .ensures) (c .before .before .before .before .before .before-window .ensures)) at (c .before .before .put-line .ensures)
+
+pub put-around-spec : {M : Type 1} → statement M
+put-around-spec =
+    tie.close
+    (tie.spec
+    behind-window-requires
+    before-window-requires
+    sub-put-line
+    part-put-line-start
+    part-put-line-end
+    put-line-requires
+    same-length
+    returns)

@@ -1,0 +1,38 @@
+use Rattle.findings.proofs.FindingLaws.{end-within, behind-front}
+use native.Mathlib.Omega.{arith}
+use borrow.Author.Needs.{needs}
+use Rattle.findings.proofs.put_replies.Statement.{statement}
+use Rattle.findings.proofs.put_replies.Tie as tie
+
+part-end-requires : tie.Need-part-end-requires
+part-end-requires c κs = search needs
+
+sub-put-behind : tie.Need-sub-put-behind
+sub-put-behind c = let w = end-within (c .before .before .before .before .before .args .rest .now) in omega (arith, c .before .part-end .ensures)
+
+part-put-behind-start : tie.Need-part-put-behind-start
+part-put-behind-start c = let w = end-within (c .before .before .before .before .before .args .rest .now) in omega (arith, c .before .part-end .ensures)
+
+part-put-behind-end : tie.Need-part-put-behind-end
+part-put-behind-end c = search needs
+
+put-behind-requires : tie.Need-put-behind-requires
+put-behind-requires c κs = search needs
+
+same-length : tie.Need-same-length
+same-length c = search needs
+
+returns : tie.Need-returns
+returns c = rw (behind-front (c .before .before .before .before .before .before .before .before .before .args .rest .now) (c .before .before .before .before .before .part-end .ensures)) at (c .before .before .put-behind .ensures)
+
+pub put-replies-spec : {M : Type 1} → statement M
+put-replies-spec =
+    tie.close
+    (tie.spec
+    part-end-requires
+    sub-put-behind
+    part-put-behind-start
+    part-put-behind-end
+    put-behind-requires
+    same-length
+    returns)

@@ -1,0 +1,68 @@
+-- What the judging program writes for the recording that it is given: `yes` and the number of packets, or what is at fault.
+use Prim.Native.Nat.{ℕ, _+_}
+use mathlib.Core.List.{List, _++_}
+use mathlib.Core.Bool.{cond}
+use lib.ListN.{length, take, drop, replicate}
+use lib.Dec.{ltb}
+use Rattle.lbp16.specs.Space.{storeBytes}
+use Rattle.lbp16.specs.Pointer.{fresh}
+use Rattle.packet.specs.Command.{limit}
+use Rattle.cue.specs.Output.{Front, frontOf}
+use Rattle.recording.specs.Recording.{Verdict, Left, judgedIn}
+use Rattle.report.specs.Text.{ascii, decimal}
+use Rattle.findings.specs.Hex.{hexLine, around}
+
+-- the most bytes that a recording may have
+abbrev pub mostBytes : ℕ
+mostBytes = 1000000
+
+-- a number between two texts
+unfoldable pub numbered : List ℕ → ℕ → List ℕ → List ℕ
+numbered before n after = before ++ decimal n ++ after
+
+-- the bytes that a whole part takes, mark and length included
+unfoldable pub partEnd : Front → ℕ
+partEnd Front.end = 0
+partEnd Front.cut = 0
+partEnd Front.unmarked = 0
+partEnd (Front.part n) = 4 + n
+
+-- the bytes of the part at the front, and those behind it
+unfoldable pub frontBytes : List ℕ → List ℕ
+frontBytes rest = drop 4 (take (partEnd (frontOf rest)) rest)
+
+unfoldable pub behindFront : List ℕ → List ℕ
+behindFront rest = drop (partEnd (frontOf rest)) rest
+
+-- The reply that the card gave, at the front of `reply`, and the one found, around the byte at k.
+unfoldable pub bothReplies : List ℕ → List ℕ → ℕ → List ℕ
+bothReplies found reply k =
+    hexLine (ascii "expected") (around k (take (length found) reply)) ++ hexLine (ascii "found   ") (around k found)
+
+unfoldable pub badByteText : ℕ → ℕ → List ℕ → List ℕ → List ℕ
+badByteText i k rest reply =
+    numbered (ascii "packet ") i (ascii ", ") ++ numbered (ascii "byte ") k (ascii " of its reply is wrong\n")
+    ++ bothReplies (frontBytes (behindFront rest)) reply k
+
+-- The text of each verdict: `rest` begins with the last packet looked at, `reply` with what the card answered last. Packets, the bytes of a reply, and parts, packets and replies alike, are counted from 0.
+unfoldable pub verdictText : Verdict → List ℕ → List ℕ → List ℕ
+verdictText (Verdict.yes n) rest reply = numbered (ascii "yes, ") n (ascii " packets\n")
+verdictText (Verdict.refused m k) rest reply = numbered (ascii "refused ") m (ascii "\n")
+verdictText (Verdict.badPacket i) rest reply = numbered (ascii "packet ") i (ascii " is refused\n")
+verdictText (Verdict.badLength i) rest reply = numbered (ascii "packet ") i (ascii ": its reply has another length\n")
+verdictText (Verdict.badByte i k) rest reply = badByteText i k rest reply
+verdictText (Verdict.cut j) rest reply = numbered (ascii "part ") j (ascii " is cut\n")
+verdictText (Verdict.unmarked j) rest reply = numbered (ascii "part ") j (ascii " has no mark\n")
+
+unfoldable pub leftText : List ℕ → Left → List ℕ
+leftText recording l = verdictText (l .verdict) (drop (l .at) recording) (l .room)
+
+-- judged on a fresh card
+unfoldable pub freshlyJudged : List ℕ → Left
+freshlyJudged recording = judgedIn recording (replicate storeBytes 0) fresh (replicate limit 0)
+
+unfoldable pub tooLongLine : List ℕ
+tooLongLine = ascii "too long\n"
+
+unfoldable pub said : List ℕ → List ℕ
+said recording = cond (ltb mostBytes (length recording)) tooLongLine (leftText recording (freshlyJudged recording))

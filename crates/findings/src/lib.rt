@@ -1,0 +1,141 @@
+// What the judging program writes: `yes` and the number of packets, or what is at fault in a recorded show.
+use lbp16::pointer::Pointers;
+use recording::Judgment;
+use recording::part;
+use recording::part::Part;
+use report::line;
+
+mod hex;
+
+ghost use mathlib.Core.Path.{_≡_};
+ghost use Prim.Native.Nat.{_+_, _≤_};
+ghost use lib.ListN.{length};
+ghost use Rattle.lbp16.specs.Pointer.{fresh};
+ghost use Rattle.cue.specs.Output.{frontOf};
+ghost use Rattle.recording.specs.Recording.{verdictListed, judgedIn};
+ghost use Rattle.report.specs.Inside.{Put};
+ghost use Rattle.report.specs.Report.{reportLeft, lineLeft};
+ghost use Rattle.findings.specs.Findings.{numbered, partEnd, frontBytes, behindFront, bothReplies, badByteText, verdictText, leftText, tooLongLine, said};
+
+// The most bytes that a recording may have.
+const MOST: usize = 1000000;
+
+// A number between two texts. Each answers the place behind what it put.
+fn put_numbered(room: &mut [u8], at: usize, before: &[u8], n: u64, after: &[u8]) -> usize
+    requires { ⌜ at + length (now before) + length (now after) + 20 ≤ length (now room) ⌝ }
+    ensures { λ r. ⌜ Put (numbered (now (before .entry)) n (now (after .entry))) at (now (room .entry)) (now (room .exit)) r ⌝ }
+    ensures { λ r. ⌜ r ≤ at + length (now (before .entry)) + length (now (after .entry)) + 20 ⌝ }
+{
+    let next = line::text(room, at, before);
+    let next = line::number(room, next, n);
+    line::text(room, next, after)
+}
+
+// The bytes of the whole part at the front, mark and length included, and none where there is no such part.
+fn part_end(rest: &[u8]) -> usize
+    ensures { λ r. ⌜ r ≡ partEnd (frontOf (now (rest .entry))) ⌝ }
+{
+    let part = part::part_at(rest);
+    match part {
+        Part::End => 0,
+        Part::Cut => 0,
+        Part::Unmarked => 0,
+        Part::Whole(n) => 4 + n,
+    }
+}
+
+// The reply that the card gave and the one found, around the byte at `k`.
+fn put_both(room: &mut [u8], at: usize, found: &[u8], reply: &[u8], k: usize) -> usize
+    requires { ⌜ at + 72 ≤ length (now room) ⌝ }
+    ensures { λ r. ⌜ Put (bothReplies (now (found .entry)) (now (reply .entry)) k) at (now (room .entry)) (now (room .exit)) r ⌝ }
+{
+    let own = hex::least(reply.len(), found.len());
+    let next = hex::put_around(room, at, b"expected", &reply[..own], k);
+    hex::put_around(room, next, b"found   ", found, k)
+}
+
+// `behind` begins with the reply.
+fn put_behind(room: &mut [u8], at: usize, behind: &[u8], reply: &[u8], k: usize) -> usize
+    requires { ⌜ at + 72 ≤ length (now room) ⌝ }
+    ensures { λ r. ⌜ Put (bothReplies (frontBytes (now (behind .entry))) (now (reply .entry)) k) at (now (room .entry)) (now (room .exit)) r ⌝ }
+{
+    let end = part_end(behind);
+    let start = hex::least(end, 4);
+    put_both(room, at, &behind[start..end], reply, k)
+}
+
+// `rest` begins with the packet.
+fn put_replies(room: &mut [u8], at: usize, rest: &[u8], reply: &[u8], k: usize) -> usize
+    requires { ⌜ at + 72 ≤ length (now room) ⌝ }
+    ensures { λ r. ⌜ Put (bothReplies (frontBytes (behindFront (now (rest .entry)))) (now (reply .entry)) k) at (now (room .entry)) (now (room .exit)) r ⌝ }
+{
+    let n = part_end(rest);
+    put_behind(room, at, &rest[n..], reply, k)
+}
+
+fn put_bad_byte(room: &mut [u8], packet: u64, place: u64, rest: &[u8], reply: &[u8]) -> usize
+    requires { ⌜ 256 ≤ length (now room) ⌝ }
+    ensures { λ r. ⌜ Put (badByteText packet place (now (rest .entry)) (now (reply .entry))) 0 (now (room .entry)) (now (room .exit)) r ⌝ }
+{
+    let next = put_numbered(room, 0, b"packet ", packet, b", ");
+    let next = put_numbered(room, next, b"byte ", place, b" of its reply is wrong\n");
+    put_replies(room, next, rest, reply, place as usize)
+}
+
+// `rest` begins with the last packet looked at, and `reply` with what the card answered last.
+fn put_verdict(room: &mut [u8], judgment: Judgment, rest: &[u8], reply: &[u8]) -> usize
+    requires { ⌜ 256 ≤ length (now room) ⌝ }
+    ensures { λ r. ⌜ Put (verdictText (verdictListed judgment) (now (rest .entry)) (now (reply .entry))) 0 (now (room .entry)) (now (room .exit)) r ⌝ }
+{
+    match judgment {
+        Judgment::Yes(n) => put_numbered(room, 0, b"yes, ", n, b" packets\n"),
+        Judgment::Refused(r) => {
+            let number = r.number as u64;
+            put_numbered(room, 0, b"refused ", number, b"\n")
+        }
+        Judgment::BadPacket(i) => put_numbered(room, 0, b"packet ", i, b" is refused\n"),
+        Judgment::BadLength(i) => put_numbered(
+            room,
+            0,
+            b"packet ",
+            i,
+            b": its reply has another length\n",
+        ),
+        Judgment::BadByte { packet, place } => put_bad_byte(room, packet, place, rest, reply),
+        Judgment::Cut(j) => put_numbered(room, 0, b"part ", j, b" is cut\n"),
+        Judgment::Unmarked(j) => put_numbered(room, 0, b"part ", j, b" has no mark\n"),
+    }
+}
+
+fn put_too_long(room: &mut [u8]) -> usize
+    requires { ⌜ 256 ≤ length (now room) ⌝ }
+    ensures { λ r. ⌜ Put tooLongLine 0 (now (room .entry)) (now (room .exit)) r ⌝ }
+{
+    line::text(room, 0, b"too long\n")
+}
+
+// Judges a recording on a card of these cells, lent as zeros.
+fn put_judged(
+    room: &mut [u8],
+    recording: &[u8],
+    store: &mut [u8; 65728],
+    reply: &mut [u8; 1472],
+) -> usize
+    requires { ⌜ 256 ≤ length (now room) ⌝ }
+    ensures { λ r. ⌜ Put (leftText (now (recording .entry)) (judgedIn (now (recording .entry)) (now (store .entry)) fresh (now (reply .entry)))) 0 (now (room .entry)) (now (room .exit)) r ⌝ }
+{
+    let judged = recording::judge_in(recording, store, Pointers::fresh(), reply);
+    let judgment = judged.judgment;
+    let at = hex::least(judged.at, recording.len());
+    put_verdict(room, judgment, &recording[at..], reply)
+}
+
+// The bytes to write stand at the front of the room; how many they are is answered.
+pub fn findings(recording: &[u8], room: &mut [u8; 256]) -> usize
+    ensures { λ r. ⌜ reportLeft r (now (room .exit)) ≡ lineLeft (said (now (recording .entry))) (now (room .entry)) ⌝ }
+{
+    if MOST < recording.len() {
+        return put_too_long(room);
+    }
+    put_judged(room, recording, &mut [0; 65728], &mut [0; 1472])
+}
