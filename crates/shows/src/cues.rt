@@ -2,6 +2,7 @@
 // one on another.
 use crate::buffer::put;
 use crate::buffer::same;
+use card::check;
 use card::run;
 use cue::CompileAnswer;
 use lbp16::pointer::Pointers;
@@ -128,23 +129,20 @@ pub(crate) struct Left {
     pub(crate) bytes: usize,
 }
 
-fn reply_bytes(answer: Verdict) -> u64 {
-    match answer {
-        Verdict::Accepted(n) => n,
-        Verdict::Refused(r) => 0,
-    }
-}
-
-// Runs one packet. Its reply goes behind the earlier ones.
+// Checks one packet and runs it, if the check lets it pass. Its reply goes behind the earlier ones.
 fn play_packet(sent: &[u8], store: &mut [u8], before: Left, replies: &mut [u8]) -> Left {
     let mut room = [0u8; 1472];
     text::say(b"packet");
     answer::shown(sent);
     text::say(b":");
+    let checked = check::check(sent, store, before.pointers);
+    let Verdict::Accepted(n) = checked else {
+        answer::ran(checked, &room);
+        return before;
+    };
     let ran = run::run(sent, store, before.pointers, &mut room);
     let given = ran.answer;
     answer::ran(given, &room);
-    let n = reply_bytes(given);
     let bytes = put(replies, before.bytes, slice::part(&room, 0, n));
     let pointers = ran.pointers;
     Left { pointers, bytes }

@@ -1,6 +1,7 @@
 // Document 02's order 8: the packet that moves the most elements, 736 reads and 724 writes of 2 bytes. Twelve commands, none
 // with an address, all at the first cell of space 6.
 use crate::buffer;
+use card::check;
 use card::run;
 use lbp16::pointer::Pointers;
 use lines::text;
@@ -38,10 +39,11 @@ fn answer(verdict: Verdict) {
     }
 }
 
+// Checked, and run all the same.
 fn outcome(packet: &[u8], store: &mut [u8], reply: &mut [u8]) {
+    let checked = check::check(packet, store, Pointers::fresh());
+    answer(checked);
     let ran = run::run(packet, store, Pointers::fresh(), reply);
-    let verdict = ran.answer;
-    answer(verdict);
     text::number(b" bytes, elements moved ", ran.elements);
     text::say(b"\n");
 }
