@@ -125,11 +125,11 @@ module _ {p : Pointers} {packet store₀ reply₀ store reply : List ℕ} {g : P
     pub doing-next : (k : ℕ) → k ≡ commandBytes (x .found .fields) → (store′ reply′ : List ℕ)
         → store′ ≡ storeAfter (stepsAt (g .pointers) (x .found .fields) rest) store
         → reply′ ≡ laid (g .reply) (valuesRead (stepsAt (g .pointers) (x .found .fields) rest) store) reply
+        → (elements′ : ℕ) → elements′ ≡ elements + x .found .fields .count
         → Turn p packet (s .carried) (x .next) place k rest
-        × Doing p packet store₀ reply₀ store′ reply′ (x .next) (place + k) (elements + x .found .fields .count)
-        (take (length rest - k) (drop k rest))
+        × Doing p packet store₀ reply₀ store′ reply′ (x .next) (place + k) elements′ (take (length rest - k) (drop k rest))
     unfolding commandAt found carry progressOf
-    doing-next k q store′ reply′ e₁ e₂ =
+    doing-next k q store′ reply′ e₁ e₂ elements′ e₃ =
         let c = s .carried in
         let steps = stepsAt (c .pointers) (fieldsAt rest) rest in
         let same : g ≡ progressOf c = s .here .progress in
@@ -162,7 +162,7 @@ module _ {p : Pointers} {packet store₀ reply₀ store reply : List ℕ} {g : P
                 rw (turn .again .progress, reply-append, reply-of-command (c .pointers) (fieldsAt rest) rest)
                 (rw same at (pass .answers));
             moved =
-                rw (e, length-append, command-elements (c .pointers) (fieldsAt rest) rest)
+                rw (e₃, e, length-append, command-elements (c .pointers) (fieldsAt rest) rest)
                 (ap (λ (n : ℕ). n + fieldsAt rest .count) (s .moved));
             paid = paid-next c rest (pass .present) (s .paid);
           },

@@ -13,7 +13,7 @@ use packet::judge::Verdict;
 ghost use mathlib.Core.Path.{_≡_};
 ghost use mathlib.Core.Bool.{true, false, cond};
 ghost use mathlib.Core.List.{_++_};
-ghost use Prim.Native.Nat.{_+_, _*_, _≤_};
+ghost use Prim.Native.Nat.{_+_, _*_, _^_, _<_, _≤_};
 ghost use lib.Dec.{eqb};
 ghost use lib.ListN.{length, drop};
 ghost use Rattle.lbp16.specs.Space.{spaceOf, storeBytes};
@@ -113,6 +113,14 @@ struct Done {
     elements: u64,
 }
 
+// The elements moved so far, and those of one command more.
+fn summed(before: u64, count: u8) -> u64
+    requires { ⌜ before + count < 2 ^ 64 ⌝ }
+    ensures { λ r. ⌜ r ≡ before + count ⌝ }
+{
+    before + count as u64
+}
+
 // Does all commands of a packet that the check accepted.
 fn perform(packet: &[u8], store: &mut [u8], p: Pointers, reply: &mut [u8]) -> Done
     requires { ⌜ IsAccepted (judge p (now packet)) × (length (now store) ≡ storeBytes) × (length (now reply) ≡ limit) ⌝ }
@@ -131,7 +139,7 @@ fn perform(packet: &[u8], store: &mut [u8], p: Pointers, reply: &mut [u8]) -> Do
         let k = command::command_bytes(fields);
         at = c.next;
         place += k;
-        elements += fields.count as u64;
+        elements = summed(elements, fields.count);
         rest = &rest[k..];
     }
     let pointers = at.pointers;
@@ -143,6 +151,17 @@ pub struct Ran {
     pub answer: Verdict,
     pub elements: u64,
     pub pointers: Pointers,
+}
+
+// A refusal: nothing is moved.
+fn unmoved(answer: Verdict, p: Pointers) -> Ran
+    ensures { λ r. ⌜ (r .answer ≡ answer) × (r .elements ≡ 0) × (r .pointers ≡ p) ⌝ }
+{
+    Ran {
+        answer,
+        elements: 0,
+        pointers: p,
+    }
 }
 
 // Sets the unlock cell to 0.
@@ -168,19 +187,11 @@ pub fn run(packet: &[u8], store: &mut [u8], p: Pointers, reply: &mut [u8]) -> Ra
     ensures { λ r. ⌜ ran r (now (store .exit)) (now (reply .exit)) ≡ runPacket (now (packet .entry)) (now (store .entry)) p (now (reply .entry)) ⌝ }
 {
     if reply.len() != command::LIMIT {
-        return Ran {
-            answer: check::refused(1),
-            elements: 0,
-            pointers: p,
-        };
+        return unmoved(check::refused(1), p);
     }
     let answer = check::check(packet, store, p);
     let Verdict::Accepted(length) = answer else {
-        return Ran {
-            answer,
-            elements: 0,
-            pointers: p,
-        };
+        return unmoved(answer, p);
     };
     let done = perform(packet, store, p, reply);
     clear_unlock(store);

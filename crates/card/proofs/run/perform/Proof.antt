@@ -49,16 +49,15 @@ turn c =
     _
     (c .before .before .before .before .before .before .do-command .ensures .0)
     (c .before .before .before .before .before .before .do-command .ensures .1)
+    _
+    refl
     .0
 
 add-place : tie.Need-add-place Inv-loop μ-loop
 add-place c = let t = turn c in let e = c .before .before .before .before .before .before .before .before .before .before .before .before .before .loop .inv .here .end in omega (arith, c .before .before .before .before .before .before .before .before .before .before .before .before .before .before .before .before .before .before .good)
 
-cast-elements : tie.Need-cast-elements Inv-loop μ-loop
-cast-elements c = search needs
-
-add-elements : tie.Need-add-elements Inv-loop μ-loop
-add-elements c = let b = c .before .before .before .before .before .before .before .before .before .before .before .before in let h = count-small (b .before .before .loop .inv) (b .before .loop-test .taken) _ (b .command-at .ensures) in omega (arith, c .before .before .before .before .before .before .before .before .before .before .before .before .before .before .before .before .before .before .before .good)
+summed-requires : tie.Need-summed-requires Inv-loop μ-loop
+summed-requires c κs = let b = c .before .before .before .before .before .before .before .before .before .before .before in let h = count-small (b .before .before .loop .inv) (b .before .loop-test .taken) _ (b .command-at .ensures) in omega (arith, c .before .before .before .before .before .before .before .before .before .before .before .before .before .before .before .before .before .before .good)
 
 sub-rest : tie.Need-sub-rest Inv-loop μ-loop
 sub-rest c = turn (c .before) .whole
@@ -73,7 +72,7 @@ loop-less : tie.Need-loop-less Inv-loop μ-loop
 loop-less c = let t = turn (c .before .before) in simp (length-take, length-drop) (omega arith)
 
 loop-again : tie.Need-loop-again Inv-loop μ-loop
-loop-again c = let b = c .before .before .before .before .before .before .before .before .before .before .before .before .before in doing-next (b .before .before .loop .inv) (b .before .loop-test .taken) _ (b .command-at .ensures) _ (c .before .before .before .command-bytes .ensures) _ _ (c .before .before .before .before .before .before .before .before .do-command .ensures .0) (c .before .before .before .before .before .before .before .before .do-command .ensures .1) .1
+loop-again c = let b = c .before .before .before .before .before .before .before .before .before .before .before .before .before in doing-next (b .before .before .loop .inv) (b .before .loop-test .taken) _ (b .command-at .ensures) _ (c .before .before .before .command-bytes .ensures) _ _ (c .before .before .before .before .before .before .before .before .do-command .ensures .0) (c .before .before .before .before .before .before .before .before .do-command .ensures .1) _ (c .before .summed .ensures) .1
 
 same-length : tie.Need-same-length Inv-loop μ-loop
 same-length c = length-store (c .before .before .loop .inv)
@@ -97,8 +96,7 @@ perform-spec =
     do-command-requires
     command-bytes-requires
     add-place
-    cast-elements
-    add-elements
+    summed-requires
     sub-rest
     part-rest-start
     part-rest-end

@@ -9,8 +9,11 @@ use Rattle.card.proofs.AnswerLaws.{may-run, other-room, run-refused, ru
 refused-requires : tie.Need-refused-requires
 refused-requires c κs = search needs
 
+unmoved-requires : tie.Need-unmoved-requires
+unmoved-requires c κs = search needs
+
 returns : tie.Need-returns
-returns c = other-room _ _ _ _ (c .before .if1 .taken) _ (c .refused .ensures) refl refl
+returns c = let u = c .unmoved .ensures in other-room _ _ _ _ (c .before .before .if1 .taken) _ (ap verdictListed (u .0) ∙ c .before .refused .ensures) (u .2) (u .1)
 
 check-requires : tie.Need-check-requires
 check-requires c κs = search needs
@@ -21,12 +24,15 @@ enum-known-answer c = search needs
 enum-told : tie.Need-enum-told
 enum-told c = search needs
 
+unmoved-requires-2 : tie.Need-unmoved-requires-2
+unmoved-requires-2 c κs = search needs
+
 same-length : tie.Need-same-length
 same-length c = search needs
 
 returns-2 : tie.Need-returns-2
 unfolding verdictListed
-returns-2 c = run-refused _ _ _ _ (c .before .before .before .before .if1 .left) _ _ _ (ap verdictListed (c .enum-told .given .1)) (ap verdictListed (sym (c .enum-told .given .1)) ∙ c .before .before .check .ensures) refl refl
+returns-2 c = let u = c .unmoved2 .ensures in run-refused _ _ _ _ (c .before .before .before .before .before .if1 .left) _ _ _ (ap verdictListed (u .0 ∙ c .before .enum-told .given .1)) (ap verdictListed (sym (c .before .enum-told .given .1)) ∙ c .before .before .before .check .ensures) (u .2) (u .1)
 
 perform-requires : tie.Need-perform-requires
 unfolding verdictListed
@@ -55,10 +61,12 @@ run-spec =
     tie.close
     (tie.spec
     refused-requires
+    unmoved-requires
     returns
     check-requires
     enum-known-answer
     enum-told
+    unmoved-requires-2
     same-length
     returns-2
     perform-requires
