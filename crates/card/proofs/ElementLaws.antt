@@ -39,18 +39,6 @@ module _ (w : ℕ) (s : List ℕ) (at : ℕ) (h : at + w ≤ length s) where
       ap (λ (n : ℕ). bytesOf n (number (take w (drop at s)))) (sym length-part)
       ∙ bytes-of-number (take w (drop at s)) (part-octets o)
 
--- The number of bytes read one after the other.
-pub number-next : (w : ℕ) (s : List ℕ) (at : ℕ) → at < length s
-    → number (take (suc w) (drop at s)) ≡ getD s at 0 + 256 * number (take w (drop (at + 1) s))
-unfolding number
-number-next w s at h = rw (drop-cons s at 0 h, add-one) refl
-
--- the same, k bytes further
-pub number-from : (w : ℕ) (s : List ℕ) (at k : ℕ) → at + k < length s
-    → number (take (suc w) (drop (at + k) s)) ≡ getD s (at + k) 0 + 256 * number (take w (drop (at + suc k) s))
-unfolding number
-number-from w s at k h = rw (drop-cons s (at + k) 0 h, add-suc) refl
-
 -- The bytes of a number stored one after the other: w of them from place `at + k` on, those below p being stored.
 abbrev pub stored-on : ℕ → List ℕ → ℕ → ℕ → ℕ → ℕ → List ℕ
 stored-on zero d at k p v = d

@@ -15,6 +15,7 @@ use Rattle.lbp16.specs.Word.{wordOf, outOfRange, written, listed}
 use Rattle.lbp16.specs.declared.word.Written.{Written}
 use Rattle.lbp16.specs.declared.word.Written.the-variants.{Word, Refused}
 use Rattle.lbp16.specs.declared.Refusal.{Refusal}
+use Rattle.card.proofs.ElementLaws.{stored-bytes}
 use Rattle.packet.specs.Bytes.{bytesOf}
 use Rattle.cue.specs.Inside.{lastFields, framedAt, unlockedAt, headedAt, wrote, unlockBytes}
 use Rattle.cue.specs.declared.packer.Packer.{Packer}
@@ -27,8 +28,7 @@ sets-append l i (v ∷ vs) ws =
     rw e (sets-append (set l i v) (suc i) vs ws)
 
 pub put2-is : (l : List ℕ) (at v : ℕ) → v < 65536 → set (set l at (v % 256)) (at + 1) (v / 256) ≡ sets l at (bytesOf 2 v)
-unfolding bytesOf
-put2-is l at v h = let q : v / 256 % 256 ≡ v / 256 = omega arith in rw (q, add-one) refl
+put2-is l at v h = let q : v / 256 % 256 ≡ v / 256 = omega arith in rw q at (stored-bytes 1 l at v)
 
 pub put4-is : (l : List ℕ) (at a b : ℕ) → sets (sets l at (bytesOf 2 a)) (at + 2) (bytesOf 2 b) ≡ sets l at (bytesOf 2 a ++ bytesOf 2 b)
 unfolding bytesOf

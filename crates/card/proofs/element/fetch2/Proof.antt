@@ -2,7 +2,7 @@ use borrow.Author.Needs.{needs}
 use Rattle.card.proofs.element.fetch2.Statement.{statement}
 use Rattle.card.proofs.element.fetch2.Tie as tie
 use native.Mathlib.Omega.{arith}
-use Rattle.card.proofs.ElementLaws.{number-next, number-from}
+use Rattle.packet.proofs.PairLaws.{number-next, number-from}
 use denote.Ref.{now}
 use Rattle.packet.specs.Bytes.{number}
 

@@ -4,7 +4,7 @@ use Rattle.card.proofs.element.fetch4.Tie as tie
 use native.Mathlib.Omega.{arith}
 use denote.Ref.{now}
 use Rattle.packet.specs.Bytes.{number}
-use Rattle.card.proofs.ElementLaws.{number-next, number-from}
+use Rattle.packet.proofs.PairLaws.{number-next, number-from}
 
 shared-slice-read-wide32 : tie.Need-shared-slice-read-wide32
 shared-slice-read-wide32 c = search needs

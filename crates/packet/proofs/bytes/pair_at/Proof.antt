@@ -3,12 +3,12 @@ use Rattle.packet.proofs.bytes.pair_at.Statement.{statement}
 use Rattle.packet.proofs.bytes.pair_at.Tie as tie
 use native.Mathlib.Omega.{arith}
 use mathlib.Core.Path.{sym, _∙_}
-use Rattle.packet.proofs.PairLaws.{pair-none, pair-one, pair-two}
+use Rattle.packet.proofs.PairLaws.{number-none, pair-one, pair-two}
 use Prim.Native.Nat.{_+_, _*_}
 use mathlib.Core.Path.{ap₂}
 
 returns : tie.Need-returns
-returns c = sym (pair-none _ _ (c .if1 .taken))
+returns c = sym (number-none 2 _ _ (c .if1 .taken))
 
 shared-slice-read-wide : tie.Need-shared-slice-read-wide
 shared-slice-read-wide c = search needs
