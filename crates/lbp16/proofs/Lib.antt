@@ -2,5 +2,6 @@
 pub mod BoolLaws
 pub mod WordLaws
 pub mod SpaceLaws
+pub mod CaseLaws
 pub mod PointerLaws
 pub mod InfoLaws
