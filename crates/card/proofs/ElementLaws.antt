@@ -6,7 +6,7 @@ use native.Mathlib.Omega.{arith}
 use native.Mathlib.Nat.{add-suc, div-div-eq-div-mul}
 use native.Mathlib.Numerals.{add-one}
 use lib.ListN.{length, take, drop, getD, set, length-drop}
-use lib.Seq.{sets, drop-cons, length-take-le, getD-take, getD-drop}
+use lib.Seq.{sets, length-take-le, getD-take, getD-drop}
 use Rattle.packet.specs.Bytes.{number, bytesOf}
 
 -- every byte of the list is below 256
