@@ -131,6 +131,30 @@ uint32_t head_fields(uint16_t word, uint8_t *fields, size_t fields_length);
  */
 uint32_t head_word(const uint8_t *fields, size_t fields_length, uint16_t *word);
 
+/* Says why a packet is refused: the number and the place that head_check gives, and head_run with a reply room of 1,472
+ * bytes, and the command at fault. Nothing is changed, and what the store's cells hold plays no part.
+ *
+ *   packet    the commands, packet_length bytes; may be empty
+ *   store     65,728 bytes
+ *   pointers  8 numbers, each at most its space's size, or 16 for an info area
+ *   place     takes the offset of the command's first byte in the packet
+ *   index     takes the command's index in the packet, from 0
+ *   fields    room for the 7 bytes of head_fields; takes the command's fields, all 0 where its word is cut off
+ *
+ * Returns 0 if the packet would be run, and place, index and fields are then 0. Else the number of the refusal:
+ *
+ *    1  as head_check gives it, also for another pointers_length than 8, and
+ *    2  packet above 1,472 bytes: these name no command, and place, index and fields are 0
+ *   3 to 12  as head_run gives them. The bytes of the packet before the place alone are a packet that is accepted, from the
+ *       same store and pointers.
+ *   13  fields_length is not 7; place and index are 0 and nothing else is written. This comes first.
+ */
+uint32_t head_why(const uint8_t *packet, size_t packet_length,
+                  const uint8_t *store, size_t store_length,
+                  const uint32_t *pointers, size_t pointers_length,
+                  uint64_t *place, uint64_t *index,
+                  uint8_t *fields, size_t fields_length);
+
 /* Compiles a cue list into packets. The whole list is checked, and the output counted, before a byte is written.
  *
  *   list     the records, list_length bytes; may be empty

@@ -3,3 +3,4 @@ pub mod SerialLaws
 pub mod PartLaws
 pub mod TwoListsLaws
 pub mod RecordedLaws
+pub mod ReasonedLaws

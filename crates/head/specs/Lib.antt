@@ -4,3 +4,4 @@ pub mod Panels
 pub mod Part
 pub mod TwoLists
 pub mod Recorded
+pub mod Reasoned

@@ -6,6 +6,7 @@ mod recorded;
 mod repair;
 pub mod serial;
 mod two_lists;
+mod why_refused;
 
 use card::check;
 use card::run;

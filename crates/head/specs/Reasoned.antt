@@ -1,0 +1,29 @@
+-- What head_why returns and leaves.
+use Prim.Native.Nat.{ℕ}
+use mathlib.Core.List.{List}
+use mathlib.Core.Bool.{cond}
+use lib.ListN.{length}
+use lib.Dec.{eqb}
+use Rattle.reason.specs.Reason.{unnamed, explained}
+use Rattle.reason.specs.declared.Reason.{Reason}
+use Rattle.head.specs.Exports.{pointersOf, fieldBytes}
+
+pub record WhyExport : Type 0 where
+  pub number : ℕ
+  pub place : ℕ
+  pub index : ℕ
+  pub fields : List ℕ
+
+abbrev pub whyLeft : ℕ → ℕ → ℕ → List ℕ → WhyExport
+whyLeft number place index fields = record { number = number; place = place; index = index; fields = fields }
+
+-- Refused with 1 where there are not eight pointers.
+unfoldable pub reasonFor : List ℕ → List ℕ → List ℕ → Reason
+reasonFor packet store pointers =
+    cond (eqb (length pointers) 8) (explained packet store (pointersOf pointers)) (unnamed 1 0)
+
+-- Refused with 13 where there is not room for exactly seven bytes of fields.
+unfoldable pub exportWhy : List ℕ → List ℕ → List ℕ → List ℕ → WhyExport
+exportWhy packet store pointers fields =
+    let r = reasonFor packet store pointers in
+    cond (eqb (length fields) 7) (whyLeft (r .number) (r .place) (r .index) (fieldBytes (r .fields))) (whyLeft 13 0 0 fields)

@@ -1,0 +1,23 @@
+use borrow.Author.Needs.{needs}
+use Rattle.reason.proofs.PartLaws.{rest-within}
+use Rattle.reason.proofs.slice.rest.Statement.{statement}
+use Rattle.reason.proofs.slice.rest.Tie as tie
+
+within-requires : tie.Need-within-requires
+within-requires c κs = search needs
+
+sub-result : tie.Need-sub-result
+sub-result c = search needs
+
+part-result-start : tie.Need-part-result-start
+part-result-start c = search needs
+
+part-result-end : tie.Need-part-result-end
+part-result-end c = search needs
+
+returns : tie.Need-returns
+returns c = rest-within _ _ _ (c .before .within .ensures)
+
+pub rest-spec : {M : Type 1} → statement M
+rest-spec =
+    tie.close (tie.spec within-requires sub-result part-result-start part-result-end returns)

@@ -1,0 +1,45 @@
+use Rattle.report.specs.Text.{ascii}
+use Rattle.wording.proofs.PieceLaws.{put-then}
+use borrow.Author.Needs.{needs}
+use Rattle.wording.proofs.shown.span.Statement.{statement}
+use Rattle.wording.proofs.shown.span.Tie as tie
+
+slice-aggregate-numbered : tie.Need-slice-aggregate-numbered
+slice-aggregate-numbered c = search needs
+
+numbered-requires : tie.Need-numbered-requires
+numbered-requires c κs = search needs
+
+slice-aggregate-numbered-2 : tie.Need-slice-aggregate-numbered-2
+slice-aggregate-numbered-2 c = search needs
+
+numbered-requires-2 : tie.Need-numbered-requires-2
+numbered-requires-2 c κs = search needs
+
+slice-aggregate-numbered-3 : tie.Need-slice-aggregate-numbered-3
+slice-aggregate-numbered-3 c = search needs
+
+numbered-requires-3 : tie.Need-numbered-requires-3
+numbered-requires-3 c κs = search needs
+
+same-length : tie.Need-same-length
+same-length c = search needs
+
+returns : tie.Need-returns
+unfolding ascii
+returns c = put-then _ _ _ _ _ _ _ _ (put-then _ _ _ _ _ _ _ _
+    (c .before .before .before .before .before .before .before .before .before .before .before .before .numbered .ensures)
+    (c .before .before .before .before .before .before .before .numbered2 .ensures)) (c .before .before .numbered3 .ensures)
+
+pub span-spec : {M : Type 1} → statement M
+span-spec =
+    tie.close
+    (tie.spec
+    slice-aggregate-numbered
+    numbered-requires
+    slice-aggregate-numbered-2
+    numbered-requires-2
+    slice-aggregate-numbered-3
+    numbered-requires-3
+    same-length
+    returns)

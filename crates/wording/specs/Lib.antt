@@ -1,0 +1,4 @@
+pub mod Piece
+pub mod Sentence
+pub mod Wording
+pub mod Given
