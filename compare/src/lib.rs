@@ -5,13 +5,11 @@
 
 pub mod bursts;
 pub mod cards;
-#[cfg(feature = "compile")]
 pub mod cues;
 pub mod drafts;
 pub mod independent;
 pub mod info;
 pub mod lent;
-#[cfg(feature = "compile")]
 pub mod lists;
 pub mod packets;
 pub mod panel;
@@ -19,7 +17,6 @@ pub mod parts;
 pub mod recordings;
 pub mod rng;
 pub mod salvage;
-#[cfg(feature = "compile")]
 pub mod shows;
 pub mod sserial;
 pub mod tally;

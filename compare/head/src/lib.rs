@@ -88,7 +88,6 @@ pub struct Ran {
 }
 
 /// What a compiled list came to.
-#[cfg(feature = "compile")]
 #[derive(Clone, Copy, Debug, PartialEq, Eq)]
 pub struct Compiled {
     /// The output's length.
@@ -153,7 +152,6 @@ pub fn spi(words: &[u32], store: &mut [u8], answer: &mut [u32]) -> Result<u64, R
 /// assert_eq!(out[..compiled.bytes], [b'L', b'B', 4, 0, 0x81, 0x42, 4, 0]);
 /// # Ok::<(), head::Refusal>(())
 /// ```
-#[cfg(feature = "compile")]
 pub fn compile(list: &[u8], out: &mut [u8]) -> Result<Compiled, Refusal> {
     let (number, bytes, packets) = exports::compile(list, out);
     accepted(number, bytes)?;
@@ -285,7 +283,6 @@ pub mod exports {
     }
 
     /// Answers the refusal number, the output's bytes or the place, and the packets, 0 if refused.
-    #[cfg(feature = "compile")]
     pub fn compile(list: &[u8], out: &mut [u8]) -> (u32, u64, u64) {
         let mut bytes = UNWRITTEN;
         let mut packets = UNWRITTEN;
@@ -353,7 +350,6 @@ mod c {
             value: *mut u64,
         ) -> u32;
 
-        #[cfg(feature = "compile")]
         pub fn head_compile(
             list: *const u8,
             list_len: usize,

@@ -164,7 +164,6 @@ fn short_burst() {
     assert_eq!(store[0xFFFC..0x10000], [0xFC, 0xFD, 0xFE, 0xFF]);
 }
 
-#[cfg(feature = "compile")]
 #[test]
 fn list_and_its_room() {
     let list = b"WR\x02\0\x20\0\x20\0\0\0WR\x02\0\x22\0\xA8\xC0\0\0";

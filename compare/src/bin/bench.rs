@@ -65,7 +65,7 @@ fn main() -> ExitCode {
 fn all_cases() -> Vec<Case> {
     let mut cases = packet_cases();
     cases.extend(burst_cases());
-    cases.extend(list_cases());
+    cases.extend(lists::cases());
     cases.extend(parts::cases());
     cases
 }
@@ -79,7 +79,7 @@ fn count(name: &str, times: &str) -> Result<(), String> {
     // The lists take long to make, so they are made last.
     let case = named(packet_cases())
         .or_else(|| named(burst_cases()))
-        .or_else(|| named(list_cases()))
+        .or_else(|| named(lists::cases()))
         .or_else(|| named(parts::cases()));
     let mut case = case.ok_or_else(|| unknown(name))?;
     for _ in 0..times {
@@ -120,7 +120,6 @@ fn measure_all(mut cases: Vec<Case>) {
         );
         measured.push((case.name.clone(), times));
     }
-    #[cfg(feature = "compile")]
     lists::print_growth(&measured);
 }
 
@@ -378,17 +377,6 @@ fn burst_case(name: &str, what: &str, header: u32) -> Case {
 
 // Lists.
 
-#[cfg(feature = "compile")]
-fn list_cases() -> Vec<Case> {
-    lists::cases()
-}
-
-#[cfg(not(feature = "compile"))]
-fn list_cases() -> Vec<Case> {
-    Vec::new()
-}
-
-#[cfg(feature = "compile")]
 mod lists {
     use super::{black_box, Case, Space, Times};
     use compare::cues::List;
