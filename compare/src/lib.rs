@@ -14,6 +14,7 @@ pub mod lists;
 pub mod packets;
 pub mod panel;
 pub mod parts;
+pub mod reasons;
 pub mod recordings;
 pub mod rng;
 pub mod salvage;

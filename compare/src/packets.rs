@@ -1,9 +1,10 @@
-//! Compares packets checked and then run on a card whose store and pointers are carried from one to
-//! the next.
+//! Compares packets checked, asked why they are refused, and then run, on a card whose store and
+//! pointers are carried from one to the next.
 
 use crate::drafts;
 use crate::info;
 use crate::lent::Lent;
+use crate::reasons::{Card, Reasons};
 use crate::rng::Rng;
 use crate::tally::Tally;
 use crate::{
@@ -86,6 +87,7 @@ pub fn compare(seed: u64, count: u64) -> Outcome {
         reply: Lent::new("reply", PACKET_BYTES, 0),
         tally: Tally::new("packets", &ENDINGS, &SITUATIONS),
         checks: Tally::new("checks", &ENDINGS, &CHECK_SITUATIONS),
+        reasons: Reasons::default(),
         info: info::tally(),
     };
     for case in 0..count {
@@ -96,7 +98,7 @@ pub fn compare(seed: u64, count: u64) -> Outcome {
         let result = part.case();
         result.map_err(|what| format!("packet {case}: {what}"))?;
     }
-    Ok(vec![part.checks, part.tally, part.info])
+    Ok(vec![part.checks, part.tally, part.info, part.reasons.tally])
 }
 
 struct Part {
@@ -106,6 +108,7 @@ struct Part {
     reply: Lent<u8>,
     tally: Tally,
     checks: Tally,
+    reasons: Reasons,
     info: Tally,
 }
 
@@ -158,6 +161,7 @@ impl Part {
     /// Answers what both sides answered to the check and to the run.
     fn check_and_run(&mut self, packet: &[u8], rooms: &Rooms) -> Result<(Answer, Answer), String> {
         let checked = self.check(packet, rooms)?;
+        self.why(packet, rooms, checked)?;
         let ran = self.run(packet, rooms)?;
         let answer = match rooms.reply {
             PACKET_BYTES => checked,
@@ -180,6 +184,17 @@ impl Part {
             .and_then(|()| self.compare(true))
             .map_err(|what| format!("check: {what}"))?;
         Ok(expected)
+    }
+
+    fn why(&mut self, packet: &[u8], rooms: &Rooms, checked: Answer) -> Result<(), String> {
+        let (store, _) = self.store.lend(rooms.store);
+        let (pointers, _) = self.pointers.lend(rooms.pointers);
+        let card = Card { store, pointers };
+        let reasons = &mut self.reasons;
+        reasons
+            .case(&mut self.rng, packet, &card, checked)
+            .and_then(|()| self.compare(true))
+            .map_err(|what| format!("why: {what}"))
     }
 
     fn run(&mut self, packet: &[u8], rooms: &Rooms) -> Result<Answer, String> {

@@ -8,7 +8,7 @@ use head::exports;
 use model::words::Fields;
 
 /// The seven bytes that hold a word's fields at the library's boundary.
-const FIELDS: usize = 7;
+pub const FIELDS: usize = 7;
 
 /// The lowest values that are out of range, in the order of the bytes.
 const ENDS: [u8; FIELDS] = [2, 2, 2, 8, 4, 2, 128];
@@ -129,7 +129,7 @@ fn word(bytes: &[u8], word: &mut u16) -> u32 {
     }
 }
 
-fn to_bytes(fields: Fields) -> [u8; FIELDS] {
+pub fn to_bytes(fields: Fields) -> [u8; FIELDS] {
     [
         fields.write.into(),
         fields.address.into(),

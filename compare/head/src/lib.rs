@@ -31,10 +31,12 @@ pub mod parts;
 pub mod recording;
 pub mod salvage;
 pub mod sserial;
+pub mod why;
 
 pub use independent::{independent, Dependent};
 pub use recording::{judge, Verdict};
 pub use salvage::{salvage, Salvaged};
+pub use why::{why, Reason};
 
 /// The length that a store must have.
 pub const STORE_BYTES: usize = 65_728;
@@ -172,7 +174,11 @@ pub fn compile(list: &[u8], out: &mut [u8]) -> Result<Compiled, Refusal> {
 pub fn fields(word: u16) -> Fields {
     let mut bytes = [0; 7];
     exports::fields(word, &mut bytes);
-    let [write, address, info, space, size, increment, count] = bytes;
+    fields_of(bytes)
+}
+
+/// The fields of the seven bytes that the library gives for them.
+fn fields_of([write, address, info, space, size, increment, count]: [u8; 7]) -> Fields {
     Fields {
         write: write != 0,
         address: address != 0,

@@ -178,3 +178,31 @@ fn list_and_its_room() {
     let refusal = head::compile(list, &mut out[..17]).unwrap_err();
     assert_eq!((refusal.number, refusal.place), (26, 18));
 }
+
+#[test]
+fn reasons() {
+    let store = vec![0; STORE_BYTES];
+    let packet = [0x81, 0x42, 0xFC, 0xFF, 0x81, 0x02];
+    let reason = head::why(&packet, &store, &[0; POINTERS]).unwrap();
+    assert_eq!((reason.index, reason.fields), (1, head::fields(0x0281)));
+    assert_eq!(
+        reason.to_string(),
+        "refused 8 at 4: address not a multiple of the element size, or an element past the space's end"
+    );
+    assert_eq!(head::why(&packet[..4], &store, &[0; POINTERS]), None);
+    assert_eq!(head::why(&[], &store, &[0; POINTERS]), None);
+    let reason = head::why(&packet, &store, &[0; 4]).unwrap();
+    assert_eq!((reason.refusal.number, reason.index), (1, 0));
+    assert_eq!(reason.fields, head::fields(0));
+}
+
+#[test]
+fn reason_with_another_room_for_fields() {
+    let store = vec![0; STORE_BYTES];
+    for length in [0, 6, 8] {
+        let mut fields = vec![0xEE; length];
+        let answer = head::why::exports::why(&[0x81], &store, &[0; POINTERS], &mut fields);
+        assert_eq!(answer, (13, 0, 0));
+        assert!(fields.iter().all(|&byte| byte == 0xEE));
+    }
+}

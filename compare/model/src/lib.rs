@@ -16,6 +16,7 @@ pub mod salvage;
 pub mod spi;
 pub mod sserial;
 pub mod store;
+pub mod why;
 pub mod words;
 
 /// Why a call was turned away. A refused call changes nothing that it was lent.

@@ -61,7 +61,11 @@ fn status_cell(store: &mut [u8], address: u32) -> &mut [u8; 2] {
 }
 
 /// A walk from the packet's first command, unless 1 or 2 refuses it.
-fn start<'a>(packet: &'a [u8], store: &[u8], pointers: &[u32]) -> Result<Walk<'a>, Refusal> {
+pub(crate) fn start<'a>(
+    packet: &'a [u8],
+    store: &[u8],
+    pointers: &[u32],
+) -> Result<Walk<'a>, Refusal> {
     let pointers = match checked_pointers(pointers) {
         Some(pointers) if store.len() == STORE_BYTES => pointers,
         _ => return Err(Refusal::whole(1)),
@@ -80,7 +84,7 @@ fn checked_pointers(pointers: &[u32]) -> Option<[u32; POINTERS]> {
 }
 
 /// A command that passed its check.
-struct Command<'a> {
+pub(crate) struct Command<'a> {
     area: Area,
     address: u32,
     increment: bool,
@@ -143,7 +147,7 @@ fn repeat<const N: usize>(element: &[u8], reply: &mut [u8]) {
 }
 
 /// Takes a packet apart, command by command, and checks each. No store is needed for that.
-struct Walk<'a> {
+pub(crate) struct Walk<'a> {
     rest: &'a [u8],
     place: u64,
     pointers: [u32; POINTERS],
@@ -162,14 +166,14 @@ impl<'a> Walk<'a> {
         }
     }
 
-    fn at_end(&self) -> bool {
+    pub(crate) fn at_end(&self) -> bool {
         self.rest.is_empty()
     }
 
     /// The next command, or the lowest number that it is refused with.
     // Inlined, a check that only asks for refusals puts no command together.
     #[inline(always)]
-    fn command(&mut self) -> Result<Command<'a>, Refusal> {
+    pub(crate) fn command(&mut self) -> Result<Command<'a>, Refusal> {
         let place = self.place;
         let refused = |number| Refusal { number, place };
 
