@@ -180,6 +180,49 @@ uint32_t head_compile(const uint8_t *list, size_t list_length,
                       uint8_t *out, size_t out_length,
                       uint64_t *bytes, uint64_t *packets);
 
+/* Compiles a cue list into fewer bytes where it can. Parameters, records, refusals and their places are head_compile's, 26 with
+ * the bytes of head_compile's own output included, so that room which is enough there is enough here. Refused: out is
+ * unchanged.
+ *
+ *   list     the records, list_length bytes; may be empty
+ *   out      room for head_compile's output
+ *   bytes    takes the output's length, or the refusal's place
+ *   packets  takes the number of packets, 0 if refused
+ *
+ * Accepted: returns 0. The output is never longer than head_compile's, and head_tight_check accepts it with this number of
+ * packets; out beyond it is unchanged. Its packets, each behind the mark "LB" and its length, may be cut in other places than
+ * head_compile's. Running them in order with head_run, from any store and any pointers that 1 does not turn away, does what
+ * the records do, as head_compile says. 2 to 127 reads of one cell come out as one packet, in 8 bytes.
+ *
+ *   21 to 24 and 26  as head_compile
+ */
+uint32_t head_tighten(const uint8_t *list, size_t list_length,
+                      uint8_t *out, size_t out_length,
+                      uint64_t *bytes, uint64_t *packets);
+
+/* Says whether an output, from wherever it comes, may be sent for a cue list instead of head_compile's. Nothing is changed but
+ * *value.
+ *
+ *   list    the records, list_length bytes; may be empty
+ *   output  packets, each behind the mark "LB" (4C 42) and its length, 2 bytes, low byte first; may be empty
+ *   value   takes the number of packets if accepted, the refusal's place if the list is refused, 0 for 50
+ *
+ * Returns 0 exactly if the list is good and all of these hold: marks and lengths are sound; every packet is accepted by the
+ * rules of head_run; none uses a space's pointer before it has set it; the elements that the packets read and write, in order,
+ * are the list's records, but for writes of 0x5A02 to the unlock cell, which may stand anywhere; the output is no longer than
+ * head_compile's. So an info read is rejected, and any other write to the unlock cell. An empty packet is accepted like any
+ * other, and counts.
+ * Then running the packets in order with head_run, from any store and any pointers that 1 does not turn away, reads the values
+ * and leaves the cells that doing the records one by one would, the unlock cell and the packet count apart; the count rises by
+ * the number of packets.
+ *
+ *   21 to 24  as head_compile refuses the list, whatever the output is
+ *   50        list good, output rejected
+ */
+uint32_t head_tight_check(const uint8_t *list, size_t list_length,
+                          const uint8_t *output, size_t output_length,
+                          uint64_t *value);
+
 /* Saves what can be saved of a damaged cue list. Both rooms are held against what is needed before a byte is written.
  *
  *   list     the damaged list, list_length bytes; may be empty

@@ -28,7 +28,7 @@ unfolding packed
 packets-hold xs g = packed-holds (packing-keeps xs g)
 
 -- The output taken apart is those packets.
-apart-packed : (xs : List Step) → Good xs → apart (output xs) ≡ parts (packed xs)
+pub apart-packed : (xs : List Step) → Good xs → apart (output xs) ≡ parts (packed xs)
 unfolding output
 apart-packed xs g = apart-output (packed xs) (packets-short xs g)
 

@@ -49,7 +49,7 @@ wide-append e (Wide.more k w) h = Wide.more k (wide-append e w h)
 pub mixed-append : {ss ts xs ys : List Step} → Mixed ss xs → Mixed ts ys → Mixed (ss ++ ts) (xs ++ ys)
 mixed-append Mixed.none n = n
 mixed-append (Mixed.same m) n = Mixed.same (mixed-append m n)
-mixed-append (Mixed.unlock m) n = Mixed.unlock (mixed-append m n)
+mixed-append (Mixed.unlock w v m) n = Mixed.unlock w v (mixed-append m n)
 
 -- commands that are sound after others
 pub sound-append : {open? : Bool} {cs ds : List Command} → SoundAll open? cs → SoundAll (unlocked open? (packetSteps cs)) ds

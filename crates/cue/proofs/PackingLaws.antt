@@ -192,7 +192,7 @@ readied open? false x e = record { sound = SoundAll.none; mixed = Mixed.none; un
 readied open? true x e =
     record {
       sound = SoundAll.more (unlock-sound open?) SoundAll.none;
-      mixed = Mixed.unlock Mixed.none;
+      mixed = Mixed.unlock refl refl Mixed.none;
       unlocks = and-false (isWrite (x .kind) && row (x .space) .locked);
     }
 

@@ -176,14 +176,17 @@ from-place (suc fuel) k (SoundAll.more {c = c} {cs = cs} h hs) u f l =
     let (end, e, s) = from-place fuel next hs (rw (steps, unlocked-append, u)) (omega (arith, long c)) small in
     (end, judged-on c h more fuel k u (omega arith) ∙ e, s ∙ rw (steps, append-assoc))
 
--- A packet of sound commands that keeps both limits is accepted from any pointers, and does its commands' steps.
+-- A packet of sound commands that keeps both limits is accepted from any pointers whatever, and does its commands' steps.
+pub read-from : (cs : List Command) → SoundAll false cs → replyBytes (packetSteps cs) ≤ limit → (p : Pointers)
+    → (end : Carried) × (judge p (packetBytes cs) ≡ accepted end) × (end .steps ≡ packetSteps cs)
+unfolding judge begin unlocked replyBytes
+read-from cs h l p = from-place (length (packetBytes cs)) (begin p) h refl (omega arith) (omega arith)
+
 pub read-back : (cs : List Command) → SoundAll false cs → length (packetBytes cs) ≤ limit
     → replyBytes (packetSteps cs) ≤ limit → Does (packetBytes cs) (packetSteps cs)
-unfolding judge begin unlocked replyBytes
 read-back cs h short l =
     record {
       short = short;
       judged = λ p below.
-          let (end, e, s) = from-place (length (packetBytes cs)) (begin p) h refl (omega arith) (omega arith) in
-          (end, e, s, pointers-kept p (packetBytes cs) end below e);
+          let (end, e, s) = read-from cs h l p in (end, e, s, pointers-kept p (packetBytes cs) end below e);
     }

@@ -4,10 +4,11 @@ use mathlib.Core.Path.{_≡_}
 use mathlib.Core.List.{List, [], _∷_, _++_}
 use mathlib.Core.Bool.{Bool, false, not, _&&_}
 use lib.ListN.{length}
-use Rattle.lbp16.specs.Space.{status, isAbsent, row}
+use Rattle.lbp16.specs.Space.{isAbsent, row}
 use Rattle.lbp16.specs.Pointer.{aboveSize}
 use Rattle.lbp16.specs.declared.pointer.Pointers.{Pointers}
-use Rattle.packet.specs.Step.{write, Step, isInfo, carried, isWrite, unlocked}
+use Rattle.packet.specs.Bytes.{number}
+use Rattle.packet.specs.Step.{Step, isInfo, carried, isWrite, statusWrite, unlocked}
 use Rattle.packet.specs.Rules.{misaligned, pastEnd, barred, any}
 use Rattle.packet.specs.Command.{limit}
 use Rattle.packet.specs.Judge.{Carried, accepted, judge}
@@ -38,15 +39,12 @@ pub data SoundAll : Bool → List Command → Type 0 where
   more : {open? : Bool} {c : Command} {cs : List Command} → Sound open? c
       → SoundAll (unlocked open? (commandSteps c)) cs → SoundAll open? (c ∷ cs)
 
--- the write that opens the unlock
-abbrev pub unlockStep : Step
-unlockStep = record { kind = write; space = status; address = 0x1A; bytes = 0x02 ∷ 0x5A ∷ [] }
-
--- `Mixed ss xs`: the steps ss are the records xs with unlock writes put in
+-- `Mixed ss xs`: the steps ss are the records xs with writes that open the unlock put in
 pub data Mixed : List Step → List Step → Type 0 where
   none : Mixed [] []
   same : {x : Step} {ss xs : List Step} → Mixed ss xs → Mixed (x ∷ ss) (x ∷ xs)
-  unlock : {ss xs : List Step} → Mixed ss xs → Mixed (unlockStep ∷ ss) xs
+  unlock : {bs : List ℕ} {ss xs : List Step} → length bs ≡ 2 → number bs ≡ 0x5A02 → Mixed ss xs
+      → Mixed (statusWrite 0x1A bs ∷ ss) xs
 
 -- records, none an info read, that refusal 23 does not turn away, with as many bytes as their elements have
 pub data Good : List Step → Type 0 where

@@ -15,7 +15,7 @@ use Rattle.lbp16.specs.declared.pointer.Pointers.{Pointers}
 use Rattle.packet.specs.Step.{Kind, read, write, infoRead, Step, isInfo, rowBy, at, carried, answered, source, stored, after, seen}
 use Rattle.packet.specs.Step.{storeAfter, valuesRead}
 use Rattle.packet.specs.Bytes.{number, bytesOf}
-use Rattle.packet.specs.Step.{isStatus}
+use Rattle.packet.specs.Step.{isStatus, statusWrite}
 use Rattle.packet.specs.Rules.{misaligned, pastEnd}
 use Rattle.packet.specs.Judge.{accepted}
 use Rattle.packet.proofs.StoreLaws.{Apart, getD-sets, sets-sets, sets-twice, slice-sets, length-after, store-after-append}
@@ -30,7 +30,7 @@ use Rattle.cue.specs.Records.{reserved, badElement}
 use Rattle.cue.specs.Play.{isAccepted, replyLength, play}
 use Rattle.cue.specs.Demand3.{SameAsRecords, Off, unlockAfter, countAfter}
 use Rattle.cue.proofs.RecordLaws.{good-element}
-use Rattle.cue.proofs.Relations.{Mixed, Good, Holds, unlockStep}
+use Rattle.cue.proofs.Relations.{Mixed, Good, Holds}
 
 -- An aligned element within its space overlaps the 2-byte cell at address k of space 6 only if it is that cell.
 off-cell-at : (k : ℕ) → k % 2 ≡ 0 → k ≤ 30 → (s : Space) (a : ℕ) → a % row s .element ≡ 0
@@ -105,11 +105,11 @@ seen-blank write s i bs store h = refl
 seen-blank infoRead s i bs store h = refl
 
 -- An unlock write is cleared away, and so is what a packet's end does.
-blank-unlock : (store : List ℕ) → blank (after unlockStep store) ≡ blank store
+blank-unlock : (bs store : List ℕ) → length bs ≡ 2 → blank (after (statusWrite 0x1A bs) store) ≡ blank store
 unfolding blank cleared after stored at rowBy isInfo areaRow row
-blank-unlock store =
-    rw (sets-sets store unlockCell (0x02 ∷ 0x5A ∷ []) countCell (0 ∷ 0 ∷ []) (inr (omega arith)))
-    (sets-twice (sets store countCell (0 ∷ 0 ∷ [])) unlockCell (0x02 ∷ 0x5A ∷ []) (0 ∷ 0 ∷ []) refl)
+blank-unlock bs store w =
+    rw (sets-sets store unlockCell bs countCell (0 ∷ 0 ∷ []) (inr (omega arith)))
+    (sets-twice (sets store countCell (0 ∷ 0 ∷ [])) unlockCell bs (0 ∷ 0 ∷ []) w)
 
 blank-end : (store : List ℕ) → blank (counted (cleared store)) ≡ blank store
 unfolding blank counted cleared bytesOf
@@ -139,9 +139,8 @@ count-kept Mixed.none Good.none store = refl
 count-kept (Mixed.same {x = x} m) (Good.more b p w g) store =
     count-kept m g (after x store)
     ∙ count-stored (x .kind) (x .space) (at x) (x .bytes) store w (off-cells x b p .count)
-count-kept (Mixed.unlock m) g store =
-    count-kept m g (after unlockStep store)
-    ∙ count-stored write status unlockCell (0x02 ∷ 0x5A ∷ []) store refl (inr (omega arith))
+count-kept (Mixed.unlock {bs = bs} w v m) g store =
+    count-kept m g (after (statusWrite 0x1A bs) store) ∙ count-stored write status unlockCell bs store w (inr (omega arith))
 
 -- With unlock writes put in, the records read and leave what they do on the store with the cells cleared.
 unseen : {ss xs : List Step} → Mixed ss xs → Good xs → (store : List ℕ)
@@ -154,9 +153,10 @@ unseen (Mixed.same {x = x} m) (Good.more b p w g) store =
     let e : blank (after x store) ≡ after x (blank store) = blank-stored _ (x .space) (at x) (x .bytes) store w h in
     let v : seen x store ≡ seen x (blank store) = seen-blank (x .kind) (x .space) (at x) (x .bytes) store h in
     (rw (v, r .0, e), r .1 ∙ rw e)
-unseen (Mixed.unlock m) g store =
-    let r = unseen m g (after unlockStep store) in
-    (rw blank-unlock at (r .0), rw blank-unlock at (r .1))
+unseen (Mixed.unlock {bs = bs} w v m) g store =
+    let r = unseen m g (after (statusWrite 0x1A bs) store) in
+    let e = blank-unlock bs store w in
+    (rw e at (r .0), rw e at (r .1))
 
 itself : (xs : List Step) → Mixed xs xs
 itself [] = Mixed.none

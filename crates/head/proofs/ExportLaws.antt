@@ -101,7 +101,7 @@ module _ (list room : List ℕ) (a : CompileAnswer) (number bytes packets : ℕ)
       (ap (λ c. compileLeft (numberOf (c .answer)) (valueOf (c .answer)) (countOf (c .answer)) (c .room)) e)
 
 -- No refusal has the number 0, so a compilation that returns 0 has answered its bytes and its packets.
-never-zero : {list room : List ℕ} {n k : ℕ} → RefusedList list room n k → n ≡ 0 → ⊥
+pub never-zero : {list room : List ℕ} {n k : ℕ} → RefusedList list room n k → n ≡ 0 → ⊥
 never-zero (RefusedList.bad b) z = omega (arith, b .in-table)
 never-zero (RefusedList.small xs e l i j) z = omega arith
 

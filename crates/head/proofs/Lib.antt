@@ -4,3 +4,5 @@ pub mod PartLaws
 pub mod TwoListsLaws
 pub mod RecordedLaws
 pub mod ReasonedLaws
+pub mod TighterLaws
+pub mod TightenLaws

@@ -5,3 +5,4 @@ pub mod Part
 pub mod TwoLists
 pub mod Recorded
 pub mod Reasoned
+pub mod Tighter

@@ -5,6 +5,7 @@ pub mod part;
 mod recorded;
 mod repair;
 pub mod serial;
+mod tighter;
 mod two_lists;
 mod why_refused;
 

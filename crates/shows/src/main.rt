@@ -2,6 +2,7 @@
 mod buffer;
 mod cues;
 mod recorded;
+mod tighter;
 mod two_lists;
 mod work;
 
@@ -13,4 +14,5 @@ fn main() {
     work::all();
     two_lists::all();
     recorded::all();
+    tighter::all();
 }

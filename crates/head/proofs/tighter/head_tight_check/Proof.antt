@@ -1,0 +1,21 @@
+use borrow.Author.Needs.{needs}
+use Rattle.head.proofs.tighter.head_tight_check.Statement.{statement}
+use Rattle.head.proofs.tighter.head_tight_check.Tie as tie
+use Rattle.tight.specs.Demand3.{TightDemand3}
+use Rattle.head.proofs.TighterLaws.{tight-given, tight-promise}
+
+check-requires : tie.Need-check-requires
+check-requires c κs = search needs
+
+value-of-requires : tie.Need-value-of-requires
+value-of-requires c κs = search needs
+
+number-of-requires : tie.Need-number-of-requires
+number-of-requires c κs = search needs
+
+returns : tie.Need-returns
+returns c = let s = c .before .before .check .ensures in (tight-given _ _ _ (s .0) _ _ (c .number-of .ensures) (c .before .value-of .ensures), tight-promise _ _ _ (s .0) _ _ (c .number-of .ensures) (c .before .value-of .ensures) (TightDemand3 _ _) (s .1))
+
+pub head-tight-check-spec : {M : Type 1} → statement M
+head-tight-check-spec =
+    tie.close (tie.spec check-requires value-of-requires number-of-requires returns)

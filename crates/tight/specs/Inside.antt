@@ -1,0 +1,55 @@
+-- The inside of private functions' contracts: steps taken off the front of a list's bytes.
+use Prim.Native.Nat.{ℕ, _+_}
+use mathlib.Core.List.{List, [], _∷_}
+use mathlib.Core.Bool.{Bool, not, _&&_, cond}
+use lib.ListN.{length, drop}
+use lib.Dec.{ltb}
+use Rattle.lbp16.specs.Space.{spaceOf}
+use Rattle.packet.specs.Step.{Step}
+use Rattle.packet.specs.Command.{pickKind, payload}
+use Rattle.cue.specs.Records.{recordStep, recordKind, recordBytes}
+use Rattle.cue.specs.Output.{Front}
+use Rattle.tight.specs.Tight.{unlocks, sameStep, Doing, none, steps, packetDoes}
+use Rattle.tight.specs.declared.walk.Taken.{Taken}
+
+-- One step at the front of a list's bytes: an unlock write takes none, any other takes the record that is the same.
+unfoldable pub stepTakes : Step → List ℕ → Taken
+stepTakes s rest =
+    cond (unlocks s) (Taken.Bytes 0)
+    (cond (not (ltb (length rest) (recordBytes (recordKind rest))) && sameStep s (recordStep rest))
+    (Taken.Bytes (recordBytes (recordKind rest))) Taken.Rejected)
+
+-- an element of a command as a step: `bytes` are the command's from that element on
+unfoldable pub elementStep : Bool → ℕ → ℕ → List ℕ → Step
+elementStep write space address bytes =
+    let k = pickKind write in
+    let s = spaceOf space in
+    record { kind = k; space = s; address = address; bytes = payload k s bytes }
+
+-- k bytes more
+unfoldable pub further : ℕ → Taken → Taken
+further k Taken.Rejected = Taken.Rejected
+further k (Taken.Bytes n) = Taken.Bytes (k + n)
+
+-- the bytes that a first part takes, then those of a second part, told where it begins
+unfoldable pub andThen : Taken → (ℕ → Taken) → Taken
+andThen Taken.Rejected f = Taken.Rejected
+andThen (Taken.Bytes k) f = further k (f k)
+
+unfoldable pub stepsTake : List Step → List ℕ → Taken
+stepsTake [] rest = Taken.Bytes 0
+stepsTake (s ∷ ss) rest = andThen (stepTakes s rest) (λ k. stepsTake ss (drop k rest))
+
+unfoldable pub doingTakes : Doing → List ℕ → Taken
+doingTakes none rest = Taken.Rejected
+doingTakes (steps ss) rest = stepsTake ss rest
+
+unfoldable pub packetTakes : List ℕ → List ℕ → Taken
+packetTakes packet rest = doingTakes (packetDoes packet) rest
+
+-- a whole part at the front of a proposal's bytes
+unfoldable pub partBytes : Front → Taken
+partBytes Front.end = Taken.Rejected
+partBytes Front.cut = Taken.Rejected
+partBytes Front.unmarked = Taken.Rejected
+partBytes (Front.part n) = Taken.Bytes n
