@@ -130,6 +130,13 @@ pub fn long(rng: &mut Rng, variant: u64) -> Vec<u8> {
     list.bytes
 }
 
+/// A list that reads or writes one element so many times.
+pub fn repeats(rng: &mut Rng, count: usize) -> List {
+    let mut list = List::default();
+    still(rng, &mut list, count);
+    list
+}
+
 /// Adds 1 to `most` records of one pattern.
 pub fn stretch(rng: &mut Rng, list: &mut List, most: usize) {
     let count = rng.between(1, most);

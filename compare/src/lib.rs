@@ -14,6 +14,7 @@ pub mod lists;
 pub mod packets;
 pub mod panel;
 pub mod parts;
+pub mod proposals;
 pub mod reasons;
 pub mod recordings;
 pub mod rng;
@@ -21,6 +22,7 @@ pub mod salvage;
 pub mod shows;
 pub mod sserial;
 pub mod tally;
+pub mod tight;
 pub mod trace;
 pub mod words;
 

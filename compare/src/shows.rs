@@ -30,6 +30,31 @@ pub fn compare(seed: u64, count: u64) -> Outcome {
 }
 
 fn play(rng: &mut Rng, tally: &mut Tally, list: &[u8]) -> Result<(), String> {
+    let output = compiled(list)?;
+    let played = played(rng, list, &output)?;
+    let Played { start, end, .. } = &played;
+    let eeprom = Space::Eeprom.start()..Space::Status.start();
+    tally.ending(0);
+    tally.situation(EMPTY, played.packets == 0);
+    tally.situation(SEVERAL, played.packets > 1);
+    tally.situation(READ, played.values > PACKET_BYTES);
+    tally.situation(EEPROM, end[eeprom.clone()] != start[eeprom]);
+    tally.situation(COUNT_PAST_0, packet_count(end) < packet_count(start));
+    Ok(())
+}
+
+/// A show that was played as its records one by one.
+pub struct Played {
+    /// The store before and after.
+    pub start: Vec<u8>,
+    pub end: Vec<u8>,
+    pub packets: usize,
+    /// The bytes read.
+    pub values: usize,
+}
+
+/// Plays a list's output from a random card, which must come to the same as its records one by one.
+pub fn played(rng: &mut Rng, list: &[u8], output: &[u8]) -> Result<Played, String> {
     let mut start = vec![0; STORE_BYTES];
     rng.fill(&mut start);
     if rng.one_in(4) {
@@ -44,10 +69,9 @@ fn play(rng: &mut Rng, tally: &mut Tally, list: &[u8]) -> Result<(), String> {
         record.run(&mut one_by_one, &mut values);
     }
 
-    let mut played = start.clone();
-    let output = compiled(list)?;
-    let packets = packets(&output)?;
-    let replies = run_all(rng, &packets, &mut played)?;
+    let mut end = start.clone();
+    let packets = packets(output)?;
+    let replies = run_all(rng, &packets, &mut end)?;
 
     if replies != values {
         return Err(format!(
@@ -56,16 +80,13 @@ fn play(rng: &mut Rng, tally: &mut Tally, list: &[u8]) -> Result<(), String> {
             hex(&values)
         ));
     }
-    stores_agree(&played, one_by_one, packets.len())?;
-
-    let eeprom = Space::Eeprom.start()..Space::Status.start();
-    tally.ending(0);
-    tally.situation(EMPTY, packets.is_empty());
-    tally.situation(SEVERAL, packets.len() > 1);
-    tally.situation(READ, replies.len() > PACKET_BYTES);
-    tally.situation(EEPROM, played[eeprom.clone()] != start[eeprom]);
-    tally.situation(COUNT_PAST_0, packet_count(&played) < packet_count(&start));
-    Ok(())
+    stores_agree(&end, one_by_one, packets.len())?;
+    Ok(Played {
+        start,
+        end,
+        packets: packets.len(),
+        values: values.len(),
+    })
 }
 
 /// The library's output for a good list.

@@ -31,11 +31,13 @@ pub mod parts;
 pub mod recording;
 pub mod salvage;
 pub mod sserial;
+pub mod tight;
 pub mod why;
 
 pub use independent::{independent, Dependent};
 pub use recording::{judge, Verdict};
 pub use salvage::{salvage, Salvaged};
+pub use tight::{tight_check, tighten};
 pub use why::{why, Reason};
 
 /// The length that a store must have.

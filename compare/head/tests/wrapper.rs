@@ -206,3 +206,26 @@ fn reason_with_another_room_for_fields() {
         assert!(fields.iter().all(|&byte| byte == 0xEE));
     }
 }
+
+#[test]
+fn tighter_packets() {
+    let list = b"RD\x06\0\x18\0".repeat(100);
+    let mut out = [0xEE; 404];
+    let compiled = head::compile(&list, &mut [0; 404]).unwrap();
+    assert_eq!(compiled.bytes, 404);
+    let planned = head::tighten(&list, &mut out).unwrap();
+    assert_eq!((planned.bytes, planned.packets), (8, 1));
+    assert_eq!(out[..8], [b'L', b'B', 4, 0, 100, 0x59, 0x18, 0]);
+    assert!(out[8..].iter().all(|&byte| byte == 0xEE));
+    assert_eq!(head::tight_check(&list, &out[..8]), Ok(1));
+    // An empty packet counts.
+    let with_empty = [b"LB\0\0", &out[..8]].concat();
+    assert_eq!(head::tight_check(&list, &with_empty), Ok(2));
+    let rejected = head::tight_check(&list[6..], &out[..8]).unwrap_err();
+    assert_eq!(rejected.to_string(), "refused 50 at 0");
+    let refused = head::tight_check(&list[..9], &out[..8]).unwrap_err();
+    assert_eq!(refused.to_string(), "refused 22 at 1");
+    // The room is measured by the packing rule's output.
+    let refused = head::tighten(&list, &mut out[..403]).unwrap_err();
+    assert_eq!((refused.number, refused.place), (26, 404));
+}

@@ -16,6 +16,7 @@ pub mod salvage;
 pub mod spi;
 pub mod sserial;
 pub mod store;
+pub mod tight;
 pub mod why;
 pub mod words;
 

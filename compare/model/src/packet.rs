@@ -70,6 +70,11 @@ pub(crate) fn start<'a>(
         Some(pointers) if store.len() == STORE_BYTES => pointers,
         _ => return Err(Refusal::whole(1)),
     };
+    start_at(packet, pointers)
+}
+
+/// A walk from these pointers, unless 2 refuses the packet.
+pub(crate) fn start_at(packet: &[u8], pointers: [u32; POINTERS]) -> Result<Walk<'_>, Refusal> {
     if packet.len() > PACKET_BYTES {
         return Err(Refusal::whole(2));
     }
@@ -85,14 +90,16 @@ fn checked_pointers(pointers: &[u32]) -> Option<[u32; POINTERS]> {
 
 /// A command that passed its check.
 pub(crate) struct Command<'a> {
-    area: Area,
-    address: u32,
-    increment: bool,
-    count: u32,
-    action: Action<'a>,
+    pub(crate) area: Area,
+    /// Whether the command has an address of its own.
+    pub(crate) given: bool,
+    pub(crate) address: u32,
+    pub(crate) increment: bool,
+    pub(crate) count: u32,
+    pub(crate) action: Action<'a>,
 }
 
-enum Action<'a> {
+pub(crate) enum Action<'a> {
     Read,
     /// From the info area, with the pointer that this shows.
     ReadInfo(u32),
@@ -219,6 +226,7 @@ impl<'a> Walk<'a> {
         };
         Ok(Command {
             area,
+            given: given.is_some(),
             address,
             increment: fields.increment,
             count,

@@ -17,12 +17,7 @@ pub struct Compiled {
 
 /// Compiles a cue list to `out`. What lies beyond the answered bytes stays as it is.
 pub fn compile(list: &[u8], out: &mut [u8]) -> Result<Compiled, Refusal> {
-    let mut output = Output::default();
-    for record in Records::new(list) {
-        output.add(&record?);
-    }
-    output.close();
-
+    let output = packed(list)?;
     let bytes = output.bytes.len();
     let room = out.get_mut(..bytes).ok_or(Refusal {
         number: 26,
@@ -35,11 +30,21 @@ pub fn compile(list: &[u8], out: &mut [u8]) -> Result<Compiled, Refusal> {
     })
 }
 
+/// The output for a good list.
+pub(crate) fn packed(list: &[u8]) -> Result<Output, Refusal> {
+    let mut output = Output::default();
+    for record in Records::new(list) {
+        output.add(&record?);
+    }
+    output.close();
+    Ok(output)
+}
+
 /// The closed packets and the open one.
 #[derive(Default)]
 pub(crate) struct Output {
     pub(crate) bytes: Vec<u8>,
-    packets: u64,
+    pub(crate) packets: u64,
     open: Packet,
 }
 
@@ -152,14 +157,14 @@ fn follows(record: &Record, before: &Record) -> bool {
         && record.address == before.address + before.space.element()
 }
 
-fn data_bytes(record: &Record) -> usize {
+pub(crate) fn data_bytes(record: &Record) -> usize {
     match record.action {
         Action::Read => 0,
         Action::Write(_) => record.space.element() as usize,
     }
 }
 
-fn reply_bytes(record: &Record) -> usize {
+pub(crate) fn reply_bytes(record: &Record) -> usize {
     match record.action {
         Action::Read => record.space.element() as usize,
         Action::Write(_) => 0,

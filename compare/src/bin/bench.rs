@@ -1,6 +1,7 @@
 //! Measures the library beside the independent implementation, in one process and by turns.
 //!
-//! `bench` measures all cases, `bench NAME...` only some, `bench --names` lists them.
+//! `bench` measures all cases, `bench NAME...` only some, `bench --names` lists them. `bench --sizes`
+//! shows how many bytes and packets tighter packing saves.
 //! `bench --count NAME N` makes the library's call N times and nothing else, for an instruction
 //! counter.
 
@@ -16,6 +17,8 @@ use std::time::{Duration, Instant};
 
 #[path = "bench/parts.rs"]
 mod parts;
+#[path = "bench/tight.rs"]
+mod tight;
 
 /// How often each side is timed. The lowest time counts, since other work on the machine only
 /// adds.
@@ -51,6 +54,15 @@ fn main() -> ExitCode {
             Ok(())
         }
         ["--count", name, times] => count(name, times),
+        ["--sizes"] => {
+            tight::print_sizes();
+            Ok(())
+        }
+        [] => {
+            measure_all(all_cases());
+            tight::print_sizes();
+            Ok(())
+        }
         _ => choose(all_cases(), &words).map(measure_all),
     };
     match result {
@@ -67,6 +79,7 @@ fn all_cases() -> Vec<Case> {
     cases.extend(burst_cases());
     cases.extend(lists::cases());
     cases.extend(parts::cases());
+    cases.extend(tight::cases());
     cases
 }
 
@@ -80,7 +93,8 @@ fn count(name: &str, times: &str) -> Result<(), String> {
     let case = named(packet_cases())
         .or_else(|| named(burst_cases()))
         .or_else(|| named(lists::cases()))
-        .or_else(|| named(parts::cases()));
+        .or_else(|| named(parts::cases()))
+        .or_else(|| named(tight::cases()));
     let mut case = case.ok_or_else(|| unknown(name))?;
     for _ in 0..times {
         (case.library)();
@@ -93,7 +107,7 @@ fn choose(cases: Vec<Case>, names: &[&str]) -> Result<Vec<Case>, String> {
     if let Some(name) = names.iter().find(|name| !known(name)) {
         return Err(unknown(name));
     }
-    let chosen = |case: &Case| names.is_empty() || names.contains(&case.name.as_str());
+    let chosen = |case: &Case| names.contains(&case.name.as_str());
     Ok(cases.into_iter().filter(chosen).collect())
 }
 

@@ -25,6 +25,7 @@ const PARTS: &[Part] = &[
     Part("panel", 400_000, compare::panel::compare),
     Part("parts", 6_000, compare::parts::compare),
     Part("recordings", 8_000, compare::recordings::compare),
+    Part("tight", 6_000, compare::tight::compare),
 ];
 
 struct Options {
