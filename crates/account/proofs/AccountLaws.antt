@@ -9,7 +9,7 @@ use lib.ListN.{length, take, drop, length-append}
 use lib.Seq.{sets, sets-eq, length-sets, take-at}
 use lib.Dec.{ltb}
 use borrow.Author.Tests.{lt-ltb, le-ltb}
-use Rattle.cue.proofs.WriteLaws.{sets-append}
+use Rattle.packet.proofs.StoreLaws.{sets-append}
 use Rattle.report.specs.Line.{Filled, textPut}
 use Rattle.report.specs.Text.{ascii, decimal, pairLine}
 use Rattle.report.proofs.TextLaws.{decimal-length}

@@ -9,7 +9,7 @@ use lib.ListN.{length, take, drop, getD, length-append}
 use lib.Seq.{sets, length-sets}
 use borrow.Author.Tests.{le-ltb}
 use Rattle.packet.proofs.SliceLaws.{tail-whole}
-use Rattle.cue.proofs.WriteLaws.{sets-append}
+use Rattle.packet.proofs.StoreLaws.{sets-append}
 use Rattle.report.specs.Text.{ascii, decimal, pairLine}
 use Rattle.report.specs.Line.{Filled, crowded, pairPut}
 use Rattle.report.proofs.TextLaws.{decimal-length}

@@ -2,6 +2,7 @@
 pub mod RunLaws
 pub mod ElementLaws
 pub mod BlockLaws
+pub mod CopyLaws
 pub mod StepBlockLaws
 pub mod CommandRunLaws
 pub mod PerformLaws

@@ -21,7 +21,7 @@ use Rattle.cue.proofs.PacketLaws.{packet-bytes-append, join-append}
 use Rattle.cue.proofs.PackingLaws.{space-again}
 use Rattle.cue.proofs.PackerLaws.{Fine, Rising, output-append, output-one, turned-cases, joined-summary, started-summary}
 use Rattle.cue.proofs.PackerLaws.{knows-open, knows-closed, knows-none, none-turned, unlock-length, started-before, started-length}
-use Rattle.cue.proofs.WriteLaws.{sets-append}
+use Rattle.packet.proofs.StoreLaws.{sets-append}
 
 -- a store behind a front, and one that replaces what stood there
 put : (p t q : List ℕ) (n : ℕ) → length p ≡ n → length q ≤ length t → sets (p ++ t) n q ≡ p ++ (q ++ drop (length q) t)

@@ -16,15 +16,9 @@ use Rattle.lbp16.specs.declared.word.Written.the-variants.{Word, Refused}
 use Rattle.lbp16.specs.declared.Refusal.{Refusal}
 use Rattle.card.proofs.ElementLaws.{stored-bytes}
 use Rattle.packet.specs.Bytes.{bytesOf}
+use Rattle.packet.proofs.StoreLaws.{sets-append}
 use Rattle.cue.specs.Inside.{lastFields, framedAt, unlockedAt, headedAt, wrote, unlockBytes}
 use Rattle.cue.specs.declared.packer.Packer.{Packer}
-
--- stores one behind the other are one store
-pub sets-append : (l : List ℕ) (i : ℕ) (vs ws : List ℕ) → sets (sets l i vs) (i + length vs) ws ≡ sets l i (vs ++ ws)
-sets-append l i [] ws = rw add-zero refl
-sets-append l i (v ∷ vs) ws =
-    let e : i + suc (length vs) ≡ suc i + length vs = omega arith in
-    rw e (sets-append (set l i v) (suc i) vs ws)
 
 pub put2-is : (l : List ℕ) (at v : ℕ) → v < 65536 → set (set l at (v % 256)) (at + 1) (v / 256) ≡ sets l at (bytesOf 2 v)
 put2-is l at v h = let q : v / 256 % 256 ≡ v / 256 = omega arith in rw q at (stored-bytes 1 l at v)
@@ -37,16 +31,6 @@ pub unlock-is : (l : List ℕ) (at : ℕ)
     → sets (sets l at (bytesOf 2 0xD901 ++ bytesOf 2 0x1A)) (at + 4) (bytesOf 2 0x5A02) ≡ sets l at unlockBytes
 unfolding bytesOf
 unlock-is l at = sets-append l at (0x01 ∷ 0xD9 ∷ 0x1A ∷ 0x00 ∷ []) (0x02 ∷ 0x5A ∷ [])
-
--- a turn of the loop over an element's bytes
-pub element-step : (out rest : List ℕ) (at n i : ℕ) → i < n → 6 + i < length rest
-    → sets out (at + i) (take (n - i) (drop (6 + i) rest))
-    ≡ sets (set out (at + i) (getD rest (6 + i) 0)) (at + (i + 1)) (take (n - (i + 1)) (drop (6 + (i + 1)) rest))
-element-step out rest at n i h k =
-    let e : n - i ≡ suc (n - (i + 1)) = omega arith in
-    let f : at + (i + 1) ≡ suc (at + i) = omega arith in
-    let g : 6 + (i + 1) ≡ suc (6 + i) = omega arith in
-    rw (e, drop-cons rest (6 + i) 0 k, f, g) refl
 
 -- the last command's word is in range
 size-le : (s : Space) → row s .size ≤ 3

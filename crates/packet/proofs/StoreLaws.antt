@@ -5,10 +5,11 @@ use mathlib.Core.Logic.{_⊎_, inl, inr, _≢_}
 use mathlib.Core.Bool.{true, false}
 use mathlib.Core.List.{List, [], _∷_, _++_, append-assoc}
 use native.Mathlib.Omega.{arith}
+use native.Mathlib.Nat.{add-zero}
 use lib.Dec.{ltb}
 use lib.ListN.{length, take, drop, getD, set, length-append, length-drop}
 use lib.Seq.{sets, length-sets, set-set, set-comm, drop-set-lt, drop-set-add, take-set-le, getD-set-other}
-use lib.Seq.{length-take-le}
+use lib.Seq.{length-take-le, drop-cons}
 use borrow.Author.Tests.{ltb-false}
 use Rattle.lbp16.specs.Space.{Space, infoRow, areaRow, storeBytes}
 use Rattle.lbp16.proofs.BoolLaws.{or-false}
@@ -69,6 +70,23 @@ module _ {A : Type 0} where
       ∙ rw (q, drop-set-add) (take-set-le n (drop i l) (j - i) b (omega arith))
   slice-sets l i n j (b ∷ ws) (inr h) =
       slice-sets (set l j b) i n (suc j) ws (inr (omega arith)) ∙ rw (drop-set-lt i l j b (omega arith))
+
+-- a turn of a loop over the bytes
+pub copy-step : (src dst : List ℕ) (from to n i : ℕ) → i < n → from + i < length src
+    → sets dst (to + i) (take (n - i) (drop (from + i) src))
+    ≡ sets (set dst (to + i) (getD src (from + i) 0)) (to + (i + 1)) (take (n - (i + 1)) (drop (from + (i + 1)) src))
+copy-step src dst from to n i h k =
+    let e : n - i ≡ suc (n - (i + 1)) = omega arith in
+    let f : to + (i + 1) ≡ suc (to + i) = omega arith in
+    let g : from + (i + 1) ≡ suc (from + i) = omega arith in
+    rw (e, drop-cons src (from + i) 0 k, f, g) refl
+
+-- stores one behind the other are one store
+pub sets-append : (l : List ℕ) (i : ℕ) (vs ws : List ℕ) → sets (sets l i vs) (i + length vs) ws ≡ sets l i (vs ++ ws)
+sets-append l i [] ws = rw add-zero refl
+sets-append l i (v ∷ vs) ws =
+    let e : i + suc (length vs) ≡ suc i + length vs = omega arith in
+    rw e (sets-append (set l i v) (suc i) vs ws)
 
 length-stored : (k : Kind) (i : ℕ) (bs store : List ℕ) → length (stored k i bs store) ≡ length store
 unfolding stored

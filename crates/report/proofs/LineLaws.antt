@@ -11,7 +11,7 @@ use lib.Seq.{sets, drop-cons, length-sets, sets-eq, take-at, drop-at}
 use lib.Dec.{ltb}
 use borrow.Author.Tests.{lt-ltb, le-ltb, ltb-false}
 use Rattle.lbp16.proofs.BoolLaws.{or-false, same-ltb}
-use Rattle.cue.proofs.WriteLaws.{sets-append}
+use Rattle.packet.proofs.StoreLaws.{sets-append}
 use Rattle.report.specs.Text.{ascii, digit, decimal, pairLine}
 use Rattle.report.specs.Line.{crowded, pairPut, textPut}
 use Rattle.report.specs.Inside.{Put}

@@ -8,7 +8,7 @@ use native.Mathlib.Numerals.{add-one}
 use lib.ListN.{length, take, drop, getD, set, length-append, length-drop}
 use lib.Seq.{sets, sets-eq, length-sets, drop-drop, take-append-seam, drop-append-add, take-suc, length-take-le}
 use Rattle.packet.proofs.SliceLaws.{tail-whole}
-use Rattle.cue.proofs.WriteLaws.{sets-append}
+use Rattle.packet.proofs.StoreLaws.{sets-append}
 use Rattle.salvage.specs.Salvage.{Stretch, kept, skipped, scan, keptBytes, logFrom, entryCount, counted, output, logged, entries}
 use Rattle.salvage.specs.Inside.{firstSpan, spanOf, tally, recordPart, entryPart, Ready}
 use Rattle.salvage.specs.declared.scan.Span.{Span}

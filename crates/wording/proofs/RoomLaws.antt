@@ -18,7 +18,7 @@ use Rattle.packet.specs.Judge.{Verdict, refused, accepted, judge}
 use Rattle.packet.proofs.RefusalLaws.{RefusedAt, refused-in-table}
 use Rattle.card.specs.Run.{checked}
 use Rattle.card.proofs.RunLaws.{checked-cases}
-use Rattle.cue.proofs.WriteLaws.{sets-append}
+use Rattle.packet.proofs.StoreLaws.{sets-append}
 use Rattle.report.specs.Text.{ascii, decimal}
 use Rattle.report.specs.Line.{Filled, textPut}
 use Rattle.report.proofs.TextLaws.{decimal-length}

@@ -1,56 +1,154 @@
+use borrow.Author.Needs.{needs}
+use mathlib.Core.Path.{_∙_}
 use mathlib.Core.Bool.{cond}
+use denote.Ref.{now}
+use native.Mathlib.Omega.{arith}
+use Rattle.card.proofs.CopyLaws.{moved-none, from-within, to-within, last-is, filled-is, block-is}
 use Rattle.card.proofs.block.move_elements.Statement.{statement}
 use Rattle.card.proofs.block.move_elements.Tie as tie
-use native.Mathlib.Omega.{arith}
-use mathlib.Core.Path.{refl}
-use Rattle.card.proofs.BlockLaws.{Moving, moving-now, moving-next, moving-end}
+use Rattle.card.proofs.block.move_elements.Reads as reads
+use Rattle.card.proofs.block.move_elements.Lts as lts
+use Rattle.card.proofs.block.copy.Reads as copy-reads
+use Rattle.card.proofs.block.fill.Reads as fill-reads
+use Rattle.card.proofs.block.move_each.Reads as move-each-reads
+use Rattle.card.proofs.block.width_of.Reads as width-of-reads
+use Rattle.card.proofs.element.move_element.Reads as move-element-reads
 
-abbrev Inv-loop : tie.InvT-loop
-Inv-loop src from from-step dst₀ to to-step count wide n₀ i₀ j₀ dst n i j =
-    Moving count (cond wide 4 2) src from from-step dst₀ to to-step dst n i j
+-- src/block.rt:87:9
+returns : tie.Need-returns
+returns c = moved-none _ _ _ _ _ _ _ _ (c .if1 .taken)
 
-abbrev μ-loop : tie.MeasureT-loop
-μ-loop src from from-step dst₀ to to-step count wide n₀ i₀ j₀ dst n i j = n
+-- src/block.rt:89:9
+width-of-requires : tie.Need-width-of-requires
+width-of-requires c κs = search needs
 
-loop-holds : tie.Need-loop-holds Inv-loop μ-loop
-loop-holds c = let p = c .before .before .pre in record { fs-le = p .0; ts-le = p .1; inside = p .2; room = p .3; same = refl; kept = refl }
+-- src/block.rt:91:28
+sub-last : tie.Need-sub-last
+sub-last c = search needs
 
-move-element-requires : tie.Need-move-element-requires Inv-loop μ-loop
-move-element-requires c κs = moving-now _ (c .before .before .loop .inv) (c .before .loop-test .taken)
+-- src/block.rt:91:27
+mul-last : tie.Need-mul-last
+mul-last c =
+    let b = c .before .before .before .before .before in
+    let a = b .args in
+    let some = c .before .before .if1 .left in
+    let l = last-is (a .count) (cond (a .wide) 4 2) (now (a .src)) (a .from) (a .from-step) (now (a .dst)) (a .to) (a .to-step) some (b .pre .2) (b .pre .3) .0 in
+    omega (arith, b .good)
 
-add-i : tie.Need-add-i Inv-loop μ-loop
-add-i c = let b = c .before .before .before .before in let l = b .before .loop .inv in let m = moving-now _ l (b .loop-test .taken) in let h = l .fs-le in omega (arith, c .before .before .before .before .before .before .before .before .good)
+-- src/block.rt:91:20
+add-last : tie.Need-add-last
+add-last c =
+    let b = c .before .before .before .before .before in
+    let a = b .args in
+    let some = c .before .before .if1 .left in
+    let l = last-is (a .count) (cond (a .wide) 4 2) (now (a .src)) (a .from) (a .from-step) (now (a .dst)) (a .to) (a .to-step) some (b .pre .2) (b .pre .3) .0 in
+    omega (arith, b .good)
 
-add-j : tie.Need-add-j Inv-loop μ-loop
-add-j c = let b = c .before .before .before .before in let l = b .before .loop .inv in let m = moving-now _ l (b .loop-test .taken) in let h = l .ts-le in let k = l .kept in omega (arith, c .before .before .before .before .before .before .before .before .good)
+-- src/block.rt:92:9
+move-element-requires : tie.Need-move-element-requires
+move-element-requires c κs =
+    let b = c .before .before .before .before .before .before in
+    let a = b .args in
+    let some = c .before .before .before .if1 .left in
+    (last-is (a .count) (cond (a .wide) 4 2) (now (a .src)) (a .from) (a .from-step) (now (a .dst)) (a .to) (a .to-step) some (b .pre .2) (b .pre .3) .0, to-within (a .count) (cond (a .wide) 4 2) (now (a .src)) (a .from) (a .from-step) (now (a .dst)) (a .to) (a .to-step) some (b .pre .2) (b .pre .3))
 
-sub-n : tie.Need-sub-n Inv-loop μ-loop
-sub-n c = omega arith
+-- src/block.rt:94:9
+fill-requires : tie.Need-fill-requires
+fill-requires c κs =
+    let b = c .before .before .before .before .before .before .before in
+    let a = b .args in
+    let some = c .before .before .before .before .if1 .left in
+    (b .pre .1, from-within (a .count) (cond (a .wide) 4 2) (now (a .src)) (a .from) (a .from-step) (now (a .dst)) (a .to) (a .to-step) some (b .pre .2) (b .pre .3), b .pre .3)
 
-loop-less : tie.Need-loop-less Inv-loop μ-loop
-loop-less c = omega arith
+-- src/block.rt:96:34
+mul-copy : tie.Need-mul-copy
+mul-copy c =
+    let b = c .before .before .before .before .before .before .before .before in
+    let a = b .args in
+    let some = c .before .before .before .before .before .if1 .left in
+    let w = c .before .before .before .before .width-of .ensures in
+    let l = block-is (a .count) (cond (a .wide) 4 2) (now (a .src)) (a .from) (a .from-step) (now (a .dst)) (a .to) (a .to-step) some (b .pre .2) (b .pre .3) (rw w at (c .before .if4 .taken)) .0 in
+    rw w (omega (arith, b .good))
 
-loop-again : tie.Need-loop-again Inv-loop μ-loop
-loop-again c = let b = c .before .before .before .before in moving-next _ (b .before .loop .inv) (b .loop-test .taken) _ (c .before .before .move-element .ensures)
+-- src/block.rt:96:9
+copy-requires : tie.Need-copy-requires
+copy-requires c κs =
+    let b = c .before .before .before .before .before .before .before .before in
+    let a = b .args in
+    let some = c .before .before .before .before .before .if1 .left in
+    let w = c .before .before .before .before .width-of .ensures in
+    let l = block-is (a .count) (cond (a .wide) 4 2) (now (a .src)) (a .from) (a .from-step) (now (a .dst)) (a .to) (a .to-step) some (b .pre .2) (b .pre .3) (rw w at (c .before .if4 .taken)) in
+    rw w (l .0, l .1)
 
-same-length : tie.Need-same-length Inv-loop μ-loop
-same-length c = c .before .loop .inv .kept
+-- src/block.rt:98:9
+move-each-requires : tie.Need-move-each-requires
+move-each-requires c κs = search needs
 
-returns : tie.Need-returns Inv-loop μ-loop
-returns c = moving-end _ (c .before .loop .inv) (omega arith)
+-- src/block.rt:73:1
+same-length : tie.Need-same-length
+same-length c = search needs
+
+-- src/block.rt:73:1
+returns-2 : tie.Need-returns-2
+returns-2 c =
+    let b = c .before .before .before .before .before .before .before .before .before in
+    let a = b .args in
+    let some = c .before .before .before .before .before .before .if1 .left in
+    c .before .before .move-element .ensures ∙ last-is (a .count) (cond (a .wide) 4 2) (now (a .src)) (a .from) (a .from-step) (now (a .dst)) (a .to) (a .to-step) some (b .pre .2) (b .pre .3) .1 (c .before .before .before .before .if2 .taken)
+
+-- src/block.rt:73:1
+same-length-2 : tie.Need-same-length-2
+same-length-2 c = search needs
+
+-- src/block.rt:73:1
+returns-3 : tie.Need-returns-3
+returns-3 c =
+    let b = c .before .before .before .before .before .before .before .before .before .before in
+    let a = b .args in
+    let some = c .before .before .before .before .before .before .before .if1 .left in
+    c .before .before .fill .ensures ∙ filled-is (a .count) (cond (a .wide) 4 2) (now (a .src)) (a .from) (a .from-step) (now (a .dst)) (a .to) (a .to-step) some (b .pre .2) (b .pre .3) (c .before .before .before .before .if3 .taken)
+
+-- src/block.rt:73:1
+same-length-3 : tie.Need-same-length-3
+same-length-3 c = search needs
+
+-- src/block.rt:73:1
+returns-4 : tie.Need-returns-4
+returns-4 c =
+    let b = c .before .before .before .before .before .before .before .before .before .before .before in
+    let a = b .args in
+    let some = c .before .before .before .before .before .before .before .before .if1 .left in
+    let w = c .before .before .before .before .before .before .before .width-of .ensures in
+    let l = block-is (a .count) (cond (a .wide) 4 2) (now (a .src)) (a .from) (a .from-step) (now (a .dst)) (a .to) (a .to-step) some (b .pre .2) (b .pre .3) (rw w at (c .before .before .before .before .if4 .taken)) in
+    (rw w at (c .before .before .copy .ensures)) ∙ l .2
+
+-- src/block.rt:73:1
+same-length-4 : tie.Need-same-length-4
+same-length-4 c = search needs
+
+-- src/block.rt:73:1
+returns-5 : tie.Need-returns-5
+returns-5 c = search needs
 
 pub move-elements-spec : {M : Type 1} → statement M
 move-elements-spec =
     tie.close
     (tie.spec
-    Inv-loop
-    μ-loop
-    loop-holds
+    returns
+    width-of-requires
+    sub-last
+    mul-last
+    add-last
     move-element-requires
-    add-i
-    add-j
-    sub-n
-    loop-less
-    loop-again
+    fill-requires
+    mul-copy
+    copy-requires
+    move-each-requires
     same-length
-    returns)
+    returns-2
+    same-length-2
+    returns-3
+    same-length-3
+    returns-4
+    same-length-4
+    returns-5)

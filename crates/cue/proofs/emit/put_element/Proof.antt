@@ -6,7 +6,7 @@ use native.Mathlib.Omega.{arith}
 use native.Mathlib.Nat.{add-zero, sub-zero}
 use lib.ListN.{length, take, drop, length-set}
 use lib.Seq.{sets}
-use Rattle.cue.proofs.WriteLaws.{element-step}
+use Rattle.packet.proofs.StoreLaws.{copy-step}
 
 abbrev Inv-loop : tie.InvT-loop
 Inv-loop out₀ at rest n i₀ out i =
@@ -38,7 +38,7 @@ loop-less : tie.Need-loop-less Inv-loop μ-loop
 loop-less c = omega arith
 
 loop-again : tie.Need-loop-again Inv-loop μ-loop
-loop-again c = (omega arith, rw length-set (c .before .before .loop .inv .1), c .before .before .loop .inv .2 ∙ element-step _ _ _ _ _ (c .before .loop-test .taken) (omega arith))
+loop-again c = (omega arith, rw length-set (c .before .before .loop .inv .1), c .before .before .loop .inv .2 ∙ copy-step _ _ 6 _ _ _ (c .before .loop-test .taken) (omega arith))
 
 same-length : tie.Need-same-length Inv-loop μ-loop
 same-length c = c .before .loop .inv .1
