@@ -15,15 +15,12 @@ use Rattle.lbp16.proofs.SpaceLaws.{row-end}
 use Rattle.packet.proofs.SliceLaws.{tail-whole}
 use Rattle.packet.specs.Step.{Kind, read, write, infoRead, isInfo, isWrite, rowBy, carried, answered, source, storeAfter}
 use Rattle.packet.specs.Step.{valuesRead}
-use Rattle.packet.specs.declared.command.Which.{Which}
-use Rattle.packet.specs.declared.command.Which.the-variants.{Refused}
-use Rattle.packet.proofs.ElementLaws.{which-writes, write-kind, row-le, carried-write, answered-read}
+use Rattle.packet.proofs.ElementLaws.{write-kind, row-le, carried-write, answered-read}
 use Rattle.packet.proofs.InfoLaws.{source-whole}
-use Rattle.packet.specs.Command.{whichOf, writes, kindOf, rowOf, headerBytes, commandBytes, addressUsed, stride, elements, areaBytes}
+use Rattle.packet.specs.Command.{kindOf, rowOf, headerBytes, commandBytes, addressUsed, stride, elements, areaBytes}
 use Rattle.packet.specs.Command.{handed, stepsAt}
-use Rattle.packet.specs.declared.command.Progress.{Progress}
 use Rattle.packet.proofs.CommandLaws.{Passed, stride-le}
-use Rattle.card.specs.Inside.{Within, moved, laid, spanAt}
+use Rattle.card.specs.Inside.{LetPass, Within, moved, laid, spanAt}
 use Rattle.card.specs.declared.run.Span.{Span}
 use Rattle.card.proofs.StepBlockLaws.{element-wide, within-bytes, within-row, writes-done, writes-read-nothing}
 use Rattle.card.proofs.StepBlockLaws.{reads-keep, reads-done}
@@ -66,8 +63,10 @@ pub record Asked (n w i d bytes j row : ℕ) (line : ℕ) : Type 0 where
   pub spread : Within n i d row bytes
   pub lined : Within n j w row line
 
-module _ (g : Progress) (f : Fields) (rest : List ℕ) (h : Passed (g .pointers) (g .unlocked) (g .reply) f rest) (s : Span)
-    (e : s ≡ spanAt (g .pointers) f rest) where
+module _ (p : Pointers) (f : Fields) (rest : List ℕ) (pass : LetPass p f rest) (s : Span) (e : s ≡ spanAt p f rest) where
+  h : Passed p (pass .open?) (pass .reply) f rest
+  h = pass .passed
+
   wide : wideOf (rowOf f .element) ≡ rowOf f .element
   unfolding rowOf rowBy
   wide = element-wide _ _ (h .present)
@@ -87,7 +86,7 @@ module _ (g : Progress) (f : Fields) (rest : List ℕ) (h : Passed (g .pointers)
   -- `src` is what the command is read from
   module _ (store src tail : List ℕ) (k : f .write ≡ false) (b : length store ≡ storeBytes)
       (l : f .count * answered (kindOf f) (spaceOf (f .space)) ≤ length tail)
-      (q : src ≡ source (kindOf f) (handed (g .pointers) f rest) store) where
+      (q : src ≡ source (kindOf f) (handed p f rest) store) where
     fits : f .count * rowOf f .element ≤ length tail
     fits = rw (answered-read f k) at l
 
@@ -96,12 +95,12 @@ module _ (g : Progress) (f : Fields) (rest : List ℕ) (h : Passed (g .pointers)
 
     pub read-done : (out : List ℕ)
         → out ≡ moved (s .count) (wideOf (s .element)) src (s .at) (s .step) tail 0 (s .element)
-        → out ≡ valuesRead (stepsAt (g .pointers) f rest) store
-        ++ drop (length (valuesRead (stepsAt (g .pointers) f rest) store)) tail
+        → out ≡ valuesRead (stepsAt p f rest) store
+        ++ drop (length (valuesRead (stepsAt p f rest) store)) tail
     unfolding stepsAt spanAt rowOf
     read-done out o =
         let (count, same) =
-        reads-done (kindOf f) (spaceOf (f .space)) (write-kind f ∙ k) (f .count) _ _ (handed (g .pointers) f rest) store [] tail
+        reads-done (kindOf f) (spaceOf (f .space)) (write-kind f ∙ k) (f .count) _ _ (handed p f rest) store [] tail
         (rw (e, wide, q) at (read-asked .spread))
         fits in
         rw count (o ∙ rw (e, wide, q) same)
@@ -115,7 +114,7 @@ module _ (g : Progress) (f : Fields) (rest : List ℕ) (h : Passed (g .pointers)
         (rw q (rw (carried-write f k) at (h .whole)))
 
     pub write-done : (store out : List ℕ) → out ≡ moved (s .count) (wideOf (s .element)) rest hd (s .element) store (s .at) (s .step)
-        → out ≡ storeAfter (stepsAt (g .pointers) f rest) store
+        → out ≡ storeAfter (stepsAt p f rest) store
     unfolding stepsAt spanAt handed rowOf rowBy isInfo areaRow
     write-done store out o = rw (kind-write f k) (o ∙ rw (e, wide, q, kind-write f k) (writes-done _ _ _ _ _ rest store))
 
@@ -142,13 +141,3 @@ laid-back n d ys vs e =
 pub laid-none : (n : ℕ) (d vs : List ℕ) → vs ≡ [] → d ≡ laid n vs d
 unfolding laid
 laid-none n d vs e = rw e (sym (take-append-drop n d))
-
--- what is found says whether it is a write, and a command that passed is no refusal
-pub found-writes : (f : Fields) (x : Which) (b : Bool) → x ≡ whichOf 0 (kindOf f) → writes x ≡ b → f .write ≡ b
-found-writes f x b e q = sym (which-writes f) ∙ sym (ap writes e) ∙ q
-
-pub found-passed : (k : Kind) (x : Which) (n : ℕ) → x ≡ whichOf 0 k → x ≡ Refused n → ⊥
-unfolding whichOf
-found-passed read x n e q = let z : _≡_ {A = ℕ} 0 1 = cc in omega arith
-found-passed write x n e q = let z : _≡_ {A = ℕ} 0 1 = cc in omega arith
-found-passed infoRead x n e q = let z : _≡_ {A = ℕ} 0 1 = cc in omega arith

@@ -4,10 +4,12 @@ use mathlib.Core.List.{List, _++_}
 use lib.ListN.{length, take, drop}
 use lib.Seq.{sets}
 use mathlib.Core.Path.{_≡_}
+use mathlib.Core.Bool.{Bool}
 use Rattle.lbp16.specs.declared.pointer.Pointers.{Pointers}
 use Rattle.lbp16.specs.declared.word.Fields.{Fields}
 use Rattle.packet.specs.Step.{storeAfter, valuesRead}
 use Rattle.packet.specs.Command.{rowOf, addressUsed, stride}
+use Rattle.packet.proofs.CommandLaws.{Passed}
 use Rattle.packet.specs.Judge.{Carried, Verdict, refused, accepted, judge}
 use Rattle.card.specs.declared.run.Span.{Span}
 use Rattle.card.specs.declared.run.Done.{Done}
@@ -29,6 +31,12 @@ laid n values room = take n room ++ (values ++ drop (length values) (drop n room
 abbrev pub IsAccepted : Verdict → Type 0
 IsAccepted (refused n place) = ⊥
 IsAccepted (accepted c) = Unit {0}
+
+-- a command that no rule refuses, whatever the commands before it left beside the pointers
+pub record LetPass (p : Pointers) (f : Fields) (rest : List ℕ) : Type 0 where
+  pub open? : Bool
+  pub reply : ℕ
+  pub passed : Passed p open? reply f rest
 
 -- where a command's elements stand
 unfoldable pub spanAt : Pointers → Fields → List ℕ → Span

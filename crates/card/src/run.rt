@@ -5,24 +5,20 @@ use crate::element;
 use lbp16::pointer::Pointers;
 use lbp16::word::Fields;
 use packet::command;
-use packet::command::Progress;
-use packet::command::Which;
 use packet::info;
-use packet::judge;
 use packet::judge::Verdict;
 ghost use mathlib.Core.Path.{_≡_};
 ghost use mathlib.Core.Bool.{true, false, cond};
 ghost use mathlib.Core.List.{_++_};
-ghost use Prim.Native.Nat.{_+_, _*_, _^_, _<_, _≤_};
+ghost use Prim.Native.Nat.{_+_, _*_, _^_, _≤_, _<_};
 ghost use lib.Dec.{eqb};
 ghost use lib.ListN.{length, drop};
 ghost use Rattle.lbp16.specs.Space.{spaceOf, storeBytes};
 ghost use Rattle.packet.specs.Step.{answered, storeAfter, valuesRead};
-ghost use Rattle.packet.specs.Command.{limit, kindOf, stepsAt, whichOf};
+ghost use Rattle.packet.specs.Command.{limit, kindOf, stepsAt};
 ghost use Rattle.packet.specs.Judge.{judge};
-ghost use Rattle.packet.proofs.CommandLaws.{Passed};
 ghost use Rattle.card.specs.Run.{cleared, counted, runPacket, ran};
-ghost use Rattle.card.specs.Inside.{IsAccepted, Performed, Within, moved, laid, spanAt};
+ghost use Rattle.card.specs.Inside.{IsAccepted, LetPass, Performed, Within, moved, laid, spanAt};
 
 // A command's elements in the store or in the info area: the first one's place, from one to the next, their bytes, and
 // how many.
@@ -56,14 +52,13 @@ fn read_span(s: Span, src: &[u8], tail: &mut [u8])
 }
 
 // The elements of a read, from the store or from the info area, which shows the pointer as it stands before the command.
-fn read_command(rest: &[u8], at: Progress, f: Fields, store: &[u8], tail: &mut [u8])
-    requires { ⌜ Passed (at .pointers) (at .unlocked) (at .reply) f (now rest) × (f .write ≡ false) × (length (now store) ≡ storeBytes) × (f .count * answered (kindOf f) (spaceOf (f .space)) ≤ length (now tail)) ⌝ }
-    ensures { λ r. ⌜ now (tail .exit) ≡ valuesRead (stepsAt (at .pointers) f (now (rest .entry))) (now (store .entry)) ++ drop (length (valuesRead (stepsAt (at .pointers) f (now (rest .entry))) (now (store .entry)))) (now (tail .entry)) ⌝ }
+fn read_command(rest: &[u8], p: Pointers, f: Fields, store: &[u8], tail: &mut [u8])
+    requires { ⌜ LetPass p f (now rest) × (f .write ≡ false) × (length (now store) ≡ storeBytes) × (f .count * answered (kindOf f) (spaceOf (f .space)) ≤ length (now tail)) ⌝ }
+    ensures { λ r. ⌜ now (tail .exit) ≡ valuesRead (stepsAt p f (now (rest .entry))) (now (store .entry)) ++ drop (length (valuesRead (stepsAt p f (now (rest .entry))) (now (store .entry)))) (now (tail .entry)) ⌝ }
 {
-    let pointers = at.pointers;
-    let s = span_of(rest, pointers, f);
+    let s = span_of(rest, p, f);
     if command::is_info(f) {
-        let pointer = pointers.of(false, f.space);
+        let pointer = p.of(false, f.space);
         let area = info::area_bytes(f.space, pointer.at);
         read_span(s, &area, tail);
     } else {
@@ -72,11 +67,11 @@ fn read_command(rest: &[u8], at: Progress, f: Fields, store: &[u8], tail: &mut [
 }
 
 // The elements of a write, from the packet to the store.
-fn write_command(rest: &[u8], at: Progress, f: Fields, store: &mut [u8])
-    requires { ⌜ Passed (at .pointers) (at .unlocked) (at .reply) f (now rest) × (f .write ≡ true) × (length (now store) ≡ storeBytes) ⌝ }
-    ensures { λ r. ⌜ now (store .exit) ≡ storeAfter (stepsAt (at .pointers) f (now (rest .entry))) (now (store .entry)) ⌝ }
+fn write_command(rest: &[u8], p: Pointers, f: Fields, store: &mut [u8])
+    requires { ⌜ LetPass p f (now rest) × (f .write ≡ true) × (length (now store) ≡ storeBytes) ⌝ }
+    ensures { λ r. ⌜ now (store .exit) ≡ storeAfter (stepsAt p f (now (rest .entry))) (now (store .entry)) ⌝ }
 {
-    let s = span_of(rest, at.pointers, f);
+    let s = span_of(rest, p, f);
     let wide = s.element == 4;
     let header = command::header_bytes(f);
     block::move_elements(rest, header, s.element, store, s.at, s.step, s.count, wide);
@@ -85,25 +80,20 @@ fn write_command(rest: &[u8], at: Progress, f: Fields, store: &mut [u8])
 // Does a command that the check let pass: a read fills the front of the reply's unused tail, a write goes to the store.
 fn do_command(
     rest: &[u8],
-    at: Progress,
+    p: Pointers,
     f: Fields,
-    which: Which,
     store: &mut [u8],
     reply: &mut [u8],
+    filled: usize,
 )
-    requires { ⌜ Passed (at .pointers) (at .unlocked) (at .reply) f (now rest) × (which ≡ whichOf 0 (kindOf f)) × (length (now store) ≡ storeBytes) × (at .reply + f .count * answered (kindOf f) (spaceOf (f .space)) ≤ length (now reply)) ⌝ }
-    ensures { λ r. ⌜ now (store .exit) ≡ storeAfter (stepsAt (at .pointers) f (now (rest .entry))) (now (store .entry)) ⌝ }
-    ensures { λ r. ⌜ now (reply .exit) ≡ laid (at .reply) (valuesRead (stepsAt (at .pointers) f (now (rest .entry))) (now (store .entry))) (now (reply .entry)) ⌝ }
+    requires { ⌜ LetPass p f (now rest) × (length (now store) ≡ storeBytes) × (filled + f .count * answered (kindOf f) (spaceOf (f .space)) ≤ length (now reply)) ⌝ }
+    ensures { λ r. ⌜ now (store .exit) ≡ storeAfter (stepsAt p f (now (rest .entry))) (now (store .entry)) ⌝ }
+    ensures { λ r. ⌜ now (reply .exit) ≡ laid filled (valuesRead (stepsAt p f (now (rest .entry))) (now (store .entry))) (now (reply .entry)) ⌝ }
 {
-    match which {
-        Which::Read => {
-            let n = at.reply;
-            read_command(rest, at, f, store, &mut reply[n..]);
-        }
-        Which::Write => {
-            write_command(rest, at, f, store);
-        }
-        Which::Refused(_) => {}
+    if f.write {
+        write_command(rest, p, f, store);
+    } else {
+        read_command(rest, p, f, store, &mut reply[filled..]);
     }
 }
 
@@ -121,28 +111,25 @@ fn summed(before: u64, count: u8) -> u64
     before + count as u64
 }
 
-// Does all commands of a packet that the check accepted.
+// Does all commands of a packet that the check accepted. No rule is asked a second time.
 fn perform(packet: &[u8], store: &mut [u8], p: Pointers, reply: &mut [u8]) -> Done
     requires { ⌜ IsAccepted (judge p (now packet)) × (length (now store) ≡ storeBytes) × (length (now reply) ≡ limit) ⌝ }
     ensures { λ r. ⌜ Performed (now (packet .entry)) (now (store .entry)) (now (reply .entry)) p (now (store .exit)) (now (reply .exit)) r ⌝ }
 {
-    let mut at = judge::begin(p);
-    let mut place: usize = 0;
+    let mut pointers = p;
+    let mut filled: usize = 0;
     let mut elements: u64 = 0;
     let mut rest = packet;
     while 0 < rest.len() {
-        let c = command::command_at(rest, at, place);
-        let found = c.found;
-        let which = found.which;
-        let fields = found.fields;
-        do_command(rest, at, fields, which, store, reply);
-        let k = command::command_bytes(fields);
-        at = c.next;
-        place += k;
-        elements = summed(elements, fields.count);
+        let f = command::fields_at(rest);
+        do_command(rest, pointers, f, store, reply, filled);
+        let used = command::address_used(pointers, f, rest);
+        pointers = command::pointers_after(pointers, f, used);
+        filled += command::answered_bytes(f);
+        elements = summed(elements, f.count);
+        let k = command::command_bytes(f);
         rest = &rest[k..];
     }
-    let pointers = at.pointers;
     Done { pointers, elements }
 }
 

@@ -21,15 +21,14 @@ use Rattle.packet.proofs.CommandLaws.{Passed, advanced-used, reply-of-c
 
 -- the progress after a command that passes, from its parts
 pub progress-is : (g : Progress) (f : Fields) (rest : List ℕ) → Passed (g .pointers) (g .unlocked) (g .reply) f rest
-    → (used moved at answers : ℕ) (i : Bool) (p : Pointers) (o : Bool)
-    → used ≡ addressUsed (g .pointers) f rest → moved ≡ f .count * stride f → at ≡ advanced used moved
-    → i ≡ isInfo (kindOf f) → p ≡ withPointer (g .pointers) i (spaceOf (f .space)) at
+    → (used answers : ℕ) (p : Pointers) (o : Bool) → used ≡ addressUsed (g .pointers) f rest
+    → p ≡ withPointer (g .pointers) (isInfo (kindOf f)) (spaceOf (f .space)) (advanced used (f .count * stride f))
     → o ≡ unlocked (g .unlocked) (elements (kindOf f) (spaceOf (f .space)) (f .count) used (stride f) (drop (headerBytes f) rest))
     → answers ≡ f .count * answered (kindOf f) (spaceOf (f .space))
     → _≡_ {A = Progress} (record { pointers = p; unlocked = o; reply = g .reply + answers }) (progressAfter g f rest)
 unfolding progressAfter pointersAfter
-progress-is g f rest h used moved at answers i p o e₁ e₂ e₃ e₄ e₅ e₆ e₇ =
-    rw (e₅, e₄, e₆, e₇, e₃, e₁, e₂, advanced-used _ _ _ f rest h, ← unlock-handed (g .unlocked) (g .pointers) f rest, ← reply-of-command (g .pointers) f rest) refl
+progress-is g f rest h used answers p o e₁ e₂ e₃ e₄ =
+    rw (e₂, e₃, e₄, e₁, advanced-used _ _ _ f rest h, ← unlock-handed (g .unlocked) (g .pointers) f rest, ← reply-of-command (g .pointers) f rest) refl
 
 module _ (g : Progress) (place : ℕ) (rest : List ℕ) (f : Fields) (n : ℕ) (w : Which)
     (e₁ : f ≡ fieldsAt rest) (e₂ : n ≡ first (refusals (g .pointers) (g .unlocked) (g .reply) f rest))

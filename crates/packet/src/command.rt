@@ -13,6 +13,7 @@ ghost use Prim.Native.Nat.{_*_, _+_, _≤_, _<_};
 ghost use lib.ListN.{length, take, drop};
 ghost use lib.Dec.{ltb};
 ghost use Rattle.lbp16.specs.Space.{spaceOf, status};
+ghost use Rattle.lbp16.specs.Pointer.{advanced, withPointer};
 ghost use Rattle.packet.specs.Bytes.{number};
 ghost use Rattle.packet.specs.Step.{Kind, isInfo, carried, answered, statusWrite, turned, unlocked};
 ghost use Rattle.packet.specs.Rules.{first, any, barred};
@@ -46,7 +47,8 @@ pub struct Command {
     pub next: Progress,
 }
 
-fn fields_at(rest: &[u8]) -> Fields
+// The fields of the word at the front, all 0 where it is cut off.
+pub fn fields_at(rest: &[u8]) -> Fields
     ensures { λ r. ⌜ r ≡ fieldsAt (now (rest .entry)) ⌝ }
 {
     if rest.len() < 2 {
@@ -92,7 +94,7 @@ fn carried_bytes(f: Fields) -> usize
     if f.write { element_bytes(f) } else { 0 }
 }
 
-fn answered_bytes(f: Fields) -> usize
+pub fn answered_bytes(f: Fields) -> usize
     ensures { λ r. ⌜ (r ≡ f .count * answered (kindOf f) (spaceOf (f .space))) × (r ≤ 1020) ⌝ }
 {
     if f.write { 0 } else { element_bytes(f) }
@@ -240,6 +242,14 @@ fn moved_bytes(f: Fields) -> u32
     (f.count as u32) * stride_of(f)
 }
 
+// The pointers after a command that uses the address `used`.
+pub fn pointers_after(p: Pointers, f: Fields, used: u32) -> Pointers
+    ensures { λ r. ⌜ r ≡ withPointer p (isInfo (kindOf f)) (spaceOf (f .space)) (advanced used (f .count * stride f)) ⌝ }
+{
+    let pointer = Pointer::new(used).advance(moved_bytes(f));
+    p.with(is_info(f), f.space, pointer)
+}
+
 // The progress after a command that no rule refuses.
 fn progress_after(rest: &[u8], at: Progress, f: Fields) -> Progress
     requires { ⌜ first (refusals (at .pointers) (at .unlocked) (at .reply) f (now rest)) ≡ 0 ⌝ }
@@ -247,9 +257,8 @@ fn progress_after(rest: &[u8], at: Progress, f: Fields) -> Progress
 {
     let pointers = at.pointers;
     let used = address_used(pointers, f, rest);
-    let pointer = Pointer::new(used).advance(moved_bytes(f));
     Progress {
-        pointers: pointers.with(is_info(f), f.space, pointer),
+        pointers: pointers_after(pointers, f, used),
         unlocked: unlocked_next(rest, at.unlocked, f, used),
         reply: at.reply + answered_bytes(f),
     }

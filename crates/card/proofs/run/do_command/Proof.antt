@@ -1,15 +1,11 @@
 use borrow.Author.Needs.{needs}
+use mathlib.Core.Path.{sym}
+use Rattle.card.proofs.CommandRunLaws.{read-keeps, write-reads, laid-back, laid-none}
 use Rattle.card.proofs.run.do_command.Statement.{statement}
 use Rattle.card.proofs.run.do_command.Tie as tie
-use mathlib.Core.Path.{sym, ap, _∙_}
-use native.Mathlib.Omega.{arith}
-use lib.ListN.{length-drop}
-use Rattle.packet.proofs.SliceLaws.{tail-whole}
-use Rattle.packet.specs.Command.{writes}
-use Rattle.card.proofs.CommandRunLaws.{found-writes, found-passed, read-keeps, write-reads, laid-back, laid-none}
 
-enum-told : tie.Need-enum-told
-enum-told c = search needs
+write-command-requires : tie.Need-write-command-requires
+write-command-requires c κs = search needs
 
 sub-read-command : tie.Need-sub-read-command
 sub-read-command c = search needs
@@ -21,50 +17,34 @@ part-read-command-end : tie.Need-part-read-command-end
 part-read-command-end c = search needs
 
 read-command-requires : tie.Need-read-command-requires
-read-command-requires c κs = let p = c .before .before .before .before .before .before .before .pre in (p .0, found-writes _ _ _ (p .1) (ap writes (c .before .before .enum-told .given .1)), p .2, let l = p .3 in rw (tail-whole, length-drop) (omega arith))
-
-enum-told-2 : tie.Need-enum-told-2
-enum-told-2 c = search needs
-
-write-command-requires : tie.Need-write-command-requires
-write-command-requires c κs = let p = c .before .before .before .before .before .before .pre in (p .0, found-writes _ _ _ (p .1) (ap writes (c .before .enum-told2 .given .1)), p .2)
-
-enum-told-3 : tie.Need-enum-told-3
-enum-told-3 c = search needs
+read-command-requires c κs = search needs
 
 same-length : tie.Need-same-length
 same-length c = search needs
 
+returns : tie.Need-returns
+returns c = (c .before .before .write-command .ensures, laid-none _ _ _ (write-reads _ _ _ _ (c .before .before .before .before .if1 .taken)))
+
 same-length-2 : tie.Need-same-length-2
 same-length-2 c = search needs
-
-returns : tie.Need-returns
-returns c = let p = c .before .before .before .before .before .before .before .before .before .before .pre in let r = found-writes _ _ _ (p .1) (ap writes (c .before .before .before .before .before .enum-told .given .1)) in (sym (read-keeps _ _ _ _ r), laid-back _ _ _ _ (c .before .before .read-command .ensures))
 
 same-length-3 : tie.Need-same-length-3
 same-length-3 c = search needs
 
 returns-2 : tie.Need-returns-2
-returns-2 c = let p = c .before .before .before .before .before .before .before .before .before .pre in let w = found-writes _ _ _ (p .1) (ap writes (c .before .before .before .before .enum-told2 .given .1)) in (c .before .before .write-command .ensures, laid-none _ _ _ (write-reads _ _ _ _ w))
-
-returns-3 : tie.Need-returns-3
-returns-3 c = absurd (found-passed _ _ _ (c .before .before .before .before .before .pre .1) (c .enum-told3 .given .1))
+returns-2 c = (sym (read-keeps _ _ _ _ (c .before .before .before .before .before .if1 .left)), laid-back _ _ _ _ (c .before .before .read-command .ensures))
 
 pub do-command-spec : {M : Type 1} → statement M
 do-command-spec =
     tie.close
     (tie.spec
-    enum-told
+    write-command-requires
     sub-read-command
     part-read-command-start
     part-read-command-end
     read-command-requires
-    enum-told-2
-    write-command-requires
-    enum-told-3
     same-length
-    same-length-2
     returns
+    same-length-2
     same-length-3
-    returns-2
-    returns-3)
+    returns-2)

@@ -20,22 +20,22 @@ slice-aggregate-read-span : tie.Need-slice-aggregate-read-span
 slice-aggregate-read-span c = search needs
 
 read-span-requires : tie.Need-read-span-requires
-read-span-requires c κs = let b = c .before .before .before .before .before .before .before .before .before .before .before in let p = b .pre in let q = from-area _ _ _ (b .args .store .now) _ _ (sym (c .before .before .before .before .before .is-info .ensures) ∙ c .before .before .before .before .if1 .taken) (c .before .before .before .of .ensures) (c .before .before .area-bytes .ensures) in let a = read-asked _ _ _ (p .0) _ (c .before .before .before .before .before .before .span-of .ensures) _ _ (b .args .tail .now) (p .1) (p .2) (p .3) q in (a .step, a .width, a .spread, a .lined)
+read-span-requires c κs = let b = c .before .before .before .before .before .before .before .before .before .before in let p = b .pre in let q = from-area _ _ _ (b .args .store .now) _ _ (sym (c .before .before .before .before .before .is-info .ensures) ∙ c .before .before .before .before .if1 .taken) (c .before .before .before .of .ensures) (c .before .before .area-bytes .ensures) in let a = read-asked _ _ _ (p .0) _ (c .before .before .before .before .before .before .span-of .ensures) _ _ (b .args .tail .now) (p .1) (p .2) (p .3) q in (a .step, a .width, a .spread, a .lined)
 
 read-span-requires-2 : tie.Need-read-span-requires-2
-read-span-requires-2 c κs = let b = c .before .before .before .before .before .before .before .before in let p = b .pre in let q = from-store _ _ _ (b .args .store .now) (sym (c .before .before .is-info .ensures) ∙ c .before .if1 .left) in let a = read-asked _ _ _ (p .0) _ (c .before .before .before .span-of .ensures) _ _ (b .args .tail .now) (p .1) (p .2) (p .3) q in (a .step, a .width, a .spread, a .lined)
+read-span-requires-2 c κs = let b = c .before .before .before .before .before .before .before in let p = b .pre in let q = from-store _ _ _ (b .args .store .now) (sym (c .before .before .is-info .ensures) ∙ c .before .if1 .left) in let a = read-asked _ _ _ (p .0) _ (c .before .before .before .span-of .ensures) _ _ (b .args .tail .now) (p .1) (p .2) (p .3) q in (a .step, a .width, a .spread, a .lined)
 
 same-length : tie.Need-same-length
 same-length c = search needs
 
 returns : tie.Need-returns
-returns c = let b = c .before .before .before .before .before .before .before .before .before .before .before .before .before .before in let p = b .pre in let q = from-area _ _ _ (b .args .store .now) _ _ (sym (c .before .before .before .before .before .before .before .before .is-info .ensures) ∙ c .before .before .before .before .before .before .before .if1 .taken) (c .before .before .before .before .before .before .of .ensures) (c .before .before .before .before .before .area-bytes .ensures) in read-done _ _ _ (p .0) _ (c .before .before .before .before .before .before .before .before .before .span-of .ensures) _ _ _ (p .1) (p .2) (p .3) q _ (c .before .before .read-span .ensures)
+returns c = let b = c .before .before .before .before .before .before .before .before .before .before .before .before .before in let p = b .pre in let q = from-area _ _ _ (b .args .store .now) _ _ (sym (c .before .before .before .before .before .before .before .before .is-info .ensures) ∙ c .before .before .before .before .before .before .before .if1 .taken) (c .before .before .before .before .before .before .of .ensures) (c .before .before .before .before .before .area-bytes .ensures) in read-done _ _ _ (p .0) _ (c .before .before .before .before .before .before .before .before .before .span-of .ensures) _ _ _ (p .1) (p .2) (p .3) q _ (c .before .before .read-span .ensures)
 
 same-length-2 : tie.Need-same-length-2
 same-length-2 c = search needs
 
 returns-2 : tie.Need-returns-2
-returns-2 c = let b = c .before .before .before .before .before .before .before .before .before .before .before in let p = b .pre in let q = from-store _ _ _ (b .args .store .now) (sym (c .before .before .before .before .before .is-info .ensures) ∙ c .before .before .before .before .if1 .left) in read-done _ _ _ (p .0) _ (c .before .before .before .before .before .before .span-of .ensures) _ _ _ (p .1) (p .2) (p .3) q _ (c .before .before .read-span2 .ensures)
+returns-2 c = let b = c .before .before .before .before .before .before .before .before .before .before in let p = b .pre in let q = from-store _ _ _ (b .args .store .now) (sym (c .before .before .before .before .before .is-info .ensures) ∙ c .before .before .before .before .if1 .left) in read-done _ _ _ (p .0) _ (c .before .before .before .before .before .before .span-of .ensures) _ _ _ (p .1) (p .2) (p .3) q _ (c .before .before .read-span2 .ensures)
 
 pub read-command-spec : {M : Type 1} → statement M
 read-command-spec =
