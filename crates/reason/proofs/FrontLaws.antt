@@ -131,7 +131,7 @@ module _ (front ys rest : List ℕ) (zs : List ℕ) (e : front ++ zs ≡ rest) w
       ∙ rw (f, carry-front c two (omega arith), drop-at front ys _ k) (on fuel (omega arith))
 
 -- a command has some bytes
-command-some : (f : Fields) → 2 ≤ commandBytes f
+pub command-some : (f : Fields) → 2 ≤ commandBytes f
 unfolding commandBytes headerBytes
 command-some f = go (f .address) _
   where

@@ -1,10 +1,10 @@
 -- Laws of a reason: it names the number and the place of the check and of the run, and the bytes before that place are accepted.
 use Prim.Native.Nat.{ℕ, _≤_, _<_}
 use mathlib.Core.Path.{_≡_, refl, sym, ap, _∙_}
-use mathlib.Core.List.{List}
+use mathlib.Core.List.{List, [], _∷_}
 use mathlib.Core.Bool.{Bool, true, false, cond}
 use native.Mathlib.Omega.{arith}
-use borrow.Author.Tests.{lt-ltb}
+use borrow.Author.Tests.{lt-ltb, le-ltb}
 use lib.Dec.{ltb}
 use lib.ListN.{length, take, length-take}
 use Rattle.lbp16.specs.Answer.{Answer}
@@ -19,12 +19,6 @@ use Rattle.packet.proofs.RefusalLaws.{refused-in-table}
 use Rattle.reason.specs.Reason.{unnamed, named, reasonOf, explained, FrontAccepted}
 use Rattle.reason.specs.declared.Reason.{Reason}
 use Rattle.reason.proofs.FrontLaws.{front-judged}
-
--- from the check's verdict
-pub explained-by : (packet store : List ℕ) (p : Pointers) {v : Verdict} {r : Reason} → checked packet store p ≡ v
-    → r ≡ reasonOf p packet v → r ≡ explained packet store p
-unfolding explained
-explained-by packet store p e f = f ∙ ap (reasonOf p packet) (sym e)
 
 -- Number and place are the verdict's.
 either : (get : Reason → ℕ) (n : ℕ) (b : Bool) (r s : Reason) → get r ≡ n → get s ≡ n → get (cond b r s) ≡ n
@@ -45,6 +39,17 @@ answer-told : (p : Pointers) (packet : List ℕ) (v : Verdict) → 1 ≤ reasonO
 unfolding answerTo reasonOf unnamed
 answer-told p packet (refused n place) l = rw (told-number p packet n place, told-place p packet n place) refl
 answer-told p packet (accepted c) l = absurd (omega arith)
+
+-- from the check's answer
+refused-of : (v : Verdict) (n place : ℕ) → Answer.refused n place ≡ answerTo v → v ≡ refused n place
+unfolding answerTo
+refused-of (refused m at) n place e = let a : m ≡ n = cc in let b : at ≡ place = cc in rw (a, b) refl
+refused-of (accepted c) n place e = let z : _≡_ {A = ℕ} 0 1 = cc in absurd (omega arith)
+
+accepted-of : (v : Verdict) (n : ℕ) → Answer.accepted (n ∷ []) ≡ answerTo v → (end : Carried) × (v ≡ accepted end)
+unfolding answerTo
+accepted-of (refused m at) n e = let z : _≡_ {A = ℕ} 0 1 = cc in absurd (omega arith)
+accepted-of (accepted c) n e = (c, refl)
 
 module _ (packet store : List ℕ) (p : Pointers) where
   -- A reason with a number names what the check refuses with, and so does the run with a whole reply room.
@@ -83,6 +88,35 @@ module _ (packet store : List ℕ) (p : Pointers) where
       → explained packet store p ≡ unnamed n place
   unfolding explained reasonOf
   no-command-named n place e l = rw (e, lt-ltb n 3 l) refl
+
+  -- Refusals 1 and 2 are at place 0, and those from 3 on are the commands'.
+  refusal-cases : (n place : ℕ) → checked packet store p ≡ refused n place
+      → (n < 3 → place ≡ 0) × (3 ≤ n → judge p packet ≡ refused n place)
+  refusal-cases n place =
+      checked-cases packet store p
+      (λ v. v ≡ refused n place → (n < 3 → place ≡ 0) × (3 ≤ n → judge p packet ≡ refused n place))
+      (λ _ e. let a : 1 ≡ n = cc in let b : 0 ≡ place = cc in ((λ l. omega arith), (λ l. absurd (omega arith))))
+      (λ _ _ e. let a : 2 ≡ n = cc in let b : 0 ≡ place = cc in ((λ l. omega arith), (λ l. absurd (omega arith))))
+      (λ _ _ e. ((λ l. absurd (omega (arith, refused-in-table p packet n place e .in-table .0))), (λ l. e)))
+
+  -- as the code has it: from the check's answer
+  pub explained-accepted : (n : ℕ) → Answer.accepted (n ∷ []) ≡ answerTo (checked packet store p)
+      → unnamed 0 0 ≡ explained packet store p
+  explained-accepted n e = let (end, a) = accepted-of _ n e in sym (all-zero end a)
+
+  module _ (n place : ℕ) (e : Answer.refused n place ≡ answerTo (checked packet store p)) where
+    pub explained-unnamed : n < 3 → unnamed n 0 ≡ explained packet store p
+    explained-unnamed l =
+        let v = refused-of _ n place e in
+        let z = refusal-cases n place v .0 l in
+        sym (no-command-named n place v l ∙ rw z refl)
+
+    pub judged-refused : 3 ≤ n → judge p packet ≡ refused n place
+    judged-refused l = refusal-cases n place (refused-of _ n place e) .1 l
+
+    pub explained-named : 3 ≤ n → named p packet n place ≡ explained packet store p
+    unfolding explained reasonOf
+    explained-named l = rw (refused-of _ n place e, le-ltb n 3 l) refl
 
   -- From 3 on the bytes before the place are accepted.
   pub front-accepted : (r : Reason) → r ≡ explained packet store p → FrontAccepted packet store p r

@@ -1,47 +1,59 @@
--- The walk over a packet's commands: where it stands between two of them.
-use Prim.Native.Nat.{ℕ, zero, suc, _+_, _-_, _≤_, _<_, min}
+-- The walk over a packet's commands, up to the one that the check refuses: where it stands between two of them.
+use Prim.Native.Nat.{ℕ, zero, suc, _+_, _*_, _-_, _≤_, _<_, min}
 use mathlib.Core.Path.{_≡_, refl, sym, ap, _∙_}
-use mathlib.Core.List.{List, [], _∷_}
+use mathlib.Core.List.{List}
 use native.Mathlib.Omega.{arith}
-use borrow.Author.Tests.{le-ltb}
-use lib.ListN.{length, take, drop, length-drop}
+use lib.ListN.{length, drop, length-drop}
 use lib.Seq.{drop-drop}
-use Rattle.lbp16.specs.Answer.{Answer}
+use Rattle.lbp16.specs.Space.{spaceOf}
+use Rattle.lbp16.specs.Pointer.{advanced, withPointer}
 use Rattle.lbp16.specs.declared.pointer.Pointers.{Pointers}
-use Rattle.packet.specs.Command.{fieldsAt, commandBytes, addressUsed, numberOf, found, commandAt}
-use Rattle.packet.specs.Judge.{Carried, Verdict, refused, accepted, begin, carry, judge}
-use Rattle.packet.specs.Verdict.{answerTo, start, progressOf}
-use Rattle.packet.specs.declared.command.Progress.{Progress}
-use Rattle.packet.specs.declared.command.Command.{Command}
-use Rattle.packet.proofs.SliceLaws.{tail-whole}
+use Rattle.packet.specs.Step.{isInfo}
+use Rattle.packet.specs.Command.{fieldsAt, kindOf, commandBytes, addressUsed, stride, pointersAfter}
+use Rattle.packet.specs.Judge.{Carried, refused, begin, carry, judge}
+use Rattle.packet.proofs.CommandLaws.{advanced-used}
 use Rattle.packet.proofs.JudgeLaws.{PassedNext}
-use Rattle.packet.proofs.LoopLaws.{At, at-begin, at-end, at-passed, at-refused, Turn, at-step}
-use Rattle.packet.proofs.RefusalLaws.{Reaches, here, refused-in-table}
-use Rattle.reason.specs.Reason.{placeAfter, commandsFrom, commandsBefore, pointersLeft, pointersAt, unnamed, named}
-use Rattle.reason.specs.Reason.{reasonOf}
+use Rattle.packet.proofs.RefusalLaws.{Reaches, here, past, behind, refused-in-table}
+use Rattle.reason.specs.Reason.{placeAfter, headerAt, commandsFrom, commandsBefore, pointersLeft, pointersAt, named}
 use Rattle.reason.specs.declared.Reason.{Reason}
-use Rattle.reason.proofs.FrontLaws.{front-reached, reaches-next}
+use Rattle.reason.specs.declared.reader.Header.{Header}
+use Rattle.reason.proofs.FrontLaws.{command-some, front-reached, reaches-next}
 
--- Up to any later place there are the commands passed and those from here on.
+-- Up to a later place there are the commands passed and those from here on.
 pub record Counted (packet : List ℕ) (place index t : ℕ) : Type 0 where
   pub fuel : ℕ
   pub enough : t - place ≤ fuel
   pub same : commandsBefore t packet ≡ index + commandsFrom fuel (t - place) (drop place packet)
 
-pub record Walking (p : Pointers) (packet : List ℕ) (c : Carried) (g : Progress) (place index : ℕ) : Type 0 where
-  pub at : At p packet c g place (drop place packet)
-  pub counted : (t : ℕ) → place ≤ t → Counted packet place index t
+-- All commands before the place pass, and so do those from there to the place t.
+pub record Walking (p : Pointers) (packet : List ℕ) (t : ℕ) (pointers : Pointers) (place index : ℕ) : Type 0 where
+  pub carried : Carried
+  pub end : Carried
+  pub left : List ℕ
+  pub reached : Reaches (begin p) packet carried (drop place packet)
+  pub onward : Reaches carried (drop place packet) end left
+  pub at : carried .place ≡ place
+  pub to : end .place ≡ t
+  pub pointed : pointers ≡ carried .pointers
+  pub counted : Counted packet place index t
   pub few : index ≤ place
-  pub reached : Reaches (begin p) packet c (drop place packet)
 
-pub walking-begin : (p : Pointers) (packet : List ℕ) → Walking p packet (begin p) (start p) 0 0
-unfolding commandsBefore
-walking-begin p packet =
+pub walking-begin : (p : Pointers) (packet : List ℕ) (n t : ℕ) → judge p packet ≡ refused n t → Walking p packet t p 0 0
+unfolding commandsBefore begin
+walking-begin p packet n t e =
+    let r = refused-in-table p packet n t e in
+    let z : t - 0 ≡ t = omega arith in
     record {
-      at = at-begin p packet;
-      counted = λ t l. let z : t - 0 ≡ t = omega arith in record { fuel = t; enough = omega arith; same = rw z (omega arith) };
-      few = omega arith;
+      carried = begin p;
+      end = r .at;
+      left = r .rest;
       reached = here;
+      onward = r .before;
+      at = refl;
+      to = r .at-place;
+      pointed = refl;
+      counted = record { fuel = t; enough = omega arith; same = rw z (omega arith) };
+      few = omega arith;
     }
 
 -- one command counted
@@ -73,50 +85,71 @@ counted-next packet place index t k after q l e s h =
           same = rw (q, z, ← drop-drop k place packet) (h .same ∙ (rw (o .same) (shift index _)));
         }
 
-passed-at : {p : Pointers} {packet : List ℕ} {c : Carried} {g : Progress} {place : ℕ} (rest : List ℕ)
-    → At p packet c g place rest → 0 < length rest → numberOf (commandAt g place rest .found .which) ≡ 0 → PassedNext c rest
-unfolding progressOf
-passed-at rest s some z = rw (s .progress) at (at-passed rest s some z)
+-- Commands lie behind each other.
+no-further : {c end : Carried} {rest left : List ℕ} → Reaches c rest end left → c .place ≤ end .place
+unfolding carry
+no-further here = omega arith
+no-further (past n r) = let h = no-further r in omega arith
+
+-- before the last command reached there is one that passes
+passes-here : {c end : Carried} {rest left : List ℕ} → Reaches c rest end left → c .place < end .place
+    → PassedNext c rest × Reaches (carry c rest) (behind rest) end left
+passes-here here l = absurd (omega arith)
+passes-here (past n r) l = (n, r)
+
+-- the pointers after a command, as the code finds them
+abbrev pub pointersBy : Pointers → Header → Pointers
+pointersBy p h =
+    let f = h .fields in
+    withPointer p (isInfo (kindOf f)) (spaceOf (f .space)) (advanced (h .address) (f .count * stride f))
+
+pointers-next : (c : Carried) (rest : List ℕ) → PassedNext c rest → (p q : Pointers) (h : Header) → p ≡ c .pointers
+    → h ≡ headerAt p rest → q ≡ pointersBy p h → q ≡ carry c rest .pointers
+unfolding carry pointersAfter headerAt
+pointers-next c rest n p q h e₁ e₂ e₃ = e₃ ∙ rw (e₂, e₁, advanced-used _ _ _ (fieldsAt rest) rest n) refl
 
 -- as the code has it: the command's parts by equations
-pub record Stepped (p : Pointers) (packet : List ℕ) (c : Carried) (next : Progress) (place after index : ℕ) : Type 0 where
+pub record Stepped (p : Pointers) (packet : List ℕ) (t : ℕ) (pointers : Pointers) (place after index : ℕ) : Type 0 where
   pub further : place < after
-  pub within : after ≤ length packet
-  pub again : Walking p packet (carry c (drop place packet)) next after (index + 1)
+  pub within : after ≤ t
+  pub again : Walking p packet t pointers after (index + 1)
 
-pub walking-step : {p : Pointers} {packet : List ℕ} {c : Carried} {g : Progress} {place index : ℕ}
-    → Walking p packet c g place index → place < length packet → (x : Command) (n k after : ℕ)
-    → x ≡ commandAt g place (drop place packet) → n ≡ numberOf (x .found .which) → n ≡ 0 → k ≡ commandBytes (x .found .fields)
-    → after ≡ placeAfter packet place k
-    → Stepped p packet c (x .next) place after index
-unfolding commandAt found placeAfter
-walking-step {packet = packet} {place = place} {index = index} w some x n k after e₁ e₂ e₃ e₄ e₅ =
-    let turn = at-step (w .at) (rw length-drop (omega arith)) x n k e₁ e₂ e₃ e₄ in
-    let k-is : k ≡ commandBytes (fieldsAt (drop place packet)) = e₄ ∙ ap (λ (x : Command). commandBytes (x .found .fields)) e₁ in
-    let none = sym (e₂ ∙ ap (λ (x : Command). numberOf (x .found .which)) e₁) ∙ e₃ in
-    let passes = passed-at (drop place packet) (w .at) (rw length-drop (omega arith)) none in
-    let two = turn .some in
-    let fits : k ≤ length packet - place = rw (length-drop place packet) at (turn .whole) in
-    let q : after ≡ place + k = omega arith in
+pub walking-step : {p : Pointers} {packet : List ℕ} {t : ℕ} {pointers : Pointers} {place index : ℕ}
+    → Walking p packet t pointers place index → place < t → (h : Header) (k after : ℕ) (q : Pointers)
+    → h ≡ headerAt pointers (drop place packet) → k ≡ commandBytes (h .fields)
+    → q ≡ pointersBy pointers h → after ≡ placeAfter packet place k → Stepped p packet t q place after index
+unfolding carry headerAt placeAfter
+walking-step {packet = packet} {t = t} {pointers = pointers} {place = place} {index = index} w l h k after q e₁ e₂ e₃ e₄ =
+    let rest = drop place packet in
+    let a = w .at in
+    let b = w .to in
     let few = w .few in
+    let (passes, onward) = passes-here (w .onward) (omega arith) in
+    let k-is : k ≡ commandBytes (fieldsAt rest) = e₂ ∙ ap (λ (x : Header). commandBytes (x .fields)) e₁ in
+    let two = command-some (fieldsAt rest) in
+    let whole : commandBytes (fieldsAt rest) ≤ length packet - place = rw (length-drop place packet) at (passes .whole) in
+    let s : after ≡ place + k = omega arith in
+    let d : drop after packet ≡ behind rest = rw (s, k-is) (sym (drop-drop (commandBytes (fieldsAt rest)) place packet)) in
+    let within = no-further onward in
     record {
       further = omega arith;
       within = omega arith;
       again =
           record {
-            at = rw (q, ← drop-drop k place packet) (rw tail-whole at (turn .again));
-            counted = λ t l. counted-next packet place index t k after q l k-is two (w .counted t (omega arith));
+            carried = carry (w .carried) rest;
+            end = w .end;
+            left = w .left;
+            reached = rw d (reaches-next (w .reached) passes);
+            onward = rw d onward;
+            at = omega arith;
+            to = b;
+            pointed = pointers-next (w .carried) rest passes pointers q h (w .pointed) e₁ e₃;
+            counted = counted-next packet place index t k after s (omega arith) k-is (omega arith) (w .counted);
             few = omega arith;
-            reached = rw (q, ← drop-drop k place packet, k-is) (reaches-next (w .reached) passes);
           };
     }
 
--- The command at the place is the one that the check refuses.
-refused-of : (v : Verdict) (n place : ℕ) → Answer.refused n place ≡ answerTo v → v ≡ refused n place
-unfolding answerTo
-refused-of (refused m at) n place e = let a : m ≡ n = cc in let b : at ≡ place = cc in rw (a, b) refl
-refused-of (accepted c) n place e = let z : _≡_ {A = ℕ} 0 1 = cc in absurd (omega arith)
-
+-- At the place itself all commands before it are counted.
 counted-none : (f n : ℕ) (rest : List ℕ) → n ≡ 0 → commandsFrom f n rest ≡ 0
 unfolding commandsFrom
 counted-none zero n rest e = refl
@@ -127,28 +160,20 @@ counted-here : {packet : List ℕ} {place index : ℕ} → Counted packet place 
 counted-here {place = place} h = h .same ∙ rw (counted-none (h .fuel) (place - place) _ (omega arith)) (omega arith)
 
 -- the pointers there are those that the bytes before it leave
-pointers-here : {p : Pointers} {packet : List ℕ} {c : Carried} {g : Progress} {place index : ℕ}
-    → Walking p packet c g place index → g .pointers ≡ pointersAt p packet place
-unfolding pointersAt pointersLeft progressOf
-pointers-here {p = p} {packet = packet} {c = c} w =
-    ap (λ (x : Progress). x .pointers) (w .at .progress)
-    ∙ rw (w .at .at, front-reached p packet (w .reached)) refl
+pointers-here : {p : Pointers} {packet : List ℕ} {t : ℕ} {pointers : Pointers} {place index : ℕ}
+    → Walking p packet t pointers place index → pointers ≡ pointersAt p packet place
+unfolding pointersAt pointersLeft
+pointers-here {p = p} {packet = packet} w = w .pointed ∙ rw (sym (w .at), front-reached p packet (w .reached)) refl
 
-pub walking-refused : {p : Pointers} {packet : List ℕ} {c : Carried} {g : Progress} {place index : ℕ}
-    → Walking p packet c g place index → place < length packet → (x : Command) (n a : ℕ)
-    → x ≡ commandAt g place (drop place packet) → n ≡ numberOf (x .found .which) → (n ≡ 0 → ⊥)
-    → a ≡ addressUsed (g .pointers) (x .found .fields) (drop place packet)
-    → _≡_ {A = Reason} (record { number = n; place = place; index = index; fields = x .found .fields; address = a })
-    (reasonOf p packet (judge p packet))
-unfolding commandAt found reasonOf named
-walking-refused {p = p} {packet = packet} {place = place} {index = index} w some x n a e₁ e₂ h e₃ =
-    let v = refused-of (judge p packet) n place
-    (at-refused _ (w .at) (rw length-drop (omega arith)) n (e₂ ∙ ap (λ (x : Command). numberOf (x .found .which)) e₁) h) in
-    let three = refused-in-table p packet n place v .in-table .0 in
-    let here = w .counted place (omega arith) in
-    rw (v, le-ltb n 3 three, e₃, e₁, counted-here here, pointers-here w) refl
-
-pub walking-end : {p : Pointers} {packet : List ℕ} {c : Carried} {g : Progress} {place index : ℕ}
-    → Walking p packet c g place index → length packet ≤ place → unnamed 0 0 ≡ reasonOf p packet (judge p packet)
-unfolding reasonOf
-walking-end {packet = packet} {place = place} w h = rw (at-end _ (w .at) (rw length-drop (omega arith))) refl
+pub walking-end : {p : Pointers} {packet : List ℕ} {t : ℕ} {pointers : Pointers} {place index : ℕ}
+    → Walking p packet t pointers place index → t ≤ place → (n : ℕ) (h : Header) → h ≡ headerAt pointers (drop place packet)
+    → _≡_ {A = Reason} (record { number = n; place = t; index = index; fields = h .fields; address = h .address })
+    (named p packet n t)
+unfolding named headerAt
+walking-end {p = p} {packet = packet} {t = t} {place = place} {index = index} w l n h e =
+    let a = w .at in
+    let b = w .to in
+    let within = no-further (w .onward) in
+    let q : place ≡ t = omega arith in
+    let counted : commandsBefore t packet ≡ index = counted-here (rw q at (w .counted)) in
+    rw (e, pointers-here w, q, counted) refl

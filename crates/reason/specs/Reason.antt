@@ -12,10 +12,15 @@ use Rattle.packet.specs.Command.{fieldsAt, commandBytes, addressUsed}
 use Rattle.packet.specs.Judge.{Carried, Verdict, refused, accepted, judge}
 use Rattle.card.specs.Run.{checked}
 use Rattle.reason.specs.declared.Reason.{Reason}
+use Rattle.reason.specs.declared.reader.Header.{Header}
 
 -- the place past a command of k bytes, no further than the packet's end
 unfoldable pub placeAfter : List ℕ → ℕ → ℕ → ℕ
 placeAfter packet place k = min (place + k) (length packet)
+
+-- a command's fields, and the address that it uses
+unfoldable pub headerAt : Pointers → List ℕ → Header
+headerAt p rest = record { fields = fieldsAt rest; address = addressUsed p (fieldsAt rest) rest }
 
 -- How many commands the first n bytes hold. `fuel` bounds their number; as many as there are bytes is enough.
 unfoldable pub commandsFrom : ℕ → ℕ → List ℕ → ℕ

@@ -7,7 +7,7 @@ use card::check;
 use lbp16::pointer::Pointers;
 use lbp16::word;
 use lbp16::word::Fields;
-use packet::command;
+use packet::judge::Verdict;
 ghost use lib.ListN.{take};
 ghost use mathlib.Core.Path.{_≡_};
 ghost use Rattle.reason.specs.Reason.{unnamed, explained, FrontAccepted};
@@ -40,13 +40,15 @@ pub fn explain(packet: &[u8], store: &[u8], p: Pointers) -> Reason
     ensures explained { λ r. ⌜ r ≡ explained (now (packet .entry)) (now (store .entry)) p ⌝ }
     ensures front { λ r. ⌜ FrontAccepted (now (packet .entry)) (now (store .entry)) p r ⌝ }
 {
-    if check::bad_state(store, p) {
-        return no_command(1);
+    let verdict = check::check(packet, store, p);
+    let Verdict::Refused(refusal) = verdict else {
+        return no_command(0);
+    };
+    let number = refusal.number;
+    if number < 3 {
+        return no_command(number);
     }
-    if command::LIMIT < packet.len() {
-        return no_command(2);
-    }
-    walk::walk(packet, p)
+    walk::walk(packet, p, number, refusal.place)
 }
 
 // The bytes before a place; the whole packet where it ends before that.

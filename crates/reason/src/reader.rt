@@ -1,12 +1,11 @@
 // A reader over the captured bytes, moved one command at a time.
 use crate::slice;
+use lbp16::pointer::Pointers;
+use lbp16::word::Fields;
 use packet::command;
-use packet::command::Command;
-use packet::command::Progress;
 ghost use mathlib.Core.Path.{_≡_};
 ghost use lib.ListN.{drop};
-ghost use Rattle.packet.specs.Command.{commandAt};
-ghost use Rattle.reason.specs.Reason.{placeAfter};
+ghost use Rattle.reason.specs.Reason.{placeAfter, headerAt};
 
 // The packet, and the offset of the command that the reader stands at.
 pub struct Reader<'a> {
@@ -14,11 +13,22 @@ pub struct Reader<'a> {
     pub place: usize,
 }
 
-// What is found at a place, from what the commands before it leave.
-fn found_from(packet: &[u8], place: usize, before: Progress) -> Command
-    ensures { λ r. ⌜ r ≡ commandAt before place (drop place (now (packet .entry))) ⌝ }
+// A command's fields, all 0 where its word is cut off, and the address that it uses.
+pub struct Header {
+    pub fields: Fields,
+    pub address: u32,
+}
+
+// The header at a place, from the pointers that the commands before it leave.
+fn header_from(packet: &[u8], place: usize, p: Pointers) -> Header
+    ensures { λ r. ⌜ r ≡ headerAt p (drop place (now (packet .entry))) ⌝ }
 {
-    command::command_at(slice::rest(packet, place), before, place)
+    let rest = slice::rest(packet, place);
+    let fields = command::fields_at(rest);
+    Header {
+        fields,
+        address: command::address_used(p, fields, rest),
+    }
 }
 
 // The place past a command of k bytes, no further than the packet's end.
@@ -41,11 +51,11 @@ pub fn at<'a>(packet: &'a [u8], place: usize) -> Reader<'a>
     Reader { packet, place }
 }
 
-// What is found at the command that the reader stands at.
-pub fn command<'a>(r: Reader<'a>, before: Progress) -> Command
-    ensures { λ c. ⌜ c ≡ commandAt before (r .entry .place) (drop (r .entry .place) (now (r .entry .packet))) ⌝ }
+// The header of the command that the reader stands at.
+pub fn header_of<'a>(r: Reader<'a>, p: Pointers) -> Header
+    ensures { λ h. ⌜ h ≡ headerAt p (drop (r .entry .place) (now (r .entry .packet))) ⌝ }
 {
-    found_from(r.packet, r.place, before)
+    header_from(r.packet, r.place, p)
 }
 
 // The reader past a command of k bytes.
@@ -60,10 +70,10 @@ pub fn next<'a>(r: Reader<'a>, k: usize) -> Reader<'a>
 }
 
 // The same for callers that hold a slice and a place.
-pub fn command_at(packet: &[u8], place: usize, before: Progress) -> Command
-    ensures { λ c. ⌜ c ≡ commandAt before place (drop place (now (packet .entry))) ⌝ }
+pub fn header_at(packet: &[u8], place: usize, p: Pointers) -> Header
+    ensures { λ h. ⌜ h ≡ headerAt p (drop place (now (packet .entry))) ⌝ }
 {
-    command(at(packet, place), before)
+    header_of(at(packet, place), p)
 }
 
 pub fn place_after(packet: &[u8], place: usize, k: usize) -> usize

@@ -9,8 +9,8 @@ use lbp16::word::Fields;
 use packet::bytes;
 use packet::command;
 use packet::command::LIMIT;
-use packet::command::Progress;
 use packet::judge;
+use packet::judge::Verdict;
 use recording::part;
 use recording::part::Part;
 ghost use mathlib.Core.Path.{_≡_};
@@ -20,12 +20,13 @@ ghost use Prim.Native.Nat.{_+_, _*_, _≤_};
 ghost use lib.ListN.{length};
 ghost use Rattle.lbp16.specs.Space.{spaceOf, isAbsent};
 ghost use Rattle.packet.specs.Step.{Step, isInfo, carried};
-ghost use Rattle.packet.specs.Rules.{first};
-ghost use Rattle.packet.specs.Command.{pickKind, kindOf, stride, elements, stepsAt, refusals};
+ghost use Rattle.packet.specs.Command.{pickKind, kindOf, stride, elements, stepsAt};
+ghost use Rattle.packet.specs.Judge.{Carried, accepted, judge};
+ghost use Rattle.card.specs.Inside.{LetPass};
 ghost use Rattle.cue.specs.Records.{records, recordsOf, recordBytes};
 ghost use Rattle.cue.specs.Output.{apart, frontOf};
-ghost use Rattle.tight.specs.Tight.{unset, unlocks, sameBytes, partsChecked, checkListed};
-ghost use Rattle.tight.specs.Inside.{elementStep, stepTakes, stepsTake, packetTakes, partBytes};
+ghost use Rattle.tight.specs.Tight.{unset, unlocks, sameBytes, doneBy, partsChecked, checkListed};
+ghost use Rattle.tight.specs.Inside.{elementStep, stepTakes, stepsTake, doingTakes, packetTakes, partBytes};
 
 // The bytes that something takes from the front of a list or of a proposal, if it may stand there.
 pub enum Taken {
@@ -133,17 +134,39 @@ fn elements_take(list: &[u8], f: Fields, used: u32, data: &[u8]) -> Taken
 }
 
 // A command that no rule refuses, at the front of `rest`. No record is an info read.
-fn command_takes(list: &[u8], rest: &[u8], at: Progress, f: Fields) -> Taken
-    requires { ⌜ first (refusals (at .pointers) (at .unlocked) (at .reply) f (now rest)) ≡ 0 ⌝ }
-    ensures { λ r. ⌜ r ≡ stepsTake (stepsAt (at .pointers) f (now (rest .entry))) (now (list .entry)) ⌝ }
+fn command_takes(list: &[u8], rest: &[u8], p: Pointers, f: Fields) -> Taken
+    requires { ⌜ LetPass p f (now rest) ⌝ }
+    ensures { λ r. ⌜ r ≡ stepsTake (stepsAt p f (now (rest .entry))) (now (list .entry)) ⌝ }
 {
     if command::is_info(f) {
         return Taken::Rejected;
     }
-    let pointers = at.pointers;
-    let used = command::address_used(pointers, f, rest);
+    let used = command::address_used(p, f, rest);
     let h = command::header_bytes(f);
     elements_take(list, f, used, &rest[h..])
+}
+
+// The commands of a packet that the check accepted. No rule is asked a second time.
+fn commands_take(list: &[u8], packet: &[u8], p: Pointers) -> Taken
+    requires { ⌜ ((c : Carried) × (judge p (now packet) ≡ accepted c)) ⌝ }
+    ensures { λ r. ⌜ r ≡ doingTakes (doneBy (judge p (now (packet .entry)))) (now (list .entry)) ⌝ }
+{
+    let mut rest = packet;
+    let mut pointers = p;
+    let mut taken: usize = 0;
+    while 0 < rest.len() {
+        let f = command::fields_at(rest);
+        let next = command_takes(&list[taken..], rest, pointers, f);
+        let Taken::Bytes(n) = next else {
+            return Taken::Rejected;
+        };
+        taken += n;
+        let used = command::address_used(pointers, f, rest);
+        pointers = command::pointers_after(pointers, f, used);
+        let k = command::command_bytes(f);
+        rest = &rest[k..];
+    }
+    Taken::Bytes(taken)
 }
 
 // A packet: rejected if it is too long, if a command is refused, or if a command takes no record.
@@ -153,27 +176,12 @@ fn packet_takes(list: &[u8], packet: &[u8]) -> Taken
     if LIMIT < packet.len() {
         return Taken::Rejected;
     }
-    let mut rest = packet;
-    let mut progress = judge::begin(unset());
-    let mut taken: usize = 0;
-    while rest.len() != 0 {
-        let command = command::command_at(rest, progress, 0);
-        let found = command.found;
-        let which = found.which;
-        if command::number_of(which) != 0 {
-            return Taken::Rejected;
-        }
-        let fields = found.fields;
-        let next = command_takes(&list[taken..], rest, progress, fields);
-        let Taken::Bytes(n) = next else {
-            return Taken::Rejected;
-        };
-        taken += n;
-        progress = command.next;
-        let k = command::command_bytes(fields);
-        rest = &rest[k..];
+    let p = unset();
+    let verdict = judge::judge(packet, p);
+    match verdict {
+        Verdict::Refused(_) => Taken::Rejected,
+        Verdict::Accepted(_) => commands_take(list, packet, p),
     }
-    Taken::Bytes(taken)
 }
 
 // The bytes of the whole part at the front of a proposal's.

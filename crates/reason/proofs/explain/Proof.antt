@@ -1,44 +1,62 @@
 use borrow.Author.Needs.{needs}
-use mathlib.Core.Path.{sym, _∙_}
-use Rattle.card.proofs.AnswerLaws.{check-state, check-long, check-judge}
-use Rattle.reason.proofs.ReasonLaws.{explained-by, front-accepted}
-use Rattle.reason.specs.Reason.{reasonOf}
+use mathlib.Core.Path.{sym, ap, _∙_}
+use Rattle.packet.specs.Verdict.{verdictListed}
+use Rattle.reason.proofs.ReasonLaws.{explained-accepted, explained-unnamed, judged-refused, explained-named}
+use Rattle.reason.proofs.ReasonLaws.{front-accepted}
 use Rattle.reason.proofs.explain.Statement.{statement}
 use Rattle.reason.proofs.explain.Tie as tie
 
-bad-state-requires : tie.Need-bad-state-requires
-bad-state-requires c κs = search needs
+check-requires : tie.Need-check-requires
+check-requires c κs = search needs
+
+enum-known-verdict : tie.Need-enum-known-verdict
+enum-known-verdict c = search needs
+
+enum-told : tie.Need-enum-told
+enum-told c = search needs
 
 no-command-requires : tie.Need-no-command-requires
 no-command-requires c κs = search needs
 
 returns : tie.Need-returns
-unfolding reasonOf
-returns c = let e = explained-by _ _ _ (check-state _ _ _ (sym
-    (c .before .before .bad-state .ensures) ∙ c .before .if1 .taken)) (c .no-command .ensures) in (e, front-accepted _ _ _ _ e)
+unfolding verdictListed
+returns c =
+    let v = ap verdictListed (sym (c .before .enum-told .given .1)) ∙ c .before .before .before .check .ensures in
+    let e = c .no-command .ensures ∙ explained-accepted _ _ _ _ v in
+    (e, front-accepted _ _ _ _ e)
 
 no-command-requires-2 : tie.Need-no-command-requires-2
 no-command-requires-2 c κs = search needs
 
 returns-2 : tie.Need-returns-2
-unfolding reasonOf
-returns-2 c = let e = explained-by _ _ _ (check-long _ _ _ (sym
-    (c .before .before .before .bad-state .ensures) ∙ c .before .before .if1 .left) (c .before .if2 .taken))
-    (c .no-command2 .ensures) in (e, front-accepted _ _ _ _ e)
+unfolding verdictListed
+returns-2 c =
+    let b = c .before .before .before in
+    let v = ap verdictListed (sym (b .verdict .given .1)) ∙ b .before .before .check .ensures in
+    let e = c .no-command2 .ensures ∙ explained-unnamed _ _ _ _ _ v (c .before .if1 .taken) in
+    (e, front-accepted _ _ _ _ e)
 
 walk-requires : tie.Need-walk-requires
-walk-requires c κs = search needs
+unfolding verdictListed
+walk-requires c κs =
+    let b = c .before .before in
+    judged-refused _ _ _ _ _ (ap verdictListed (sym (b .verdict .given .1)) ∙ b .before .before .check .ensures) (c .if1 .left)
 
 returns-3 : tie.Need-returns-3
-returns-3 c = let e = explained-by _ _ _ (check-judge _ _ _ (sym
-    (c .before .before .before .bad-state .ensures) ∙ c .before .before .if1 .left) (c .before .if2 .left))
-    (c .walk .ensures) in (e, front-accepted _ _ _ _ e)
+unfolding verdictListed
+returns-3 c =
+    let b = c .before .before .before in
+    let v = ap verdictListed (sym (b .verdict .given .1)) ∙ b .before .before .check .ensures in
+    let e = c .walk .ensures ∙ explained-named _ _ _ _ _ v (c .before .if1 .left) in
+    (e, front-accepted _ _ _ _ e)
 
 pub explain-spec : {M : Type 1} → statement M
 explain-spec =
     tie.close
     (tie.spec
-    bad-state-requires
+    check-requires
+    enum-known-verdict
+    enum-told
     no-command-requires
     returns
     no-command-requires-2

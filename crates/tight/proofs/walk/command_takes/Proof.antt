@@ -2,16 +2,13 @@ use borrow.Author.Needs.{needs}
 use Rattle.tight.proofs.walk.command_takes.Statement.{statement}
 use Rattle.tight.proofs.walk.command_takes.Tie as tie
 use mathlib.Core.Path.{sym, _∙_}
-use Rattle.packet.proofs.CommandLaws.{passed}
 use Rattle.tight.proofs.CommandLaws.{info-rejected, used-low, bytes-behind, plain-taken}
 
 is-info-requires : tie.Need-is-info-requires
 is-info-requires c κs = search needs
 
 returns : tie.Need-returns
-returns c =
-    info-rejected (passed _ _ _ _ _ (c .before .before .before .before .pre)) _
-    (sym (c .before .is-info .ensures) ∙ c .if1 .taken)
+returns c = info-rejected (c .before .before .before .before .pre .passed) _ (sym (c .before .is-info .ensures) ∙ c .if1 .taken)
 
 address-used-requires : tie.Need-address-used-requires
 address-used-requires c κs = search needs
@@ -20,9 +17,7 @@ header-bytes-requires : tie.Need-header-bytes-requires
 header-bytes-requires c κs = search needs
 
 sub-elements-take : tie.Need-sub-elements-take
-sub-elements-take c =
-    let p = passed _ _ _ _ _ (c .before .before .before .before .before .before .before .pre) in
-    rw (c .header-bytes .ensures .0) (p .header)
+sub-elements-take c = rw (c .header-bytes .ensures .0) (c .before .before .before .before .before .before .pre .passed .header)
 
 part-elements-take-start : tie.Need-part-elements-take-start
 part-elements-take-start c = sub-elements-take c
@@ -32,8 +27,8 @@ part-elements-take-end c = search needs
 
 elements-take-requires : tie.Need-elements-take-requires
 elements-take-requires c κs =
-    let b = c .before .before .before .before in
-    let p = passed _ _ _ _ _ (b .before .before .before .before .pre) in (
+    let b = c .before .before .before in
+    let p = b .before .before .before .before .pre .passed in (
       p .present,
       sym (b .before .is-info .ensures) ∙ b .if1 .left,
       rw (c .before .before .address-used .ensures) (used-low p),
@@ -42,9 +37,9 @@ elements-take-requires c κs =
 
 returns-2 : tie.Need-returns-2
 returns-2 c =
-    let b = c .before .before .before .before .before in
-    let p = passed _ _ _ _ _ (b .before .before .before .before .pre) in
-    plain-taken p _ (sym (b .before .is-info .ensures) ∙ b .if1 .left) _ _ (c .before .before .before .address-used .ensures)
+    let b = c .before .before .before .before in
+    plain-taken (b .before .before .before .before .pre .passed) _ (sym (b .before .is-info .ensures) ∙ b .if1 .left) _ _
+    (c .before .before .before .address-used .ensures)
     (c .before .before .header-bytes .ensures .0)
     _
     (c .elements-take .ensures)
