@@ -26,6 +26,9 @@ const ROUNDS: usize = 40;
 /// How long one timing of one side lasts, about.
 const ROUND: Duration = Duration::from_millis(2);
 
+/// How many commands the packets have that show how time grows with them.
+const COMMANDS: [usize; 4] = [1, 10, 100, 368];
+
 /// One call to be measured, on both sides.
 struct Case {
     name: String,
@@ -134,6 +137,7 @@ fn measure_all(mut cases: Vec<Case>) {
         );
         measured.push((case.name.clone(), times));
     }
+    print_growth(&measured, ("packet", "command"), &["small"], &COMMANDS);
     lists::print_growth(&measured);
 }
 
@@ -156,6 +160,34 @@ fn measure(case: &mut Case) -> Times {
         library,
         model,
         memcpy,
+    }
+}
+
+/// Prints what one of many costs in calls of different sizes, if all of them were measured.
+fn print_growth(
+    measured: &[(String, Times)],
+    (whole, one): (&str, &str),
+    shapes: &[&str],
+    sizes: &[usize],
+) {
+    let find = |shape: &str, size: usize| {
+        let name = format!("{shape}{size}");
+        let found = measured.iter().find(|(known, _)| *known == name);
+        found.map(|(_, times)| (shape.to_string(), size, times))
+    };
+    let all = shapes
+        .iter()
+        .flat_map(|&shape| sizes.iter().map(move |&size| (shape, size)))
+        .map(|(shape, size)| find(shape, size))
+        .collect::<Option<Vec<_>>>();
+    let Some(rows) = all else { return };
+    println!("\nNanoseconds for one {one}, as {whole}s grow.\n");
+    println!("| {whole} | {one}s | library | Rust |");
+    println!("|---|---:|---:|---:|");
+    for (shape, size, times) in rows {
+        let each = |time: f64| time / size as f64;
+        let (library, model) = (each(times.library), each(times.model));
+        println!("| {shape} | {size} | {library:.2} | {model:.2} |");
     }
 }
 
@@ -256,14 +288,11 @@ fn packet_cases() -> Vec<Case> {
     let packet = commands(false, Area::info(Space::Registers), 0, true, &[8; 92]);
     add("info92", "92 info areas read whole", 1_472, packet, 0);
 
-    let packet = reads(Space::Registers, 0, true, &[1; 368]);
-    add(
-        "small368",
-        "368 commands of one 4-byte read",
-        1_472,
-        packet,
-        0,
-    );
+    for commands in COMMANDS {
+        let packet = reads(Space::Registers, 0, true, &vec![1; commands]);
+        let what = format!("{commands} commands of one 4-byte read");
+        add(&format!("small{commands}"), &what, 4 * commands, packet, 0);
+    }
     let packet = writes(Space::Registers, 0, true, &[1; 184]);
     add(
         "small184",
@@ -456,27 +485,6 @@ mod lists {
 
     /// Prints what a record costs in lists of different lengths.
     pub fn print_growth(measured: &[(String, Times)]) {
-        let find = |shape: &str, records: usize| {
-            let name = format!("{shape}{records}");
-            let found = measured.iter().find(|(known, _)| *known == name);
-            found.map(|(_, times)| times)
-        };
-        if SHAPES
-            .iter()
-            .any(|shape| SIZES.iter().any(|&size| find(shape, size).is_none()))
-        {
-            return;
-        }
-        println!("\nNanoseconds for one record, as lists grow.\n");
-        println!("| list | records | library | Rust |");
-        println!("|---|---:|---:|---:|");
-        for shape in SHAPES {
-            for records in SIZES {
-                let times = find(shape, records).expect("all are there");
-                let each = |time: f64| time / records as f64;
-                let (library, model) = (each(times.library), each(times.model));
-                println!("| {shape} | {records} | {library:.2} | {model:.2} |");
-            }
-        }
+        super::print_growth(measured, ("list", "record"), &SHAPES, &SIZES);
     }
 }
