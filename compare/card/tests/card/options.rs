@@ -1,0 +1,76 @@
+//! What can't be done is said in a clear line, with a failing exit.
+
+use crate::common::{file, run, Card};
+use std::fs;
+use std::process::Command;
+
+/// Calls the program, which must fail, and answers its exit and the first line that it wrote.
+fn fails(words: &[&str]) -> (i32, String) {
+    let output = run(Command::new(env!("CARGO_BIN_EXE_card")).args(words));
+    assert!(output.stdout.is_empty());
+    let text = String::from_utf8(output.stderr).expect("text");
+    let line = text.lines().next().expect("a line").to_string();
+    (output.status.code().expect("an exit"), line)
+}
+
+#[test]
+fn called_wrongly() {
+    let wrong = |words: &[&str], line: &str| assert_eq!(fails(words), (2, line.to_string()));
+    wrong(&["--wrong"], "card: no option '--wrong' here");
+    wrong(&["word"], "card: no option 'word' here");
+    wrong(&["--port"], "card: --port needs a number");
+    wrong(&["--port", "70000"], "card: '70000' is no port");
+    wrong(&["--address"], "card: --address needs an IP address");
+    wrong(&["--address", "here"], "card: 'here' is no IP address");
+    wrong(&["--store"], "card: --store needs a file");
+    wrong(&["--hostmot2", "--save"], "card: --save needs a file");
+}
+
+#[test]
+fn usage_when_asked() {
+    let output = run(Command::new(env!("CARGO_BIN_EXE_card")).arg("--help"));
+    assert!(output.status.success());
+    assert!(output.stdout.starts_with(b"usage: card "));
+}
+
+#[test]
+fn address_in_use() {
+    let card = Card::start(&["--port", "0"]);
+    let port = card.address.rsplit(':').next().expect("a port");
+    let (exit, line) = fails(&["--port", port]);
+    assert_eq!(exit, 1);
+    let expected = format!("card: 127.0.0.1:{port}: Address already in use");
+    assert!(line.starts_with(&expected), "{line}");
+}
+
+#[test]
+fn address_of_no_one_here() {
+    let (exit, line) = fails(&["--address", "192.0.2.1", "--port", "0"]);
+    assert_eq!(exit, 1);
+    assert!(line.starts_with("card: 192.0.2.1:0: "), "{line}");
+}
+
+#[test]
+fn store_of_another_size() {
+    let path = file("options-store");
+    let name = path.to_str().expect("a plain name");
+    for bytes in [0, 65_727, 65_729] {
+        fs::write(&path, vec![0; bytes]).unwrap();
+        let line = format!("card: {name}: {bytes} bytes where a store has 65728");
+        assert_eq!(fails(&["--port", "0", "--store", name]), (1, line));
+    }
+}
+
+#[test]
+fn files_that_are_not_to_be_had() {
+    let missing = file("options-missing");
+    let name = missing.to_str().expect("a plain name");
+    let (exit, line) = fails(&["--port", "0", "--store", name]);
+    assert_eq!(exit, 1);
+    assert!(line.starts_with(&format!("card: {name}: ")), "{line}");
+    let below = missing.join("store");
+    let name = below.to_str().expect("a plain name");
+    let (exit, line) = fails(&["--port", "0", "--save", name]);
+    assert_eq!(exit, 1);
+    assert!(line.starts_with(&format!("card: {name}: ")), "{line}");
+}
