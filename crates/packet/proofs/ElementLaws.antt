@@ -16,7 +16,7 @@ use Rattle.packet.proofs.StepLaws.{carried-row, carried-none, answered-
 use Rattle.packet.specs.Rules.{pastEnd, barred, any}
 use Rattle.packet.specs.declared.command.Progress.{Progress}
 use Rattle.packet.specs.declared.command.Which.the-variants.{Read, Write, Refused}
-use Rattle.packet.specs.Command.{elements, kindOf, rowOf, whichOf, writes, nextBy, stepsAt, addressUsed, stride, handed}
+use Rattle.packet.specs.Command.{elements, kindOf, rowOf, whichOf, nextBy, stepsAt, addressUsed, stride, handed}
 
 pub scaled-le : (n w : ℕ) → n < 256 → w ≤ 4 → n * w ≤ 1020
 scaled-le n w h k = mul-le-mul (let l : n ≤ 255 = omega arith in l) k
@@ -146,15 +146,6 @@ unfolding whichOf
 which-none next g read = refl
 which-none next g write = refl
 which-none next g infoRead = refl
-
-pub which-writes : (f : Fields) → writes (whichOf 0 (kindOf f)) ≡ f .write
-unfolding whichOf kindOf
-which-writes f = go (f .write) (f .info)
-  where
-    go : (w i : Bool) → writes (whichOf 0 (cond w write (cond i infoRead read))) ≡ w
-    go true i = refl
-    go false true = refl
-    go false false = refl
 
 -- where no rule holds it is found to be what its write bit says
 pub which-write : (f : Fields) → f .write ≡ true → whichOf 0 (kindOf f) ≡ Write

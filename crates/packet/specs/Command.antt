@@ -128,11 +128,6 @@ numberOf Read = 0
 numberOf Write = 0
 numberOf (Refused n) = n
 
-abbrev pub writes : Which → Bool
-writes Read = false
-writes Write = true
-writes (Refused n) = false
-
 -- A command with what is found at it, and the progress after it; a refusal leaves the progress.
 abbrev pub nextBy : Which → Progress → Progress → Progress
 nextBy Read next g = next

@@ -17,7 +17,7 @@ ghost use Rattle.lbp16.specs.Pointer.{advanced, withPointer};
 ghost use Rattle.packet.specs.Bytes.{number};
 ghost use Rattle.packet.specs.Step.{Kind, isInfo, carried, answered, statusWrite, turned, unlocked};
 ghost use Rattle.packet.specs.Rules.{first, any, barred};
-ghost use Rattle.packet.specs.Command.{fieldsAt, kindOf, rowOf, outOfPlace, headerBytes, commandBytes, addressUsed, stride, elements, stepsAt, refusals, whichOf, numberOf, writes, found, progressAfter, commandAt, limit};
+ghost use Rattle.packet.specs.Command.{fieldsAt, kindOf, rowOf, outOfPlace, headerBytes, commandBytes, addressUsed, stride, elements, stepsAt, refusals, whichOf, numberOf, found, progressAfter, commandAt, limit};
 
 // The most bytes that a packet or its reply may have: 1,500 less 28 of IP and UDP headers.
 pub const LIMIT: usize = 1472;
@@ -293,16 +293,5 @@ pub fn number_of(which: Which) -> u32
         Which::Read => 0,
         Which::Write => 0,
         Which::Refused(n) => n,
-    }
-}
-
-// Whether a write is found.
-pub fn is_write(which: Which) -> bool
-    ensures { λ r. ⌜ r ≡ writes which ⌝ }
-{
-    match which {
-        Which::Read => false,
-        Which::Write => true,
-        Which::Refused(_) => false,
     }
 }
