@@ -6,3 +6,4 @@ pub mod RecordedLaws
 pub mod ReasonedLaws
 pub mod TighterLaws
 pub mod TightenLaws
+pub mod RepairLaws

@@ -6,3 +6,4 @@ pub mod TwoLists
 pub mod Recorded
 pub mod Reasoned
 pub mod Tighter
+pub mod Repair

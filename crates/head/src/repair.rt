@@ -1,8 +1,9 @@
 // Salvaging a damaged cue list, as C programs call it.
 use salvage::SalvageAnswer;
 ghost use mathlib.Core.Path.{_≡_};
-ghost use Rattle.salvage.specs.Salvage.{salvaged, salvageListed};
+ghost use Rattle.salvage.specs.Salvage.{salvageListed};
 ghost use Rattle.head.specs.Exports.{numberOf, valueOf, countOf};
+ghost use Rattle.head.specs.Repair.{salvageLeft, exportSalvage};
 
 fn number(answer: SalvageAnswer) -> u32
     ensures { λ r. ⌜ r ≡ numberOf (salvageListed answer) ⌝ }
@@ -43,11 +44,7 @@ pub extern "C" fn head_salvage(
     bytes: &mut u64,
     entries: &mut u64,
 ) -> u32
-    ensures numbered { λ r. ⌜ r ≡ numberOf (salvaged (now (list .entry)) (now (out .entry)) (now (log .entry)) .answer) ⌝ }
-    ensures valued { λ r. ⌜ now (bytes .exit) ≡ valueOf (salvaged (now (list .entry)) (now (out .entry)) (now (log .entry)) .answer) ⌝ }
-    ensures counted { λ r. ⌜ now (entries .exit) ≡ countOf (salvaged (now (list .entry)) (now (out .entry)) (now (log .entry)) .answer) ⌝ }
-    ensures output { λ r. ⌜ now (out .exit) ≡ salvaged (now (list .entry)) (now (out .entry)) (now (log .entry)) .room ⌝ }
-    ensures logged { λ r. ⌜ now (log .exit) ≡ salvaged (now (list .entry)) (now (out .entry)) (now (log .entry)) .log ⌝ }
+    ensures { λ r. ⌜ salvageLeft r (now (bytes .exit)) (now (entries .exit)) (now (out .exit)) (now (log .exit)) ≡ exportSalvage (now (list .entry)) (now (out .entry)) (now (log .entry)) ⌝ }
 {
     let answer = salvage::salvage(list, out, log);
     *bytes = kept(answer);

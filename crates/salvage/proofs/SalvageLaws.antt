@@ -84,6 +84,6 @@ module _ (list room log : List ℕ) where
     all-written room₁ log₁ k w =
         rw (entries-counted, bytes-counted, w .0, w .1) (both-fit h (rw entries-counted at k))
 
--- a salvage by its parts
-pub parts : {s t : Salvaged} → s ≡ t → (t .answer ≡ s .answer) × ((t .room ≡ s .room) × (t .log ≡ s .log))
-parts e = (ap (λ (x : Salvaged). x .answer) (sym e), (ap (λ (x : Salvaged). x .room) (sym e), ap (λ (x : Salvaged). x .log) (sym e)))
+-- a salvage by its parts, as the code has it
+pub parts : {s t : Salvaged} → t ≡ s → (t .answer ≡ s .answer) × ((t .room ≡ s .room) × (t .log ≡ s .log))
+parts e = (ap (λ (x : Salvaged). x .answer) e, (ap (λ (x : Salvaged). x .room) e, ap (λ (x : Salvaged). x .log) e))

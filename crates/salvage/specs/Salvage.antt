@@ -97,3 +97,7 @@ salvaged list room log =
 unfoldable pub salvageListed : SalvageAnswer → Answer
 salvageListed (SalvageAnswer.Salvaged bytes count) = Answer.accepted (bytes ∷ count ∷ [])
 salvageListed (SalvageAnswer.Refused r) = refusal r
+
+-- what a salvage by the code answers and leaves
+abbrev pub left : SalvageAnswer → List ℕ → List ℕ → Salvaged
+left a room log = record { answer = salvageListed a; room = room; log = log }

@@ -6,7 +6,7 @@ pub mod scan;
 mod write;
 
 ghost use mathlib.Core.Path.{_≡_};
-ghost use Rattle.salvage.specs.Salvage.{salvaged, salvageListed};
+ghost use Rattle.salvage.specs.Salvage.{salvaged, left};
 
 // The bytes kept and the log's entries, or why nothing was written.
 pub enum SalvageAnswer {
@@ -17,9 +17,7 @@ pub enum SalvageAnswer {
 // `log` takes two numbers for each stretch skipped: its start and its length. Refused with 26 where `out` is shorter than
 // the list, and with 27 where `log` has not room for all entries.
 pub fn salvage(list: &[u8], out: &mut [u8], log: &mut [u64]) -> SalvageAnswer
-    ensures answered { λ r. ⌜ salvageListed r ≡ salvaged (now (list .entry)) (now (out .entry)) (now (log .entry)) .answer ⌝ }
-    ensures output { λ _. ⌜ now (out .exit) ≡ salvaged (now (list .entry)) (now (out .entry)) (now (log .entry)) .room ⌝ }
-    ensures skipped { λ _. ⌜ now (log .exit) ≡ salvaged (now (list .entry)) (now (out .entry)) (now (log .entry)) .log ⌝ }
+    ensures { λ r. ⌜ left r (now (out .exit)) (now (log .exit)) ≡ salvaged (now (list .entry)) (now (out .entry)) (now (log .entry)) ⌝ }
 {
     if out.len() < list.len() {
         return SalvageAnswer::Refused(Refusal {

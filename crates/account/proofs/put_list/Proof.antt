@@ -1,3 +1,4 @@
+use Rattle.salvage.proofs.SalvageLaws.{parts}
 use Rattle.account.proofs.AccountLaws.{list-said}
 use borrow.Author.Needs.{needs}
 use Rattle.account.proofs.put_list.Statement.{statement}
@@ -16,7 +17,7 @@ same-length-2 : tie.Need-same-length-2
 same-length-2 c = search needs
 
 returns : tie.Need-returns
-returns c = let a = c .before .before .before .before in list-said _ _ _ (a .before .before .before .before .before .before .before .pre) _ _ (a .salvage .ensures .1 .0) (a .salvage .ensures .1 .1) _ (a .before .before .before .count .ensures)
+returns c = let a = c .before .before .before .before in list-said _ _ _ (a .before .before .before .before .before .before .before .pre) _ _ (parts (a .salvage .ensures) .1 .0) (parts (a .salvage .ensures) .1 .1) _ (a .before .before .before .count .ensures)
 
 pub put-list-spec : {M : Type 1} → statement M
 put-list-spec =

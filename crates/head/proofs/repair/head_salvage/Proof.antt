@@ -1,5 +1,5 @@
-use mathlib.Core.Path.{ap, _∙_}
-use Rattle.head.specs.Exports.{numberOf, valueOf, countOf}
+use Rattle.head.specs.Repair.{exportSalvage}
+use Rattle.head.proofs.RepairLaws.{salvage-left}
 use borrow.Author.Needs.{needs}
 use Rattle.head.proofs.repair.head_salvage.Statement.{statement}
 use Rattle.head.proofs.repair.head_salvage.Tie as tie
@@ -23,7 +23,11 @@ same-length-2 : tie.Need-same-length-2
 same-length-2 c = search needs
 
 returns : tie.Need-returns
-returns c = let s = c .before .before .before .before .before .before .before .salvage .ensures in (c .number .ensures ∙ ap numberOf (s .0), (c .before .before .kept .ensures ∙ ap valueOf (s .0), (c .before .skipped .ensures ∙ ap countOf (s .0), s .1)))
+unfolding exportSalvage
+returns c =
+    salvage-left _ _ _ _ (c .before .before .before .before .before .before .before .salvage .ensures) _ _ _ (c .number .ensures)
+    (c .before .before .kept .ensures)
+    (c .before .skipped .ensures)
 
 pub head-salvage-spec : {M : Type 1} → statement M
 head-salvage-spec =
