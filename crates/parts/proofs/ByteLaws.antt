@@ -25,7 +25,7 @@ number-within index n rest e z =
     first-within 20 24 (first-holds n (recordRefusals index rest) (sym e) z) (record-rising index rest)
 
 -- the byte behind those that are collected
-byte-at : {P : Type 0} (p : Packing P) (s : State P) (b m : ℕ) (l : List ℕ) → l ≡ s .collected ++ (b ∷ []) → m ≡ length l
+pub byte-at : {P : Type 0} (p : Packing P) (s : State P) (b m : ℕ) (l : List ℕ) → l ≡ s .collected ++ (b ∷ []) → m ≡ length l
     → byteTaken p s b
     ≡ cond (ltb m (decidedAt (s .index) l))
     (record { out = []; state = record { standing = s .standing; index = s .index; collected = l; packet = s .packet } })

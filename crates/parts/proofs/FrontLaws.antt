@@ -119,7 +119,7 @@ module _ (index : ℕ) where
       decided-cases rest (λ n. n ≤ 10) (λ _. omega arith) (λ _ _. omega arith) (λ _ _ _. omega arith)
       (λ _ _ _. omega (arith, record-bytes-le (recordKind rest)))
 
-  decided-two : (rest : List ℕ) → (index ≡ mostRecords → ⊥) → 2 ≤ decidedAt index rest
+  pub decided-two : (rest : List ℕ) → (index ≡ mostRecords → ⊥) → 2 ≤ decidedAt index rest
   decided-two rest few =
       decided-cases rest (λ n. 2 ≤ n) (λ e. absurd (few e)) (λ _ _. omega arith) (λ _ _ _. omega arith)
       (λ _ _ _. omega (arith, record-bytes-le (recordKind rest)))
@@ -128,7 +128,7 @@ module _ (index : ℕ) where
   unfolding decidedAt
   waiting-few b bs w e = let h = rw (eq-eqb _ _ e) at w in omega arith
 
-  decided-front : (rest t : List ℕ) → 2 ≤ length rest → decidedAt index (rest ++ t) ≡ decidedAt index rest
+  pub decided-front : (rest t : List ℕ) → 2 ≤ length rest → decidedAt index (rest ++ t) ≡ decidedAt index rest
   unfolding decidedAt unknownMark
   decided-front rest t h =
       let e : ltb (length (rest ++ t)) 2 ≡ false = le-ltb (length (rest ++ t)) 2 (rw length-append (omega arith)) in

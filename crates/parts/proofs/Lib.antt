@@ -9,6 +9,7 @@ pub mod StateLaws
 pub mod TakeLaws
 pub mod ByteLaws
 pub mod PartLaws
+pub mod WholeLaws
 pub mod CallLaws
 pub mod KeepLaws
 pub mod RoundLaws

@@ -7,28 +7,17 @@ use native.Mathlib.Omega.{arith}
 use native.Mathlib.Numerals.{add-one}
 use lib.Dec.{eqb, ltb}
 use lib.ListN.{length, take, drop, getD, length-append, length-take, length-drop, drop-of-length-le}
-use lib.Seq.{drop-cons}
+use lib.Seq.{take-all, drop-cons, drop-drop}
 use borrow.Author.Tests.{eqb-true, ltb-true, ltb-false, ne-eqb}
 use Rattle.lbp16.proofs.BoolLaws.{and-true}
 use Rattle.parts.specs.Taking.{Taken, Stopped, isGoing, goesOn, oneMore, byteTaken, bytesTaken}
 use Rattle.parts.specs.Taking.{faultedBy, endTaken, partTaken}
 use Rattle.parts.specs.State.{Held, heldPacking, standingOf}
-use Rattle.parts.specs.Inside.{Ranged, Rooms, Leaves, Stops, meant, startAt}
+use Rattle.parts.specs.Inside.{Ranged, Rooms, Leaves, Stops, Going, moreBy, meant, startAt}
 use Rattle.parts.specs.declared.state.Kept.{Kept}
 use Rattle.parts.specs.declared.take.Stop.{Stop}
 use Rattle.parts.proofs.Reached.{goes-on}
 use Rattle.parts.proofs.TakeLaws.{front-length, front-fits}
-
--- what a part's bytes leave, at behind the first
-pub moreBy : ℕ → Stopped Held → Stopped Held
-moreBy n s = record { taken = n + s .taken; left = s .left }
-
--- What holds before a byte of the part: `t` is what the bytes before it left.
-pub record Going (start : Taken Held) (part old : List ℕ) (k : Kept) (n at : ℕ) (room out : List ℕ) : Type 0 where
-  pub t : Taken Held
-  pub leaves : Leaves t k n room out old
-  pub within : at ≤ length part
-  pub same : bytesTaken heldPacking start part ≡ moreBy at (bytesTaken heldPacking t (drop at part))
 
 pub going-first : (k : Kept) (part room old : List ℕ) → Ranged k → Rooms room old
     → Going (startAt k room) part old k 0 0 room old
@@ -76,23 +65,69 @@ bytes-stop t part at h e = go (ltb at (length part)) refl e
     go true b g = rw (drop-cons part at 0 (ltb-true _ _ b), g) refl
     go false b g = rw (drop-of-length-le part {i = at} (ltb-false _ _ b)) refl
 
+more-more : (n m : ℕ) (s : Stopped Held) → moreBy n (moreBy m s) ≡ moreBy (n + m) s
+unfolding moreBy
+more-more n m s = let e : n + (m + s .taken) ≡ n + m + s .taken = omega arith in λ i. record { taken = e i; left = s .left }
+
+nothing-out : (l : List ℕ) → 0 ≡ length l → l ≡ []
+nothing-out [] e = refl
+nothing-out (a ∷ l) e = absurd (omega arith)
+
+-- the rest of a part, as the code lends it
+pub lent-rest : (part : List ℕ) (at : ℕ) → take (length part - at) (drop at part) ≡ drop at part
+lent-rest part at = take-all (length part - at) (drop at part) (rw length-drop (omega arith))
+
+pub rest-within : (part : List ℕ) (at m : ℕ) → at ≤ length part → m ≤ length (take (length part - at) (drop at part))
+    → at + m ≤ length part
+rest-within part at m h k = let w : m ≤ length part - at = rw (lent-rest, length-drop) at k in omega arith
+
+-- where nothing is handed out yet: the bytes taken, and after them one more or several
+module _ (start : Taken Held) (part old : List ℕ) (k : Kept) (at : ℕ) (room : List ℕ) (g : Going start part old k 0 at room old)
+  where
+    pub going-byte : at < length part → k .stands ≡ 0 → (k₂ : Kept) (n₂ : ℕ) (room₂ out₂ : List ℕ)
+        → Leaves (byteTaken heldPacking (meant k room) (getD part at 0)) k₂ n₂ room₂ out₂ old
+        → Going start part old k₂ n₂ (at + 1) room₂ out₂
+    going-byte h z k₂ n₂ room₂ out₂ l =
+        let goes : goesOn (g .t) ≡ true = goes-kept _ _ _ _ _ _ (g .leaves) ∙ rw z refl in
+        record {
+          t = byteTaken heldPacking (meant k room) (getD part at 0);
+          leaves = l;
+          within = omega arith;
+          same = g .same ∙ rw (bytes-next (g .t) part at h goes, more-one, ← g .leaves .state) refl;
+        }
+
+    start-again : g .t ≡ startAt k room
+    unfolding startAt
+    start-again =
+        let e = nothing-out (g .t .out) (g .leaves .written) in
+        let s = g .leaves .state in
+        λ i. record { out = e i; state = sym s i }
+
+    pub going-more : (k₂ : Kept) (n₂ m : ℕ) (room₂ out₂ : List ℕ) → Going (startAt k room) (drop at part) old k₂ n₂ m room₂ out₂
+        → Going start part old k₂ n₂ (at + m) room₂ out₂
+    going-more k₂ n₂ m room₂ out₂ q =
+        let w : m ≤ length part - at = rw length-drop at (q .within) in
+        record {
+          t = q .t;
+          leaves = q .leaves;
+          within = omega (arith, g .within);
+          same = g .same ∙ rw (start-again, q .same, more-more, drop-drop) refl;
+        }
+
 module _ (start : Taken Held) (part old : List ℕ) (k : Kept) (n at : ℕ) (room out : List ℕ)
     (g : Going start part old k n at room out) where
-  pub going-next : (k₂ : Kept) (n₂ : ℕ) (room₂ out₂ : List ℕ)
+  pub going-next : (k₂ : Kept) (n₂ m : ℕ) (room₂ out₂ : List ℕ)
       → (ltb at (length part) && (eqb (k .stands) 0 && eqb n 0)) ≡ true
-      → Leaves (byteTaken heldPacking (meant k room) (getD part at 0)) k₂ n₂ room₂ out₂ out
-      → Going start part old k₂ n₂ (at + 1) room₂ out₂
-  going-next k₂ n₂ room₂ out₂ e l =
+      → Going (startAt k room) (take (length part - at) (drop at part)) out k₂ n₂ m room₂ out₂
+      → Going start part old k₂ n₂ (at + m) room₂ out₂
+  going-next k₂ n₂ m room₂ out₂ e q =
       let a = and-true (ltb at (length part)) (eqb (k .stands) 0 && eqb n 0) e in
-      let h = ltb-true at (length part) (a .0) in
       let goes : goesOn (g .t) ≡ true = goes-kept _ _ _ _ _ _ (g .leaves) ∙ a .1 in
       let same : out ≡ old = rw (goes-on (g .t) goes .1) at (g .leaves .handed) in
-      record {
-        t = byteTaken heldPacking (meant k room) (getD part at 0);
-        leaves = rw same at l;
-        within = omega arith;
-        same = g .same ∙ rw (bytes-next (g .t) part at h goes, more-one, ← g .leaves .state) refl;
-      }
+      let z : n ≡ 0 = eqb-true _ _ (and-true (eqb (k .stands) 0) (eqb n 0) (a .1) .1) in
+      let g₀ : Going start part old k 0 at room old = rw (z, same) at g in
+      let all : take (length part - at) (drop at part) ≡ drop at part = lent-rest part at in
+      going-more start part old k at room g₀ k₂ n₂ m room₂ out₂ (rw (same, all) at q)
 
   pub going-last : (ltb at (length part) && (eqb (k .stands) 0 && eqb n 0)) ≡ false
       → Stops (bytesTaken heldPacking start part) (record { taken = at; kept = k; written = n }) room out old
@@ -109,8 +144,11 @@ module _ (at m s n : ℕ) (e : (ltb at m && (eqb s 0 && eqb n 0)) ≡ true) wher
   pub test-going : s ≡ 0
   test-going = eqb-true _ _ (and-true (eqb s 0) (eqb n 0) (and-true (ltb at m) (eqb s 0 && eqb n 0) e .1) .0)
 
-  pub fewer-left : m - (at + 1) < m - at
-  fewer-left = let h = test-within in omega arith
+  pub some-left : (part : List ℕ) → length part ≡ m → 1 ≤ length (take (length part - at) (drop at part))
+  some-left part e = let h = test-within in rw (lent-rest, length-drop, e) (omega arith)
+
+  pub fewer-left : (i : ℕ) → 1 ≤ i → m - (at + i) < m - at
+  fewer-left i o = let h = test-within in omega arith
 
 -- the list's end
 module _ (k : Kept) (room old : List ℕ) (rg : Ranged k) (rm : Rooms room old) where

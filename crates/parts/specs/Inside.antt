@@ -9,10 +9,11 @@ use Rattle.packet.specs.Rules.{first}
 use Rattle.cue.specs.Records.{mostRecords, recordRefusals}
 use Rattle.cue.specs.Inside.{Progress, summary}
 use Rattle.cue.specs.declared.packer.Packer.{Packer}
-use Rattle.parts.specs.Taking.{State, Taken, Stopped}
-use Rattle.parts.specs.State.{Held, heldTurned, written, packerAt, pairAt, standingOf, frameRoom}
+use Rattle.parts.specs.Taking.{State, Taken, Stopped, bytesTaken}
+use Rattle.parts.specs.State.{Held, heldPacking, heldTurned, written, packerAt, pairAt, standingOf, frameRoom}
 use Rattle.parts.specs.declared.state.Kept.{Kept}
 use Rattle.parts.specs.declared.take.Stop.{Stop}
+use Rattle.parts.specs.declared.take.Run.{Run}
 
 -- a state's numbers, and what they mean beside the open packet's room
 unfoldable pub keptAt : List ℕ → Kept
@@ -95,3 +96,21 @@ pub record Stops (s : Stopped Held) (r : Stop) (room out old : List ℕ) : Type 
 -- before a part's first byte
 unfoldable pub startAt : Kept → List ℕ → Taken Held
 startAt k room = record { out = []; state = meant k room }
+
+-- what a part's bytes leave, n behind the first
+unfoldable pub moreBy : ℕ → Stopped Held → Stopped Held
+moreBy n s = record { taken = n + s .taken; left = s .left }
+
+-- What holds where `at` bytes of the part are taken: `t` is what they left.
+pub record Going (start : Taken Held) (part old : List ℕ) (k : Kept) (n at : ℕ) (room out : List ℕ) : Type 0 where
+  pub t : Taken Held
+  pub leaves : Leaves t k n room out old
+  pub within : at ≤ length part
+  pub same : bytesTaken heldPacking start part ≡ moreBy at (bytesTaken heldPacking t (drop at part))
+
+-- The same behind whole records, whatever the room for what is handed out.
+pub record Joins (k : Kept) (part room : List ℕ) (r : Run) (room₂ : List ℕ) : Type 0 where
+  pub held : length room₂ ≡ frameRoom
+  pub stands : r .kept .stands ≡ 0
+  pub within : r .taken ≤ length part
+  pub going : (old : List ℕ) → Rooms room old → Going (startAt k room) part old (r .kept) 0 (r .taken) room₂ old

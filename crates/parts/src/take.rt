@@ -14,8 +14,8 @@ ghost use lib.ListN.{length, take, drop};
 ghost use Rattle.packet.specs.Rules.{first};
 ghost use Rattle.cue.specs.Records.{recordRefusals, recordStep};
 ghost use Rattle.parts.specs.Taking.{decidedAt, recordTaken, byteTaken, bytesTaken, partTaken, endTaken};
-ghost use Rattle.parts.specs.State.{heldPacking};
-ghost use Rattle.parts.specs.Inside.{meant, Good, Sound, Ranged, Rooms, Turns, Leaves, Stops, startAt};
+ghost use Rattle.parts.specs.State.{heldPacking, frameRoom};
+ghost use Rattle.parts.specs.Inside.{meant, Good, Sound, Ranged, Rooms, Turns, Leaves, Stops, Going, Joins, startAt};
 
 // The state after a byte, and how many bytes were handed out.
 pub struct Took {
@@ -34,6 +34,12 @@ pub struct Stop {
     pub taken: usize,
     pub kept: Kept,
     pub written: usize,
+}
+
+// The state after `taken` bytes of whole records, nothing handed out.
+pub struct Run {
+    pub taken: usize,
+    pub kept: Kept,
 }
 
 pub(crate) fn put_front(from: &[u8], out: &mut [u8])
@@ -152,6 +158,81 @@ fn byte_taken(k: Kept, b: u8, room: &mut [u8], out: &mut [u8]) -> Took
     record_taken(k, &bytes[..shown], room, out)
 }
 
+// Takes the record at the front of `rest`, if it is whole and good, joins the open packet and no byte of another waits.
+fn record_joined(k: Kept, rest: &[u8], room: &mut [u8]) -> Run
+    requires { ⌜ Ranged k × (length (now room) ≡ frameRoom) × (k .stands ≡ 0) ⌝ }
+    ensures { λ r. ⌜ Joins k (now (rest .entry)) (now (room .entry)) r (now (room .exit)) ⌝ }
+{
+    let index = k.index;
+    let pending = k.collected;
+    if pending != 0 {
+        return Run { taken: 0, kept: k };
+    }
+    if records::record_refusal(rest, index) != 0 {
+        return Run { taken: 0, kept: k };
+    }
+    let r = records::record_at(rest);
+    let q = guarded::turned(k.packer, r);
+    if q.packets == 2 {
+        return Run { taken: 0, kept: k };
+    }
+    guarded::put(q, rest, room);
+    let bytes = k.bytes;
+    Run {
+        taken: records::record_bytes(r.write),
+        kept: Kept {
+            stands: 0,
+            collected: 0,
+            bytes,
+            index: index + 1,
+            packer: q,
+        },
+    }
+}
+
+// Such records, as many as follow each other.
+fn records_joined(k: Kept, part: &[u8], room: &mut [u8]) -> Run
+    requires { ⌜ Ranged k × (length (now room) ≡ frameRoom) × (k .stands ≡ 0) ⌝ }
+    ensures { λ r. ⌜ Joins k (now (part .entry)) (now (room .entry)) r (now (room .exit)) ⌝ }
+{
+    let mut kept = k;
+    let mut at: usize = 0;
+    while at < part.len() {
+        let j = record_joined(kept, &part[at..], room);
+        let next = j.kept;
+        kept = next;
+        at += j.taken;
+        if j.taken == 0 {
+            return Run { taken: at, kept };
+        }
+    }
+    Run { taken: at, kept }
+}
+
+// Whole records, and behind them a byte.
+fn stretch_taken(k: Kept, rest: &[u8], room: &mut [u8], out: &mut [u8]) -> Stop
+    requires { ⌜ Ranged k × Rooms (now room) (now out) × (k .stands ≡ 0) × (1 ≤ length (now rest)) ⌝ }
+    ensures { λ r. ⌜ Going (startAt k (now (room .entry))) (now (rest .entry)) (now (out .entry)) (r .kept) (r .written) (r .taken) (now (room .exit)) (now (out .exit)) × (1 ≤ r .taken) ⌝ }
+{
+    let run = records_joined(k, rest, room);
+    let at = run.taken;
+    let kept = run.kept;
+    if at == rest.len() {
+        return Stop {
+            taken: at,
+            kept,
+            written: 0,
+        };
+    }
+    let t = byte_taken(kept, rest[at], room, out);
+    let next = t.kept;
+    Stop {
+        taken: at + 1,
+        kept: next,
+        written: t.written,
+    }
+}
+
 // A part's bytes, until a packet is handed out or a fault shows.
 fn bytes_taken(k: Kept, part: &[u8], room: &mut [u8], out: &mut [u8]) -> Stop
     requires { ⌜ Ranged k × Rooms (now room) (now out) ⌝ }
@@ -161,11 +242,11 @@ fn bytes_taken(k: Kept, part: &[u8], room: &mut [u8], out: &mut [u8]) -> Stop
     let mut written: usize = 0;
     let mut at: usize = 0;
     while (at < part.len()) & ((kept.stands == 0) & (written == 0)) {
-        let t = byte_taken(kept, part[at], room, out);
+        let t = stretch_taken(kept, &part[at..], room, out);
         let next = t.kept;
         kept = next;
         written = t.written;
-        at += 1;
+        at += t.taken;
     }
     Stop {
         taken: at,

@@ -3,8 +3,9 @@ use Prim.Native.Nat.{_-_}
 use mathlib.Core.Path.{_≡_, refl, sym, _∙_}
 use native.Mathlib.Omega.{arith}
 use lib.ListN.{length}
-use Rattle.parts.specs.Inside.{startAt}
-use Rattle.parts.proofs.PartLaws.{Going, going-first, going-next, going-last, test-within, test-going, fewer-left}
+use Rattle.parts.specs.Inside.{Going, startAt}
+use Rattle.parts.proofs.PartLaws.{going-first, going-next, going-last, test-going, some-left, fewer-left, rest-within}
+use borrow.Author.Needs.{needs}
 use Rattle.parts.proofs.take.bytes_taken.Statement.{statement}
 use Rattle.parts.proofs.take.bytes_taken.Tie as tie
 
@@ -18,20 +19,26 @@ abbrev μ-loop : tie.MeasureT-loop
 loop-holds : tie.Need-loop-holds Inv-loop μ-loop
 loop-holds c = let p = c .before .before .before .pre in (refl, going-first _ _ _ _ (p .0) (p .1))
 
-shared-slice-read-byte-taken : tie.Need-shared-slice-read-byte-taken Inv-loop μ-loop
-shared-slice-read-byte-taken c = let l = c .before .before .before .loop in test-within (l .at) (length (now (c .before .before .before .before .before .before .before .args .part))) (l .kept .stands) (l .written) (c .before .if1 .taken)
+sub-stretch-taken : tie.Need-sub-stretch-taken Inv-loop μ-loop
+sub-stretch-taken c = search needs
 
-byte-taken-requires : tie.Need-byte-taken-requires Inv-loop μ-loop
-byte-taken-requires c κs = let b = c .before .before .before in let l = b .before .before .loop in let k = l .inv .1 .leaves in (k .ranged, k .rooms, test-going (l .at) (length (now (c .before .before .before .before .before .before .before .before .before .args .part))) (l .kept .stands) (l .written) (b .if1 .taken))
+part-stretch-taken-start : tie.Need-part-stretch-taken-start Inv-loop μ-loop
+part-stretch-taken-start c = search needs
+
+part-stretch-taken-end : tie.Need-part-stretch-taken-end Inv-loop μ-loop
+part-stretch-taken-end c = search needs
+
+stretch-taken-requires : tie.Need-stretch-taken-requires Inv-loop μ-loop
+stretch-taken-requires c κs = let t = c .before .before .before .if1 .taken in let l = c .before .before .before .before .before .loop in let k = l .inv .1 .leaves in let n = length (now (c .before .before .before .before .before .before .before .before .before .args .part)) in (k .ranged, k .rooms, test-going (l .at) n (l .kept .stands) (l .written) t, some-left (l .at) n (l .kept .stands) (l .written) t (now (c .before .before .before .before .before .before .before .before .before .args .part)) refl)
 
 add-at : tie.Need-add-at Inv-loop μ-loop
-add-at c = let b = c .before .before .before .before .before .before .before .before .before in let l = b .before .before .loop in let h = test-within (l .at) (length (now (c .before .before .before .before .before .before .before .before .before .before .before .before .before .before .before .args .part))) (l .kept .stands) (l .written) (b .if1 .taken) in omega arith
+add-at c = let l = c .before .before .before .before .before .before .before .before .before .before .before .before .loop .inv .1 in let w = rest-within (now (c .before .before .before .before .before .before .before .before .before .before .before .before .before .before .before .before .args .part)) _ _ (l .within) (c .before .before .before .before .before .before .stretch-taken .ensures .0 .within) in omega (arith, w, c .before .before .before .before .before .before .before .before .before .before .before .before .before .before .before .before .good)
 
 loop-less : tie.Need-loop-less Inv-loop μ-loop
-loop-less c = let b = c .before .before .before .before .before .before .before .before .before in let l = b .before .before .loop in fewer-left (l .at) (length (now (c .before .before .before .before .before .before .before .before .before .before .before .before .before .before .before .args .part))) (l .kept .stands) (l .written) (b .if1 .taken)
+loop-less c = let l = c .before .before .before .before .before .before .before .before .before .before .before .before .loop in fewer-left (l .at) (length (now (c .before .before .before .before .before .before .before .before .before .before .before .before .before .before .before .before .args .part))) (l .kept .stands) (l .written) (c .before .before .before .before .before .before .before .before .before .before .if1 .taken) _ (c .before .before .before .before .before .before .stretch-taken .ensures .1)
 
 loop-again : tie.Need-loop-again Inv-loop μ-loop
-loop-again c = let b = c .before .before .before .before .before in let d = b .before .before .before .before in let l = d .before .before .loop in let m = b .byte-taken .ensures in (m .rooms .held ∙ sym (l .inv .1 .leaves .rooms .held) ∙ l .inv .0, going-next _ _ _ _ _ _ _ _ (l .inv .1) _ _ _ _ (d .if1 .taken) m)
+loop-again c = let m = c .before .before .before .before .before .before .stretch-taken .ensures .0 in let l = c .before .before .before .before .before .before .before .before .before .before .before .before .loop in (m .leaves .rooms .held ∙ sym (l .inv .1 .leaves .rooms .held) ∙ l .inv .0, going-next _ _ _ _ _ _ _ _ (l .inv .1) _ _ _ _ _ (c .before .before .before .before .before .before .before .before .before .before .if1 .taken) m)
 
 same-length : tie.Need-same-length Inv-loop μ-loop
 same-length c = c .before .before .loop .inv .0
@@ -49,8 +56,10 @@ bytes-taken-spec =
     Inv-loop
     μ-loop
     loop-holds
-    shared-slice-read-byte-taken
-    byte-taken-requires
+    sub-stretch-taken
+    part-stretch-taken-start
+    part-stretch-taken-end
+    stretch-taken-requires
     add-at
     loop-less
     loop-again

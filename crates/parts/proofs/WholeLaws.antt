@@ -1,0 +1,222 @@
+-- Whole records at a part's front: what their bytes do, taken one by one.
+use Prim.Native.Nat.{ℕ, suc, _+_, _-_, _≤_, _<_}
+use mathlib.Core.Path.{_≡_, refl, sym, ap, _∙_, subst}
+use mathlib.Core.List.{List, [], _∷_, _++_}
+use mathlib.Core.Bool.{true, false}
+use native.Mathlib.Omega.{arith}
+use lib.Dec.{eqb, ltb}
+use lib.ListN.{length, take, drop, getD, length-append, length-drop, take-append-drop}
+use lib.Seq.{length-take-le, append-snoc}
+use borrow.Author.Tests.{lt-ltb, le-ltb, ne-eqb}
+use Rattle.lbp16.proofs.BoolLaws.{or-false}
+use Rattle.packet.specs.Rules.{first}
+use Rattle.packet.specs.Command.{pickKind}
+use Rattle.packet.proofs.RuleLaws.{none-holds}
+use Rattle.cue.specs.Records.{recordKind, recordBytes, recordStep, recordRefusals, mostRecords}
+use Rattle.cue.specs.Inside.{recordAt}
+use Rattle.cue.specs.Guarded.{turnedWithin, putWithin}
+use Rattle.cue.specs.declared.records.Record.{Record}
+use Rattle.cue.specs.declared.packer.Packer.{Packer}
+use Rattle.cue.proofs.ReadingLaws.{passing}
+use Rattle.cue.proofs.PackingLaws.{record-bytes-le}
+use Rattle.parts.specs.Taking.{State, Taken, Stopped, going, unknownMark, decidedAt, recordTaken, byteTaken, bytesTaken, isGoing, goesOn, oneMore}
+use Rattle.parts.specs.State.{Held, heldPacking, standingOf}
+use Rattle.parts.specs.Inside.{Ranged, Rooms, Leaves, Going, Joins, moreBy, meant, startAt}
+use Rattle.parts.specs.declared.state.Kept.{Kept}
+use Rattle.parts.specs.declared.take.Run.{Run}
+use Rattle.parts.proofs.FrontLaws.{mark-front, kind-front, step-front, decided-two, decided-front, decided-number}
+use Rattle.parts.proofs.ByteLaws.{byte-at}
+use Rattle.parts.proofs.TakeLaws.{turns-open, record-leaves}
+use Rattle.parts.proofs.PartLaws.{going-first, going-byte, going-more, lent-rest}
+
+one-more : (n : ℕ) (s : Stopped Held) → oneMore (moreBy n s) ≡ moreBy (suc n) s
+unfolding oneMore moreBy
+one-more n s = let e : suc (n + s .taken) ≡ suc n + s .taken = omega arith in λ i. record { taken = e i; left = s .left }
+
+one-first : (s : Stopped Held) → oneMore s ≡ moreBy 1 s
+unfolding oneMore moreBy
+one-first s = let e : suc (s .taken) ≡ 1 + s .taken = omega arith in λ i. record { taken = e i; left = s .left }
+
+module _ (index : ℕ) (packet : Held) where
+  abbrev state : List ℕ → State Held
+  state c = record { standing = going; index = index; collected = c; packet = packet }
+
+  first-byte : (c : List ℕ) (b : ℕ) (bs : List ℕ)
+      → bytesTaken heldPacking (record { out = []; state = state c }) (b ∷ bs)
+      ≡ oneMore (bytesTaken heldPacking (byteTaken heldPacking (state c) b) bs)
+  unfolding bytesTaken goesOn isGoing
+  first-byte c b bs = refl
+
+  -- a record's bytes, `front`, one by one
+  module _ (front : List ℕ) (few : index ≡ mostRecords → ⊥) (d : length front ≡ decidedAt index front)
+      (good : first (recordRefusals index front) ≡ 0) where
+    last-byte : (c : List ℕ) (b : ℕ) → c ++ (b ∷ []) ≡ front
+        → byteTaken heldPacking (state c) b ≡ recordTaken heldPacking 0 (state []) (recordStep front)
+    unfolding recordTaken
+    last-byte c b e =
+        let h : decidedAt index front ≤ length front = omega (arith, d) in
+        let t : ltb (length front) (decidedAt index front) ≡ false = le-ltb _ _ h in
+        byte-at heldPacking (state c) b (length front) front (sym e) refl ∙ rw (t, good) refl
+
+    waits : (c : List ℕ) (b a : ℕ) (bs : List ℕ) → c ++ (b ∷ []) ++ (a ∷ bs) ≡ front
+        → length (c ++ (b ∷ [])) < decidedAt index (c ++ (b ∷ []))
+    waits [] b a bs e = let h = decided-two index (b ∷ []) few in omega arith
+    waits (x ∷ c) b a bs e =
+        let two : 2 ≤ length (x ∷ c ++ (b ∷ [])) = rw length-append (omega arith) in
+        let f : decidedAt index (x ∷ c ++ (b ∷ []) ++ (a ∷ bs)) ≡ decidedAt index (x ∷ c ++ (b ∷ [])) =
+        decided-front index (x ∷ c ++ (b ∷ [])) (a ∷ bs) two in
+        let n = subst (λ (l : List ℕ). length l ≡ decidedAt index l) (sym e) d in
+        let m : length (x ∷ c ++ (b ∷ [])) + length (a ∷ bs) ≡ decidedAt index (x ∷ c ++ (b ∷ [])) =
+        sym (length-append (x ∷ c ++ (b ∷ [])) (a ∷ bs)) ∙ n ∙ f in
+        omega arith
+
+    next-byte : (c : List ℕ) (b a : ℕ) (bs : List ℕ) → c ++ (b ∷ []) ++ (a ∷ bs) ≡ front
+        → byteTaken heldPacking (state c) b ≡ record { out = []; state = state (c ++ (b ∷ [])) }
+    next-byte c b a bs e =
+        byte-at heldPacking (state c) b (length (c ++ (b ∷ []))) (c ++ (b ∷ [])) refl refl
+        ∙ rw (lt-ltb _ _ (waits c b a bs e)) refl
+
+    all-bytes : (c : List ℕ) (b : ℕ) (bs tail : List ℕ) → c ++ (b ∷ bs) ≡ front
+        → bytesTaken heldPacking (record { out = []; state = state c }) (b ∷ bs ++ tail)
+        ≡ moreBy (length (b ∷ bs)) (bytesTaken heldPacking (recordTaken heldPacking 0 (state []) (recordStep front)) tail)
+    all-bytes c b [] tail e =
+        first-byte c b tail
+        ∙ ap (λ (t : Taken Held). oneMore (bytesTaken heldPacking t tail)) (last-byte c b e)
+        ∙ one-first (bytesTaken heldPacking (recordTaken heldPacking 0 (state []) (recordStep front)) tail)
+    all-bytes c b (a ∷ bs) tail e =
+        let f : c ++ (b ∷ []) ++ (a ∷ bs) ≡ front = append-snoc c b (a ∷ bs) ∙ e in
+        first-byte c b (a ∷ bs ++ tail)
+        ∙ ap (λ (t : Taken Held). oneMore (bytesTaken heldPacking t (a ∷ bs ++ tail))) (next-byte c b a bs f)
+        ∙ ap oneMore (all-bytes (c ++ (b ∷ [])) a bs tail f)
+        ∙ one-more (length (a ∷ bs)) (bytesTaken heldPacking (recordTaken heldPacking 0 (state []) (recordStep front)) tail)
+
+  -- a good record that stands whole at the front of a list
+  module _ (front tail : List ℕ) (e : first (recordRefusals index (front ++ tail)) ≡ 0)
+      (l : length front ≡ recordBytes (recordKind (front ++ tail))) where
+    six : 6 ≤ length front
+    six = omega (arith, l, record-bytes-le (recordKind (front ++ tail)))
+
+    kind : recordKind (front ++ tail) ≡ recordKind front
+    kind = kind-front front tail (omega (arith, six))
+
+    known : unknownMark front ≡ false
+    unfolding recordRefusals unknownMark
+    known =
+        let n = none-holds (recordRefusals index (front ++ tail)) (omega arith) e in
+        rw (mark-front front tail (omega (arith, six))) at (or-false (unknownMark (front ++ tail)) _ (n .1 .0) .0)
+
+    decided : length front ≡ decidedAt index front
+    unfolding decidedAt
+    decided =
+        rw (ne-eqb index mostRecords (passing index (front ++ tail) e .few), le-ltb (length front) 2 (omega (arith, six)), known)
+        (rw kind at l)
+
+    pub front-taken : bytesTaken heldPacking (record { out = []; state = state [] }) (front ++ tail)
+        ≡ moreBy (length front) (bytesTaken heldPacking (recordTaken heldPacking 0 (state []) (recordStep (front ++ tail))) tail)
+    front-taken =
+        let good : first (recordRefusals index front) ≡ 0 = sym (decided-number index front tail decided) ∙ e in
+        let step : recordStep (front ++ tail) ≡ recordStep front = step-front front tail (rw (← kind, l) (omega arith)) in
+        rw step (go front refl good)
+      where
+        go : (f : List ℕ) → f ≡ front → first (recordRefusals index front) ≡ 0
+            → bytesTaken heldPacking (record { out = []; state = state [] }) (f ++ tail)
+            ≡ moreBy (length f) (bytesTaken heldPacking (recordTaken heldPacking 0 (state []) (recordStep front)) tail)
+        go [] q good = let z : 0 ≡ length front = rw (← q) refl in absurd (omega (arith, six))
+        go (b ∷ bs) q good = all-bytes front (passing index (front ++ tail) e .few) decided good [] b bs tail q
+
+  whole-bytes : (rest : List ℕ) → first (recordRefusals index rest) ≡ 0 → recordBytes (recordKind rest) ≤ length rest
+  unfolding recordStep
+  whole-bytes rest e = passing index rest e .bytes
+
+  pub whole-taken : (rest : List ℕ) → first (recordRefusals index rest) ≡ 0
+      → bytesTaken heldPacking (record { out = []; state = state [] }) rest
+      ≡ moreBy (recordBytes (recordKind rest))
+      (bytesTaken heldPacking (recordTaken heldPacking 0 (state []) (recordStep rest)) (drop (recordBytes (recordKind rest)) rest))
+  whole-taken rest e =
+      let n = recordBytes (recordKind rest) in
+      let l : length (take n rest) ≡ n = length-take-le n rest (whole-bytes rest e) in
+      let j = take-append-drop n rest in
+      rw (j, l) at (front-taken (take n rest) (drop n rest) (rw j e) (rw j l))
+
+-- as the code takes them
+module _ (k : Kept) (rest room : List ℕ) (rg : Ranged k) (held : length room ≡ 1476) (z : k .stands ≡ 0) where
+  pub joins-none : Joins k rest room (record { taken = 0; kept = k }) room
+  joins-none =
+      record { held = held; stands = z; within = omega arith; going = λ old rm. going-first k rest room old rg rm }
+
+  module _ (c : k .collected ≡ 0) (number : ℕ) (f : number ≡ first (recordRefusals (k .index) rest)) (g : number ≡ 0) where
+    good : first (recordRefusals (k .index) rest) ≡ 0
+    good = sym f ∙ g
+
+    record-going : (k₂ : Kept) (room₂ old : List ℕ)
+        → Leaves (recordTaken heldPacking 0 (meant k room) (recordStep rest)) k₂ 0 room₂ old old
+        → Going (startAt k room) rest old k₂ 0 (recordBytes (recordKind rest)) room₂ old
+    unfolding startAt meant standingOf
+    record-going k₂ room₂ old l =
+        record {
+          t = recordTaken heldPacking 0 (meant k room) (recordStep rest);
+          leaves = l;
+          within = whole-bytes (k .index) (record { packer = k .packer; room = room }) rest good;
+          same = rw (z, c) (whole-taken (k .index) (record { packer = k .packer; room = room }) rest good);
+        }
+
+    module _ (r : Record) (a : r ≡ recordAt rest) (q : Packer) (d : q ≡ turnedWithin (k .packer) r) (one : q .packets ≡ 2 → ⊥)
+        (room₂ : List ℕ) (e : room₂ ≡ putWithin q rest room) (n : ℕ) (b : n ≡ recordBytes (pickKind (r .write))) where
+      abbrev after : Kept
+      after = record { stands = 0; collected = 0; bytes = k .bytes; index = k .index + 1; packer = q }
+
+      size : n ≡ recordBytes (recordKind rest)
+      unfolding recordKind recordAt
+      size = rw a at b
+
+      leaves : (old : List ℕ) → Rooms room old
+          → Leaves (recordTaken heldPacking 0 (meant k room) (recordStep rest)) after 0 room₂ old old
+      leaves old rm =
+          record-leaves k rest room old rg rm good q 0 old room₂
+          (turns-open (k .packer) rest room (rg .sound) (record { index = k .index; passes = good }) r a q d old one) e
+
+      pub joins-record : Joins k rest room (record { taken = n; kept = after }) room₂
+      joins-record =
+          let own : Rooms room room = record { held = held; lent = omega arith } in
+          record {
+            held = leaves room own .rooms .held;
+            stands = refl;
+            within = rw size (whole-bytes (k .index) (record { packer = k .packer; room = room }) rest good);
+            going = λ old rm. rw size (record-going after room₂ old (leaves old rm));
+          }
+
+-- a record behind those taken, as the code lends it the rest of the part
+module _ (k : Kept) (part room : List ℕ) (held : length room ≡ 1476) (at : ℕ) (kept : Kept) (room₁ : List ℕ)
+    (h : Joins k part room (record { taken = at; kept = kept }) room₁) where
+  pub joins-ranged : Ranged kept
+  joins-ranged = h .going room (record { held = held; lent = omega arith }) .leaves .ranged
+
+  pub joins-more : (s : Run) (room₂ : List ℕ) → Joins kept (take (length part - at) (drop at part)) room₁ s room₂
+      → Joins k part room (record { taken = at + s .taken; kept = s .kept }) room₂
+  joins-more s room₂ j₀ =
+      let j : Joins kept (drop at part) room₁ s room₂ =
+      rw (lent-rest part at) at j₀ in
+      let w : s .taken ≤ length part - at = rw length-drop at (j .within) in
+      record {
+        held = j .held;
+        stands = j .stands;
+        within = omega (arith, h .within);
+        going =
+            λ old rm. going-more _ part old kept at room₁ (h .going old rm) _ _ _ _ _
+            (j .going old (record { held = h .held; lent = rm .lent }));
+      }
+
+-- whole records, and a byte behind them
+module _ (k : Kept) (rest room old : List ℕ) (rm : Rooms room old) (r : Run) (room₁ : List ℕ) (j : Joins k rest room r room₁) where
+  pub stretch-ranged : Ranged (r .kept)
+  stretch-ranged = j .going old rm .leaves .ranged
+
+  pub stretch-rooms : Rooms room₁ old
+  stretch-rooms = record { held = j .held; lent = rm .lent }
+
+  pub stretch-byte : (r .taken ≡ length rest → ⊥) → (k₂ : Kept) (n₂ : ℕ) (room₂ out₂ : List ℕ)
+      → Leaves (byteTaken heldPacking (meant (r .kept) room₁) (getD rest (r .taken) 0)) k₂ n₂ room₂ out₂ old
+      → Going (startAt k room) rest old k₂ n₂ (r .taken + 1) room₂ out₂ × (1 ≤ r .taken + 1)
+  stretch-byte z k₂ n₂ room₂ out₂ l =
+      let h : r .taken < length rest = omega (arith, z, j .within) in
+      (going-byte _ rest old (r .kept) (r .taken) room₁ (j .going old rm) h (j .stands) k₂ n₂ room₂ out₂ l, omega arith)
