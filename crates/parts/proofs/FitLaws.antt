@@ -26,7 +26,7 @@ taken-least t room = go (t .state .standing)
 
 module _ (state part : List ℕ) (last : Bool) (room : List ℕ) where
   -- what holds of a call that is turned away and of one that is not holds of every call
-  call-cases : (Q : PartCall → Type 0) → ((n i : ℕ) → Q (untouched (Answer.refused n i) state room))
+  pub call-cases : (Q : PartCall → Type 0) → ((n i : ℕ) → Q (untouched (Answer.refused n i) state room))
       → ((g : Bool) → Q (leaves (called heldPacking (stateOf state) part last) g state room)) → Q (partOf state part last room)
   unfolding partOf
   call-cases Q a b = go (ltb (length room) frameRoom) (badState state)

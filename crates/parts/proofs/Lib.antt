@@ -16,4 +16,5 @@ pub mod RoundLaws
 pub mod HoldLaws
 pub mod Promise
 pub mod FitLaws
+pub mod StoppedLaws
 pub mod Examples

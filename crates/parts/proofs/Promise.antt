@@ -103,7 +103,7 @@ module _ (list : List ℕ) (at : ℕ) (state out : List ℕ) (f : Follows list a
   left-next =
       rw (← drop-drop (c .taken) at list, n .follows) (drop-append-le (c .taken) part (n .rest) (call-le packingRule (f .s) part last))
 
-  same-answer : answered (c .left) ≡ answered (h .left)
+  pub same-answer : answered (c .left) ≡ answered (h .left)
   same-answer = answered-same Same (c .left) (h .left) (alike-call .left)
 
   narrow-next : length room < frameRoom → let x = partOf state part last room in
@@ -117,7 +117,7 @@ module _ (list : List ℕ) (at : ℕ) (state out : List ℕ) (f : Follows list a
   unfolding called
   still g = rw g refl
 
-  state-next : (g : Bool) → isGoing (stateOf state .standing) ≡ g
+  pub state-next : (g : Bool) → isGoing (stateOf state .standing) ≡ g
       → let t = cond g (bytesOfState (h .left .state)) state in (badState t ≡ false) × Alike Same (c .left .state) (stateOf t)
   state-next true g =
       alike-again (c .left .state) (h .left .state) (call-range packingRule (f .s) part last (f .range)) (alike-call .left .state)
