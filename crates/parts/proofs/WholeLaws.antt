@@ -5,7 +5,7 @@ use mathlib.Core.List.{List, [], _∷_, _++_}
 use mathlib.Core.Bool.{true, false}
 use native.Mathlib.Omega.{arith}
 use lib.Dec.{eqb, ltb}
-use lib.ListN.{length, take, drop, getD, length-append, length-drop, take-append-drop}
+use lib.ListN.{length, take, drop, getD, replicate, length-append, length-drop, take-append-drop}
 use lib.Seq.{length-take-le, append-snoc}
 use borrow.Author.Tests.{lt-ltb, le-ltb, ne-eqb}
 use Rattle.lbp16.proofs.BoolLaws.{or-false}
@@ -21,7 +21,7 @@ use Rattle.cue.proofs.ReadingLaws.{passing}
 use Rattle.cue.proofs.PackingLaws.{record-bytes-le}
 use Rattle.parts.specs.Taking.{State, Taken, Stopped, going, unknownMark, decidedAt, recordTaken, byteTaken, bytesTaken, isGoing, goesOn, oneMore}
 use Rattle.parts.specs.State.{Held, heldPacking, standingOf}
-use Rattle.parts.specs.Inside.{Ranged, Rooms, Leaves, Going, Joins, moreBy, meant, startAt}
+use Rattle.parts.specs.Inside.{Sound, Ranged, Rooms, Leaves, Going, Runs, Joins, moreBy, meant, startAt, plain, past}
 use Rattle.parts.specs.declared.state.Kept.{Kept}
 use Rattle.parts.specs.declared.take.Run.{Run}
 use Rattle.parts.proofs.FrontLaws.{mark-front, kind-front, step-front, decided-two, decided-front, decided-number}
@@ -139,84 +139,122 @@ module _ (index : ℕ) (packet : Held) where
       rw (j, l) at (front-taken (take n rest) (drop n rest) (rw j e) (rw j l))
 
 -- as the code takes them
-module _ (k : Kept) (rest room : List ℕ) (rg : Ranged k) (held : length room ≡ 1476) (z : k .stands ≡ 0) where
-  pub joins-none : Joins k rest room (record { taken = 0; kept = k }) room
-  joins-none =
-      record { held = held; stands = z; within = omega arith; going = λ old rm. going-first k rest room old rg rm }
+module _ (p : Packer) (index : ℕ) (rest room : List ℕ) (s : Sound p) (few : index ≤ mostRecords) (held : length room ≡ 1476) where
+  plain-ranged : (bytes : List ℕ) → length bytes ≡ 10 → Ranged (plain bytes p index)
+  unfolding plain
+  plain-ranged bytes l = record { stands = omega arith; collected = omega arith; bytes = l; index = few; sound = s }
 
-  module _ (c : k .collected ≡ 0) (number : ℕ) (f : number ≡ first (recordRefusals (k .index) rest)) (g : number ≡ 0) where
-    good : first (recordRefusals (k .index) rest) ≡ 0
+  pub runs-none : Runs p index rest room (record { taken = 0; packer = p; index = index }) room
+  runs-none =
+      record {
+        held = held;
+        within = omega arith;
+        sound = s;
+        few = few;
+        going = λ bytes old l rm. going-first (plain bytes p index) rest room old (plain-ranged bytes l) rm;
+      }
+
+  module _ (number : ℕ) (f : number ≡ first (recordRefusals index rest)) (g : number ≡ 0) where
+    good : first (recordRefusals index rest) ≡ 0
     good = sym f ∙ g
 
-    record-going : (k₂ : Kept) (room₂ old : List ℕ)
-        → Leaves (recordTaken heldPacking 0 (meant k room) (recordStep rest)) k₂ 0 room₂ old old
-        → Going (startAt k room) rest old k₂ 0 (recordBytes (recordKind rest)) room₂ old
-    unfolding startAt meant standingOf
-    record-going k₂ room₂ old l =
+    abbrev h : Held
+    h = record { packer = p; room = room }
+
+    record-going : (bytes : List ℕ) (k₂ : Kept) (room₂ old : List ℕ)
+        → Leaves (recordTaken heldPacking 0 (meant (plain bytes p index) room) (recordStep rest)) k₂ 0 room₂ old old
+        → Going (startAt (plain bytes p index) room) rest old k₂ 0 (recordBytes (recordKind rest)) room₂ old
+    unfolding startAt meant standingOf plain
+    record-going bytes k₂ room₂ old l =
         record {
-          t = recordTaken heldPacking 0 (meant k room) (recordStep rest);
+          t = recordTaken heldPacking 0 (meant (plain bytes p index) room) (recordStep rest);
           leaves = l;
-          within = whole-bytes (k .index) (record { packer = k .packer; room = room }) rest good;
-          same = rw (z, c) (whole-taken (k .index) (record { packer = k .packer; room = room }) rest good);
+          within = whole-bytes index h rest good;
+          same = whole-taken index h rest good;
         }
 
-    module _ (r : Record) (a : r ≡ recordAt rest) (q : Packer) (d : q ≡ turnedWithin (k .packer) r) (one : q .packets ≡ 2 → ⊥)
+    module _ (r : Record) (a : r ≡ recordAt rest) (q : Packer) (d : q ≡ turnedWithin p r) (one : q .packets ≡ 2 → ⊥)
         (room₂ : List ℕ) (e : room₂ ≡ putWithin q rest room) (n : ℕ) (b : n ≡ recordBytes (pickKind (r .write))) where
-      abbrev after : Kept
-      after = record { stands = 0; collected = 0; bytes = k .bytes; index = k .index + 1; packer = q }
-
       size : n ≡ recordBytes (recordKind rest)
       unfolding recordKind recordAt
       size = rw a at b
 
-      leaves : (old : List ℕ) → Rooms room old
-          → Leaves (recordTaken heldPacking 0 (meant k room) (recordStep rest)) after 0 room₂ old old
-      leaves old rm =
-          record-leaves k rest room old rg rm good q 0 old room₂
-          (turns-open (k .packer) rest room (rg .sound) (record { index = k .index; passes = good }) r a q d old one) e
+      leaves : (bytes old : List ℕ) → length bytes ≡ 10 → Rooms room old
+          → Leaves (recordTaken heldPacking 0 (meant (plain bytes p index) room) (recordStep rest)) (plain bytes q (index + 1)) 0
+          room₂ old old
+      unfolding plain
+      leaves bytes old l rm =
+          record-leaves (plain bytes p index) rest room old (plain-ranged bytes l) rm good q 0 old room₂
+          (turns-open p rest room s (record { index = index; passes = good }) r a q d old one) e
 
-      pub joins-record : Joins k rest room (record { taken = n; kept = after }) room₂
-      joins-record =
-          let own : Rooms room room = record { held = held; lent = omega arith } in
+      own : Leaves (recordTaken heldPacking 0 (meant (plain (replicate 10 0) p index) room) (recordStep rest))
+          (plain (replicate 10 0) q (index + 1)) 0 room₂ room room
+      own = leaves (replicate 10 0) room refl (record { held = held; lent = omega arith })
+
+      pub runs-record : Runs p index rest room (record { taken = n; packer = q; index = index + 1 }) room₂
+      unfolding plain
+      runs-record =
           record {
-            held = leaves room own .rooms .held;
-            stands = refl;
-            within = rw size (whole-bytes (k .index) (record { packer = k .packer; room = room }) rest good);
-            going = λ old rm. rw size (record-going after room₂ old (leaves old rm));
+            held = own .rooms .held;
+            within = rw size (whole-bytes index h rest good);
+            sound = own .ranged .sound;
+            few = own .ranged .index;
+            going = λ bytes old l rm. rw size (record-going bytes (plain bytes q (index + 1)) room₂ old (leaves bytes old l rm));
           }
 
 -- a record behind those taken, as the code lends it the rest of the part
-module _ (k : Kept) (part room : List ℕ) (held : length room ≡ 1476) (at : ℕ) (kept : Kept) (room₁ : List ℕ)
-    (h : Joins k part room (record { taken = at; kept = kept }) room₁) where
-  pub joins-ranged : Ranged kept
-  joins-ranged = h .going room (record { held = held; lent = omega arith }) .leaves .ranged
+pub runs-more : (p : Packer) (first : ℕ) (part room : List ℕ) (r : Run) (room₁ : List ℕ) → Runs p first part room r room₁
+    → (s : Run) (room₂ : List ℕ)
+    → Runs (r .packer) (r .index) (take (length part - r .taken) (drop (r .taken) part)) room₁ s room₂
+    → Runs p first part room (record { taken = r .taken + s .taken; packer = s .packer; index = s .index }) room₂
+runs-more p first part room r room₁ h s room₂ j₀ =
+    let j : Runs (r .packer) (r .index) (drop (r .taken) part) room₁ s room₂ = rw (lent-rest part (r .taken)) at j₀ in
+    let w : s .taken ≤ length part - r .taken = rw length-drop at (j .within) in
+    record {
+      held = j .held;
+      within = omega (arith, h .within);
+      sound = j .sound;
+      few = j .few;
+      going =
+          λ bytes old l rm. going-more _ part old _ (r .taken) room₁ (h .going bytes old l rm) _ _ _ _ _
+          (j .going bytes old l (record { held = h .held; lent = rm .lent }));
+    }
 
-  pub joins-more : (s : Run) (room₂ : List ℕ) → Joins kept (take (length part - at) (drop at part)) room₁ s room₂
-      → Joins k part room (record { taken = at + s .taken; kept = s .kept }) room₂
-  joins-more s room₂ j₀ =
-      let j : Joins kept (drop at part) room₁ s room₂ =
-      rw (lent-rest part at) at j₀ in
-      let w : s .taken ≤ length part - at = rw length-drop at (j .within) in
+-- where bytes may wait
+module _ (k : Kept) (rest room : List ℕ) (rg : Ranged k) (held : length room ≡ 1476) (z : k .stands ≡ 0) where
+  pub joins-none : Joins k rest room (record { taken = 0; packer = k .packer; index = k .index }) room
+  unfolding past
+  joins-none =
+      let e : past k (record { taken = 0; packer = k .packer; index = k .index }) ≡ k =
+      λ i. record { stands = sym z i; collected = k .collected; bytes = k .bytes; index = k .index; packer = k .packer } in
+      record { held = held; within = omega arith; going = λ old rm. rw e (going-first k rest room old rg rm) }
+
+  pub joins-run : k .collected ≡ 0 → (r : Run) (room₂ : List ℕ) → Runs (k .packer) (k .index) rest room r room₂
+      → Joins k rest room r room₂
+  unfolding past plain
+  joins-run c r room₂ j =
+      let e : k ≡ plain (k .bytes) (k .packer) (k .index) =
+      λ i. record { stands = z i; collected = c i; bytes = k .bytes; index = k .index; packer = k .packer } in
+      let f : past k r ≡ plain (k .bytes) (r .packer) (r .index) =
+      λ i. record { stands = 0; collected = c i; bytes = k .bytes; index = r .index; packer = r .packer } in
       record {
         held = j .held;
-        stands = j .stands;
-        within = omega (arith, h .within);
-        going =
-            λ old rm. going-more _ part old kept at room₁ (h .going old rm) _ _ _ _ _
-            (j .going old (record { held = h .held; lent = rm .lent }));
+        within = j .within;
+        going = λ old rm. rw f (subst (λ (q : Kept). Going (startAt q room) rest old (plain (k .bytes) (r .packer) (r .index)) 0 (r .taken) room₂ old) (sym e) (j .going (k .bytes) old (rg .bytes) rm));
       }
 
 -- whole records, and a byte behind them
 module _ (k : Kept) (rest room old : List ℕ) (rm : Rooms room old) (r : Run) (room₁ : List ℕ) (j : Joins k rest room r room₁) where
-  pub stretch-ranged : Ranged (r .kept)
+  pub stretch-ranged : Ranged (past k r)
   stretch-ranged = j .going old rm .leaves .ranged
 
   pub stretch-rooms : Rooms room₁ old
   stretch-rooms = record { held = j .held; lent = rm .lent }
 
   pub stretch-byte : (r .taken ≡ length rest → ⊥) → (k₂ : Kept) (n₂ : ℕ) (room₂ out₂ : List ℕ)
-      → Leaves (byteTaken heldPacking (meant (r .kept) room₁) (getD rest (r .taken) 0)) k₂ n₂ room₂ out₂ old
+      → Leaves (byteTaken heldPacking (meant (past k r) room₁) (getD rest (r .taken) 0)) k₂ n₂ room₂ out₂ old
       → Going (startAt k room) rest old k₂ n₂ (r .taken + 1) room₂ out₂ × (1 ≤ r .taken + 1)
+  unfolding past
   stretch-byte z k₂ n₂ room₂ out₂ l =
       let h : r .taken < length rest = omega (arith, z, j .within) in
-      (going-byte _ rest old (r .kept) (r .taken) room₁ (j .going old rm) h (j .stands) k₂ n₂ room₂ out₂ l, omega arith)
+      (going-byte _ rest old (past k r) (r .taken) room₁ (j .going old rm) h refl k₂ n₂ room₂ out₂ l, omega arith)

@@ -108,9 +108,24 @@ pub record Going (start : Taken Held) (part old : List ℕ) (k : Kept) (n at : �
   pub within : at ≤ length part
   pub same : bytesTaken heldPacking start part ≡ moreBy at (bytesTaken heldPacking t (drop at part))
 
--- The same behind whole records, whatever the room for what is handed out.
+-- what is kept where no byte waits
+unfoldable pub plain : List ℕ → Packer → ℕ → Kept
+plain bytes p index = record { stands = 0; collected = 0; bytes = bytes; index = index; packer = p }
+
+-- The same behind whole records, whatever is kept of bytes before and whatever the room for what is handed out.
+pub record Runs (p : Packer) (index : ℕ) (part room : List ℕ) (r : Run) (room₂ : List ℕ) : Type 0 where
+  pub held : length room₂ ≡ frameRoom
+  pub within : r .taken ≤ length part
+  pub sound : Sound (r .packer)
+  pub few : r .index ≤ mostRecords
+  pub going : (bytes old : List ℕ) → length bytes ≡ 10 → Rooms room old
+      → Going (startAt (plain bytes p index) room) part old (plain bytes (r .packer) (r .index)) 0 (r .taken) room₂ old
+
+-- And where bytes may wait, in which case none is taken.
+unfoldable pub past : Kept → Run → Kept
+past k r = record { stands = 0; collected = k .collected; bytes = k .bytes; index = r .index; packer = r .packer }
+
 pub record Joins (k : Kept) (part room : List ℕ) (r : Run) (room₂ : List ℕ) : Type 0 where
   pub held : length room₂ ≡ frameRoom
-  pub stands : r .kept .stands ≡ 0
   pub within : r .taken ≤ length part
-  pub going : (old : List ℕ) → Rooms room old → Going (startAt k room) part old (r .kept) 0 (r .taken) room₂ old
+  pub going : (old : List ℕ) → Rooms room old → Going (startAt k room) part old (past k r) 0 (r .taken) room₂ old

@@ -12,10 +12,10 @@ ghost use mathlib.Core.List.{_++_};
 ghost use Prim.Native.Nat.{_≤_};
 ghost use lib.ListN.{length, take, drop};
 ghost use Rattle.packet.specs.Rules.{first};
-ghost use Rattle.cue.specs.Records.{recordRefusals, recordStep};
+ghost use Rattle.cue.specs.Records.{recordRefusals, recordStep, mostRecords};
 ghost use Rattle.parts.specs.Taking.{decidedAt, recordTaken, byteTaken, bytesTaken, partTaken, endTaken};
 ghost use Rattle.parts.specs.State.{heldPacking, frameRoom};
-ghost use Rattle.parts.specs.Inside.{meant, Good, Sound, Ranged, Rooms, Turns, Leaves, Stops, Going, Joins, startAt};
+ghost use Rattle.parts.specs.Inside.{meant, Good, Sound, Ranged, Rooms, Turns, Leaves, Stops, Going, Runs, Joins, startAt};
 
 // The state after a byte, and how many bytes were handed out.
 pub struct Took {
@@ -36,10 +36,11 @@ pub struct Stop {
     pub written: usize,
 }
 
-// The state after `taken` bytes of whole records, nothing handed out.
+// The packer and the index after `taken` bytes of whole records, nothing handed out.
 pub struct Run {
     pub taken: usize,
-    pub kept: Kept,
+    pub packer: Packer,
+    pub index: usize,
 }
 
 pub(crate) fn put_front(from: &[u8], out: &mut [u8])
@@ -158,55 +159,79 @@ fn byte_taken(k: Kept, b: u8, room: &mut [u8], out: &mut [u8]) -> Took
     record_taken(k, &bytes[..shown], room, out)
 }
 
-// Takes the record at the front of `rest`, if it is whole and good, joins the open packet and no byte of another waits.
-fn record_joined(k: Kept, rest: &[u8], room: &mut [u8]) -> Run
-    requires { ⌜ Ranged k × (length (now room) ≡ frameRoom) × (k .stands ≡ 0) ⌝ }
-    ensures { λ r. ⌜ Joins k (now (rest .entry)) (now (room .entry)) r (now (room .exit)) ⌝ }
+// Takes the record at the front of `rest`, if it is whole and good and joins the open packet.
+fn record_joined(p: Packer, index: usize, rest: &[u8], room: &mut [u8]) -> Run
+    requires { ⌜ Sound p × (index ≤ mostRecords) × (length (now room) ≡ frameRoom) ⌝ }
+    ensures { λ r. ⌜ Runs p index (now (rest .entry)) (now (room .entry)) r (now (room .exit)) ⌝ }
 {
-    let index = k.index;
-    let pending = k.collected;
-    if pending != 0 {
-        return Run { taken: 0, kept: k };
-    }
     if records::record_refusal(rest, index) != 0 {
-        return Run { taken: 0, kept: k };
+        return Run {
+            taken: 0,
+            packer: p,
+            index,
+        };
     }
     let r = records::record_at(rest);
-    let q = guarded::turned(k.packer, r);
+    let q = guarded::turned(p, r);
     if q.packets == 2 {
-        return Run { taken: 0, kept: k };
+        return Run {
+            taken: 0,
+            packer: p,
+            index,
+        };
     }
     guarded::put(q, rest, room);
-    let bytes = k.bytes;
     Run {
         taken: records::record_bytes(r.write),
-        kept: Kept {
-            stands: 0,
-            collected: 0,
-            bytes,
-            index: index + 1,
-            packer: q,
-        },
+        packer: q,
+        index: index + 1,
     }
 }
 
 // Such records, as many as follow each other.
-fn records_joined(k: Kept, part: &[u8], room: &mut [u8]) -> Run
-    requires { ⌜ Ranged k × (length (now room) ≡ frameRoom) × (k .stands ≡ 0) ⌝ }
-    ensures { λ r. ⌜ Joins k (now (part .entry)) (now (room .entry)) r (now (room .exit)) ⌝ }
+fn records_joined(p: Packer, first: usize, part: &[u8], room: &mut [u8]) -> Run
+    requires { ⌜ Sound p × (first ≤ mostRecords) × (length (now room) ≡ frameRoom) ⌝ }
+    ensures { λ r. ⌜ Runs p first (now (part .entry)) (now (room .entry)) r (now (room .exit)) ⌝ }
 {
-    let mut kept = k;
+    let mut packer = p;
+    let mut index = first;
     let mut at: usize = 0;
     while at < part.len() {
-        let j = record_joined(kept, &part[at..], room);
-        let next = j.kept;
-        kept = next;
+        let j = record_joined(packer, index, &part[at..], room);
+        let next = j.packer;
+        packer = next;
+        index = j.index;
         at += j.taken;
         if j.taken == 0 {
-            return Run { taken: at, kept };
+            return Run {
+                taken: at,
+                packer,
+                index,
+            };
         }
     }
-    Run { taken: at, kept }
+    Run {
+        taken: at,
+        packer,
+        index,
+    }
+}
+
+// The same where no byte of another record waits.
+fn front_joined(k: Kept, rest: &[u8], room: &mut [u8]) -> Run
+    requires { ⌜ Ranged k × (length (now room) ≡ frameRoom) × (k .stands ≡ 0) ⌝ }
+    ensures { λ r. ⌜ Joins k (now (rest .entry)) (now (room .entry)) r (now (room .exit)) ⌝ }
+{
+    let packer = k.packer;
+    let waiting = k.collected;
+    if waiting != 0 {
+        return Run {
+            taken: 0,
+            packer,
+            index: k.index,
+        };
+    }
+    records_joined(packer, k.index, rest, room)
 }
 
 // Whole records, and behind them a byte.
@@ -214,9 +239,17 @@ fn stretch_taken(k: Kept, rest: &[u8], room: &mut [u8], out: &mut [u8]) -> Stop
     requires { ⌜ Ranged k × Rooms (now room) (now out) × (k .stands ≡ 0) × (1 ≤ length (now rest)) ⌝ }
     ensures { λ r. ⌜ Going (startAt k (now (room .entry))) (now (rest .entry)) (now (out .entry)) (r .kept) (r .written) (r .taken) (now (room .exit)) (now (out .exit)) × (1 ≤ r .taken) ⌝ }
 {
-    let run = records_joined(k, rest, room);
+    let run = front_joined(k, rest, room);
     let at = run.taken;
-    let kept = run.kept;
+    let bytes = k.bytes;
+    let packer = run.packer;
+    let kept = Kept {
+        stands: 0,
+        collected: k.collected,
+        bytes,
+        index: run.index,
+        packer,
+    };
     if at == rest.len() {
         return Stop {
             taken: at,

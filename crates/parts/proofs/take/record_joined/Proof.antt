@@ -1,16 +1,13 @@
+use Rattle.parts.proofs.WholeLaws.{runs-none, runs-record}
 use borrow.Author.Needs.{needs}
 use Rattle.parts.proofs.take.record_joined.Statement.{statement}
 use Rattle.parts.proofs.take.record_joined.Tie as tie
-use Rattle.parts.proofs.WholeLaws.{joins-none, joins-record}
-
-returns : tie.Need-returns
-returns c = let p = c .before .before .before .pre in joins-none _ _ _ (p .0) (p .1) (p .2)
 
 record-refusal-requires : tie.Need-record-refusal-requires
 record-refusal-requires c κs = search needs
 
-returns-2 : tie.Need-returns-2
-returns-2 c = let p = c .before .before .before .before .before .pre in joins-none _ _ _ (p .0) (p .1) (p .2)
+returns : tie.Need-returns
+returns c = let p = c .before .before .before .before .pre in runs-none _ _ _ _ (p .0) (p .1) (p .2)
 
 record-at-requires : tie.Need-record-at-requires
 record-at-requires c κs = search needs
@@ -18,8 +15,8 @@ record-at-requires c κs = search needs
 turned-requires : tie.Need-turned-requires
 turned-requires c κs = search needs
 
-returns-3 : tie.Need-returns-3
-returns-3 c = let p = c .before .before .before .before .before .before .before .before .before .pre in joins-none _ _ _ (p .0) (p .1) (p .2)
+returns-2 : tie.Need-returns-2
+returns-2 c = let p = c .before .before .before .before .before .before .before .before .pre in runs-none _ _ _ _ (p .0) (p .1) (p .2)
 
 put-requires : tie.Need-put-requires
 put-requires c κs = search needs
@@ -27,27 +24,26 @@ put-requires c κs = search needs
 record-bytes-requires : tie.Need-record-bytes-requires
 record-bytes-requires c κs = search needs
 
-add-t15 : tie.Need-add-t15
-add-t15 c = search needs
+add-t13 : tie.Need-add-t13
+add-t13 c = search needs
 
 same-length : tie.Need-same-length
 same-length c = search needs
 
-returns-4 : tie.Need-returns-4
-returns-4 c = let b = c .before .before .before .before .before .before in let p = c .before .before .before .before .before .before .before .before .before .before .before .before .before .before .before .pre in joins-record _ _ _ (p .0) (p .1) (p .2) (c .before .before .before .before .before .before .before .before .before .before .before .before .if1 .left) _ (c .before .before .before .before .before .before .before .before .before .before .before .record-refusal .ensures) (c .before .before .before .before .before .before .before .before .before .before .if2 .left) _ (c .before .before .before .before .before .before .before .before .before .record-at .ensures) _ (c .before .before .before .before .before .before .before .before .turned .ensures) (b .if3 .left) _ (c .before .before .before .before .put .ensures) _ (c .record-bytes .ensures .0)
+returns-3 : tie.Need-returns-3
+returns-3 c = let p = c .before .before .before .before .before .before .before .before .before .before .before .before .before .pre in runs-record _ _ _ _ (p .0) (p .1) (p .2) _ (c .before .before .before .before .before .before .before .before .before .before .record-refusal .ensures) (c .before .before .before .before .before .before .before .before .before .if1 .left) _ (c .before .before .before .before .before .before .before .before .record-at .ensures) _ (c .before .before .before .before .before .before .before .turned .ensures) (c .before .before .before .before .before .if2 .left) _ (c .before .before .before .put .ensures) _ (c .record-bytes .ensures .0)
 
 pub record-joined-spec : {M : Type 1} → statement M
 record-joined-spec =
     tie.close
     (tie.spec
-    returns
     record-refusal-requires
-    returns-2
+    returns
     record-at-requires
     turned-requires
-    returns-3
+    returns-2
     put-requires
     record-bytes-requires
-    add-t15
+    add-t13
     same-length
-    returns-4)
+    returns-3)

@@ -1,23 +1,22 @@
-use denote.Ref.{now}
 use Prim.Native.Nat.{_-_}
 use mathlib.Core.Path.{_≡_, refl, sym, _∙_}
 use native.Mathlib.Omega.{arith}
 use lib.ListN.{length}
-use Rattle.parts.specs.Inside.{Joins}
-use Rattle.parts.proofs.WholeLaws.{joins-none, joins-ranged, joins-more}
+use Rattle.parts.specs.Inside.{Runs}
+use Rattle.parts.proofs.WholeLaws.{runs-none, runs-more}
 use borrow.Author.Needs.{needs}
 use Rattle.parts.proofs.take.records_joined.Statement.{statement}
 use Rattle.parts.proofs.take.records_joined.Tie as tie
 
 abbrev Inv-loop : tie.InvT-loop
-Inv-loop part room₀ kept₀ at₀ room kept at =
-    (length room ≡ length room₀) × Joins kept₀ part room₀ (record { taken = at; kept = kept }) room
+Inv-loop first part room₀ packer₀ index₀ at₀ room packer index at =
+    (length room ≡ length room₀) × Runs packer₀ index₀ part room₀ (record { taken = at; packer = packer; index = index }) room
 
 abbrev μ-loop : tie.MeasureT-loop
-μ-loop part room₀ kept₀ at₀ room kept at = length part - at
+μ-loop first part room₀ packer₀ index₀ at₀ room packer index at = length part - at
 
 loop-holds : tie.Need-loop-holds Inv-loop μ-loop
-loop-holds c = let p = c .before .before .pre in (refl, joins-none _ _ _ (p .0) (p .1) (p .2))
+loop-holds c = let p = c .before .before .pre in (refl, runs-none _ _ _ _ (p .0) (p .1) (p .2))
 
 sub-record-joined : tie.Need-sub-record-joined Inv-loop μ-loop
 sub-record-joined c = search needs
@@ -29,22 +28,22 @@ part-record-joined-end : tie.Need-part-record-joined-end Inv-loop μ-loop
 part-record-joined-end c = search needs
 
 record-joined-requires : tie.Need-record-joined-requires Inv-loop μ-loop
-record-joined-requires c κs = let l = c .before .before .before .loop in let p = c .before .before .before .before .before .before .pre in (joins-ranged _ _ _ (p .1) _ _ _ (l .inv .1), l .inv .1 .held, l .inv .1 .stands)
+record-joined-requires c κs = let h = c .before .before .before .loop .inv .1 in (h .sound, h .few, h .held)
 
 add-at : tie.Need-add-at Inv-loop μ-loop
 add-at c = search needs
 
 same-length : tie.Need-same-length Inv-loop μ-loop
-same-length c = c .before .before .before .before .before .before .record-joined .ensures .held ∙ sym (c .before .before .before .before .before .before .before .before .before .before .before .before .before .pre .1)
+same-length c = c .before .before .before .before .before .before .record-joined .ensures .held ∙ sym (c .before .before .before .before .before .before .before .before .before .before .before .before .before .pre .2)
 
 returns : tie.Need-returns Inv-loop μ-loop
-returns c = let d = c .before .before .before .before .before .before .record-joined .ensures in let l = c .before .before .before .before .before .before .before .before .before .before .loop in let p = c .before .before .before .before .before .before .before .before .before .before .before .before .before .pre in joins-more _ _ _ (p .1) _ _ _ (l .inv .1) _ _ d
+returns c = let d = c .before .before .before .before .before .before .record-joined .ensures in let l = c .before .before .before .before .before .before .before .before .before .before .loop in runs-more _ _ _ _ _ _ (l .inv .1) _ _ d
 
 loop-less : tie.Need-loop-less Inv-loop μ-loop
 loop-less c = omega (arith, c .if1 .left, c .before .before .before .before .before .before .before .before .before .loop-test .taken)
 
 loop-again : tie.Need-loop-again Inv-loop μ-loop
-loop-again c = let d = c .before .before .before .before .before .before .record-joined .ensures in let l = c .before .before .before .before .before .before .before .before .before .before .loop in let p = c .before .before .before .before .before .before .before .before .before .before .before .before .before .pre in (d .held ∙ sym (p .1), joins-more _ _ _ (p .1) _ _ _ (l .inv .1) _ _ d)
+loop-again c = let d = c .before .before .before .before .before .before .record-joined .ensures in let l = c .before .before .before .before .before .before .before .before .before .before .loop in (d .held ∙ sym (c .before .before .before .before .before .before .before .before .before .before .before .before .before .pre .2), runs-more _ _ _ _ _ _ (l .inv .1) _ _ d)
 
 same-length-2 : tie.Need-same-length-2 Inv-loop μ-loop
 same-length-2 c = c .before .loop .inv .0
