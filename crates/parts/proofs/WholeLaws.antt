@@ -2,12 +2,12 @@
 use Prim.Native.Nat.{ℕ, suc, _+_, _-_, _≤_, _<_}
 use mathlib.Core.Path.{_≡_, refl, sym, ap, _∙_, subst}
 use mathlib.Core.List.{List, [], _∷_, _++_}
-use mathlib.Core.Bool.{true, false}
+use mathlib.Core.Bool.{true, false, not, _||_, _&&_}
 use native.Mathlib.Omega.{arith}
 use lib.Dec.{eqb, ltb}
 use lib.ListN.{length, take, drop, getD, replicate, length-append, length-drop, take-append-drop}
 use lib.Seq.{length-take-le, append-snoc}
-use borrow.Author.Tests.{lt-ltb, le-ltb, ne-eqb}
+use borrow.Author.Tests.{eqb-true, eqb-false, lt-ltb, le-ltb, ne-eqb, not-false}
 use Rattle.lbp16.proofs.BoolLaws.{or-false}
 use Rattle.packet.specs.Rules.{first}
 use Rattle.packet.specs.Command.{pickKind}
@@ -21,13 +21,13 @@ use Rattle.cue.proofs.ReadingLaws.{passing}
 use Rattle.cue.proofs.PackingLaws.{record-bytes-le}
 use Rattle.parts.specs.Taking.{State, Taken, Stopped, going, unknownMark, decidedAt, recordTaken, byteTaken, bytesTaken, isGoing, goesOn, oneMore}
 use Rattle.parts.specs.State.{Held, heldPacking, standingOf}
-use Rattle.parts.specs.Inside.{Sound, Ranged, Rooms, Leaves, Going, Runs, Joins, moreBy, meant, startAt, plain, past}
+use Rattle.parts.specs.Inside.{Sound, Ranged, Rooms, Leaves, Going, Runs, moreBy, meant, startAt, plain}
 use Rattle.parts.specs.declared.state.Kept.{Kept}
 use Rattle.parts.specs.declared.take.Run.{Run}
 use Rattle.parts.proofs.FrontLaws.{mark-front, kind-front, step-front, decided-two, decided-front, decided-number}
 use Rattle.parts.proofs.ByteLaws.{byte-at}
 use Rattle.parts.proofs.TakeLaws.{turns-open, record-leaves}
-use Rattle.parts.proofs.PartLaws.{going-first, going-byte, going-more, lent-rest}
+use Rattle.parts.proofs.PartLaws.{going-first, going-byte, going-more, going-next, lent-rest}
 
 one-more : (n : ℕ) (s : Stopped Held) → oneMore (moreBy n s) ≡ moreBy (suc n) s
 unfolding oneMore moreBy
@@ -220,41 +220,33 @@ runs-more p first part room r room₁ h s room₂ j₀ =
           (j .going bytes old l (record { held = h .held; lent = rm .lent }));
     }
 
--- where bytes may wait
-module _ (k : Kept) (rest room : List ℕ) (rg : Ranged k) (held : length room ≡ 1476) (z : k .stands ≡ 0) where
-  pub joins-none : Joins k rest room (record { taken = 0; packer = k .packer; index = k .index }) room
-  unfolding past
-  joins-none =
-      let e : past k (record { taken = 0; packer = k .packer; index = k .index }) ≡ k =
-      λ i. record { stands = sym z i; collected = k .collected; bytes = k .bytes; index = k .index; packer = k .packer } in
-      record { held = held; within = omega arith; going = λ old rm. rw e (going-first k rest room old rg rm) }
+-- a byte, and whole records behind it
+module _ (k : Kept) (rest room old : List ℕ) (rg : Ranged k) (rm : Rooms room old) (z : k .stands ≡ 0) (some : 1 ≤ length rest)
+    (k₂ : Kept) (n₂ : ℕ) (room₂ out₂ : List ℕ)
+    (l : Leaves (byteTaken heldPacking (meant k room) (getD rest 0 0)) k₂ n₂ room₂ out₂ old) where
+  pub byte-going : Going (startAt k room) rest old k₂ n₂ 1 room₂ out₂
+  byte-going = going-byte _ rest old k 0 room (going-first k rest room old rg rm) (omega arith) z k₂ n₂ room₂ out₂ l
 
-  pub joins-run : k .collected ≡ 0 → (r : Run) (room₂ : List ℕ) → Runs (k .packer) (k .index) rest room r room₂
-      → Joins k rest room r room₂
-  unfolding past plain
-  joins-run c r room₂ j =
-      let e : k ≡ plain (k .bytes) (k .packer) (k .index) =
-      λ i. record { stands = z i; collected = c i; bytes = k .bytes; index = k .index; packer = k .packer } in
-      let f : past k r ≡ plain (k .bytes) (r .packer) (r .index) =
-      λ i. record { stands = 0; collected = c i; bytes = k .bytes; index = r .index; packer = r .packer } in
-      record {
-        held = j .held;
-        within = j .within;
-        going = λ old rm. rw f (subst (λ (q : Kept). Going (startAt q room) rest old (plain (k .bytes) (r .packer) (r .index)) 0 (r .taken) room₂ old) (sym e) (j .going (k .bytes) old (rg .bytes) rm));
-      }
+  -- by the test that the code makes
+  module _ (e : (eqb (length rest) 1 || (not (eqb (k₂ .stands) 0) || (not (eqb n₂ 0) || not (eqb (k₂ .collected) 0)))) ≡ false) where
+    more : (length rest ≡ 1 → ⊥) × (k₂ .stands ≡ 0) × (n₂ ≡ 0) × (k₂ .collected ≡ 0)
+    more =
+        let a = or-false (eqb (length rest) 1) _ e in
+        let b = or-false (not (eqb (k₂ .stands) 0)) _ (a .1) in
+        let c = or-false (not (eqb n₂ 0)) _ (b .1) in
+        (eqb-false _ _ (a .0), eqb-true _ _ (not-false _ (b .0)), eqb-true _ _ (not-false _ (c .0)), eqb-true _ _ (not-false _ (c .1)))
 
--- whole records, and a byte behind them
-module _ (k : Kept) (rest room old : List ℕ) (rm : Rooms room old) (r : Run) (room₁ : List ℕ) (j : Joins k rest room r room₁) where
-  pub stretch-ranged : Ranged (past k r)
-  stretch-ranged = j .going old rm .leaves .ranged
-
-  pub stretch-rooms : Rooms room₁ old
-  stretch-rooms = record { held = j .held; lent = rm .lent }
-
-  pub stretch-byte : (r .taken ≡ length rest → ⊥) → (k₂ : Kept) (n₂ : ℕ) (room₂ out₂ : List ℕ)
-      → Leaves (byteTaken heldPacking (meant (past k r) room₁) (getD rest (r .taken) 0)) k₂ n₂ room₂ out₂ old
-      → Going (startAt k room) rest old k₂ n₂ (r .taken + 1) room₂ out₂ × (1 ≤ r .taken + 1)
-  unfolding past
-  stretch-byte z k₂ n₂ room₂ out₂ l =
-      let h : r .taken < length rest = omega (arith, z, j .within) in
-      (going-byte _ rest old (past k r) (r .taken) room₁ (j .going old rm) h refl k₂ n₂ room₂ out₂ l, omega arith)
+    pub stretch-more : (r : Run) (room₃ : List ℕ)
+        → Runs (k₂ .packer) (k₂ .index) (take (length rest - 1) (drop 1 rest)) room₂ r room₃
+        → Going (startAt k room) rest old (plain (k₂ .bytes) (r .packer) (r .index)) 0 (1 + r .taken) room₃ out₂
+    unfolding plain
+    stretch-more r room₃ j =
+        let (long, stands, none, waiting) = more in
+        let h : 1 < length rest = omega (arith, some, long) in
+        let t : (ltb 1 (length rest) && (eqb (k₂ .stands) 0 && eqb n₂ 0)) ≡ true = rw (lt-ltb 1 (length rest) h, stands, none) refl in
+        let same : k₂ ≡ plain (k₂ .bytes) (k₂ .packer) (k₂ .index) =
+        λ i. record { stands = stands i; collected = waiting i; bytes = k₂ .bytes; index = k₂ .index; packer = k₂ .packer } in
+        going-next (startAt k room) rest old k₂ n₂ 1 room₂ out₂ byte-going _ _ _ _ _ t
+        (subst
+        (λ (q : Kept). Going (startAt q room₂) (take (length rest - 1) (drop 1 rest)) out₂ (plain (k₂ .bytes) (r .packer) (r .index)) 0 (r .taken) room₃ out₂)
+        (sym same) (j .going (k₂ .bytes) out₂ (l .ranged .bytes) (l .rooms)))

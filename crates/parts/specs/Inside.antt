@@ -120,12 +120,3 @@ pub record Runs (p : Packer) (index : ℕ) (part room : List ℕ) (r : Run) (roo
   pub few : r .index ≤ mostRecords
   pub going : (bytes old : List ℕ) → length bytes ≡ 10 → Rooms room old
       → Going (startAt (plain bytes p index) room) part old (plain bytes (r .packer) (r .index)) 0 (r .taken) room₂ old
-
--- And where bytes may wait, in which case none is taken.
-unfoldable pub past : Kept → Run → Kept
-past k r = record { stands = 0; collected = k .collected; bytes = k .bytes; index = r .index; packer = r .packer }
-
-pub record Joins (k : Kept) (part room : List ℕ) (r : Run) (room₂ : List ℕ) : Type 0 where
-  pub held : length room₂ ≡ frameRoom
-  pub within : r .taken ≤ length part
-  pub going : (old : List ℕ) → Rooms room old → Going (startAt k room) part old (past k r) 0 (r .taken) room₂ old

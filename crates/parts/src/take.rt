@@ -15,7 +15,7 @@ ghost use Rattle.packet.specs.Rules.{first};
 ghost use Rattle.cue.specs.Records.{recordRefusals, recordStep, mostRecords};
 ghost use Rattle.parts.specs.Taking.{decidedAt, recordTaken, byteTaken, bytesTaken, partTaken, endTaken};
 ghost use Rattle.parts.specs.State.{heldPacking, frameRoom};
-ghost use Rattle.parts.specs.Inside.{meant, Good, Sound, Ranged, Rooms, Turns, Leaves, Stops, Going, Runs, Joins, startAt};
+ghost use Rattle.parts.specs.Inside.{meant, Good, Sound, Ranged, Rooms, Turns, Leaves, Stops, Going, Runs, startAt};
 
 // The state after a byte, and how many bytes were handed out.
 pub struct Took {
@@ -217,52 +217,33 @@ fn records_joined(p: Packer, first: usize, part: &[u8], room: &mut [u8]) -> Run
     }
 }
 
-// The same where no byte of another record waits.
-fn front_joined(k: Kept, rest: &[u8], room: &mut [u8]) -> Run
-    requires { ⌜ Ranged k × (length (now room) ≡ frameRoom) × (k .stands ≡ 0) ⌝ }
-    ensures { λ r. ⌜ Joins k (now (rest .entry)) (now (room .entry)) r (now (room .exit)) ⌝ }
-{
-    let packer = k.packer;
-    let waiting = k.collected;
-    if waiting != 0 {
-        return Run {
-            taken: 0,
-            packer,
-            index: k.index,
-        };
-    }
-    records_joined(packer, k.index, rest, room)
-}
-
-// Whole records, and behind them a byte.
+// A byte, and the whole records behind it if none is left waiting.
 fn stretch_taken(k: Kept, rest: &[u8], room: &mut [u8], out: &mut [u8]) -> Stop
     requires { ⌜ Ranged k × Rooms (now room) (now out) × (k .stands ≡ 0) × (1 ≤ length (now rest)) ⌝ }
     ensures { λ r. ⌜ Going (startAt k (now (room .entry))) (now (rest .entry)) (now (out .entry)) (r .kept) (r .written) (r .taken) (now (room .exit)) (now (out .exit)) × (1 ≤ r .taken) ⌝ }
 {
-    let run = front_joined(k, rest, room);
-    let at = run.taken;
-    let bytes = k.bytes;
-    let packer = run.packer;
-    let kept = Kept {
-        stands: 0,
-        collected: k.collected,
-        bytes,
-        index: run.index,
-        packer,
-    };
-    if at == rest.len() {
+    let t = byte_taken(k, rest[0], room, out);
+    let kept = t.kept;
+    if (rest.len() == 1) | ((kept.stands != 0) | ((t.written != 0) | (kept.collected != 0))) {
         return Stop {
-            taken: at,
+            taken: 1,
             kept,
-            written: 0,
+            written: t.written,
         };
     }
-    let t = byte_taken(kept, rest[at], room, out);
-    let next = t.kept;
+    let run = records_joined(kept.packer, kept.index, &rest[1..], room);
+    let bytes = kept.bytes;
+    let packer = run.packer;
     Stop {
-        taken: at + 1,
-        kept: next,
-        written: t.written,
+        taken: 1 + run.taken,
+        kept: Kept {
+            stands: 0,
+            collected: 0,
+            bytes,
+            index: run.index,
+            packer,
+        },
+        written: 0,
     }
 }
 

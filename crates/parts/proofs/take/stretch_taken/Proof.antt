@@ -1,51 +1,66 @@
-use mathlib.Core.Path.{refl}
+use denote.Ref.{now}
 use native.Mathlib.Omega.{arith}
-use Rattle.parts.specs.Inside.{past}
-use Rattle.parts.proofs.WholeLaws.{stretch-ranged, stretch-rooms, stretch-byte}
+use Rattle.parts.specs.Inside.{plain}
+use Rattle.parts.proofs.PartLaws.{rest-within}
+use Rattle.parts.proofs.WholeLaws.{byte-going, stretch-more}
 use borrow.Author.Needs.{needs}
 use Rattle.parts.proofs.take.stretch_taken.Statement.{statement}
 use Rattle.parts.proofs.take.stretch_taken.Tie as tie
-
-front-joined-requires : tie.Need-front-joined-requires
-front-joined-requires c κs = search needs
-
-same-length : tie.Need-same-length
-same-length c = search needs
-
-returns : tie.Need-returns
-unfolding past
-returns c = let p = c .before .before .before .before .before .before .before .before .before .before .pre in let j = c .before .before .before .before .before .front-joined .ensures in (j .going _ (p .1), omega (arith, c .if1 .taken, p .3))
 
 shared-slice-read-byte-taken : tie.Need-shared-slice-read-byte-taken
 shared-slice-read-byte-taken c = search needs
 
 byte-taken-requires : tie.Need-byte-taken-requires
-unfolding past
-byte-taken-requires c κs = let p = c .before .before .before .before .before .before .before .before .before .before .before .before .before .pre in let j = c .before .before .before .before .before .before .before .before .front-joined .ensures in (stretch-ranged _ _ _ _ (p .1) _ _ j, stretch-rooms _ _ _ _ (p .1) _ _ j, refl)
+byte-taken-requires c κs = search needs
 
-add-t14 : tie.Need-add-t14
-add-t14 c = omega (arith, c .before .before .before .before .before .before .before .before .before .before .before .before .before .before .front-joined .ensures .within, c .before .before .before .before .before .before .before .before .before .if1 .left, c .before .before .before .before .before .before .before .before .before .before .before .before .before .before .before .before .before .before .before .good)
+same-length : tie.Need-same-length
+same-length c = search needs
 
 same-length-2 : tie.Need-same-length-2
 same-length-2 c = search needs
 
+returns : tie.Need-returns
+returns c = let p = c .before .before .before .before .before .before .before .before .before .before .before .before .before .before .before .before .pre in (byte-going _ _ _ _ (p .0) (p .1) (p .2) (p .3) _ _ _ _ (c .before .before .before .before .before .before .before .before .before .byte-taken .ensures), omega arith)
+
+sub-records-joined : tie.Need-sub-records-joined
+sub-records-joined c = omega (arith, c .before .before .before .before .before .before .before .before .before .before .before .before .before .before .before .before .pre .3)
+
+part-records-joined-start : tie.Need-part-records-joined-start
+part-records-joined-start c = omega (arith, c .before .before .before .before .before .before .before .before .before .before .before .before .before .before .before .before .pre .3)
+
+part-records-joined-end : tie.Need-part-records-joined-end
+part-records-joined-end c = search needs
+
+records-joined-requires : tie.Need-records-joined-requires
+records-joined-requires c κs = search needs
+
+add-t16 : tie.Need-add-t16
+add-t16 c = let w = rest-within (now (c .before .before .before .before .before .before .before .before .before .before .before .before .before .before .before .before .before .before .before .before .before .before .before .before .args .rest)) 1 _ (c .before .before .before .before .before .before .before .before .before .before .before .before .before .before .before .before .before .before .before .before .before .before .before .before .pre .3) (c .before .before .before .before .before .records-joined .ensures .within) in omega (arith, w, c .before .before .before .before .before .before .before .before .before .before .before .before .before .before .before .before .before .before .before .before .before .before .before .before .good)
+
 same-length-3 : tie.Need-same-length-3
 same-length-3 c = search needs
 
+same-length-4 : tie.Need-same-length-4
+same-length-4 c = search needs
+
 returns-2 : tie.Need-returns-2
-unfolding past
-returns-2 c = let p = c .before .before .before .before .before .before .before .before .before .before .before .before .before .before .before .before .before .before .before .pre in stretch-byte _ _ _ _ (p .1) _ _ (c .before .before .before .before .before .before .before .before .before .before .before .before .before .before .front-joined .ensures) (c .before .before .before .before .before .before .before .before .before .if1 .left) _ _ _ _ (c .before .before .before .before .before .byte-taken .ensures)
+unfolding plain
+returns-2 c = let p = c .before .before .before .before .before .before .before .before .before .before .before .before .before .before .before .before .before .before .before .before .before .before .before .before .pre in (stretch-more _ _ _ _ (p .0) (p .1) (p .2) (p .3) _ _ _ _ (c .before .before .before .before .before .before .before .before .before .before .before .before .before .before .before .before .before .byte-taken .ensures) (c .before .before .before .before .before .before .before .before .if1 .left) _ _ (c .before .before .before .before .before .records-joined .ensures), omega arith)
 
 pub stretch-taken-spec : {M : Type 1} → statement M
 stretch-taken-spec =
     tie.close
     (tie.spec
-    front-joined-requires
-    same-length
-    returns
     shared-slice-read-byte-taken
     byte-taken-requires
-    add-t14
+    same-length
     same-length-2
+    returns
+    sub-records-joined
+    part-records-joined-start
+    part-records-joined-end
+    records-joined-requires
+    add-t16
     same-length-3
+    same-length-4
     returns-2)
