@@ -18,6 +18,7 @@ use Rattle.tight.specs.Tight.{Checked}
 use Rattle.tight.specs.Tight
 use Rattle.planner.specs.Planner.{OneCell}
 use Rattle.planner.specs.declared.draft.Draft.{Draft}
+use Rattle.planner.specs.declared.draft.Cost.{Cost}
 
 -- what keeps the method's sums small, and its packets inside a room of so many bytes
 pub record Sized (p : Draft) (room : ℕ) : Type 0 where
@@ -34,6 +35,18 @@ pub record Startable (p : Draft) : Type 0 where
   pub packet : p .packet ≤ 1472
   pub reply : p .reply ≤ 1472
   pub end : p .end ≤ 2000004
+
+-- the sums of one draft are the other's
+pub record Summed (p q : Draft) : Type 0 where
+  pub packet : q .packet ≡ p .packet
+  pub reply : q .reply ≡ p .reply
+  pub end : q .end ≡ p .end
+
+-- no element has more than four bytes
+pub record Small (c : Cost) : Type 0 where
+  pub element : c .element ≤ 4
+  pub carried : c .carried ≤ 4
+  pub answered : c .answered ≤ 4
 
 -- nothing has changed from place `end` on
 pub record Kept (end : ℕ) (before after : List ℕ) : Type 0 where

@@ -3,7 +3,6 @@ use crate::draft;
 use crate::draft::Draft;
 use crate::one_cell;
 use crate::put;
-use cue::packer;
 use cue::records;
 ghost use Prim.Native.Nat.{_≤_};
 ghost use lib.ListN.{length};
@@ -18,14 +17,15 @@ fn drafted(list: &[u8], out: &mut [u8]) -> usize
     while rest.len() != 0 {
         let r = records::record_at(rest);
         let n = records::record_bytes(r.write);
-        let q = draft::turned(p, r);
+        let c = draft::cost_of(r);
+        let q = draft::turned(p, r, c);
         if draft::loose(q, out.len()) {
             return p.end;
         }
         if rest.len() < n {
             return p.end;
         }
-        put::put_record(out, q, rest, packer::carried(r));
+        put::put_record(out, q, rest, c.carried);
         p = q;
         rest = &rest[n..];
     }

@@ -23,29 +23,29 @@ record-at-requires c κs = search needs
 record-bytes-requires : tie.Need-record-bytes-requires Inv-loop μ-loop
 record-bytes-requires c κs = search needs
 
+cost-of-requires : tie.Need-cost-of-requires Inv-loop μ-loop
+cost-of-requires c κs = search needs
+
 turned-requires : tie.Need-turned-requires Inv-loop μ-loop
-turned-requires c κs = draft-sums (c .before .before .before .loop .inv)
+turned-requires c κs = (draft-sums (c .before .before .before .before .loop .inv), c .cost-of .ensures)
 
 loose-requires : tie.Need-loose-requires Inv-loop μ-loop
 loose-requires c κs = search needs
 
 same-length : tie.Need-same-length Inv-loop μ-loop
-same-length c = c .before .before .before .before .before .before .loop .inv .size
+same-length c = c .before .before .before .before .before .before .before .loop .inv .size
 
 returns : tie.Need-returns Inv-loop μ-loop
-returns c = draft-last (c .before .before .before .before .before .before .loop .inv)
+returns c = draft-last (c .before .before .before .before .before .before .before .loop .inv)
 
 same-length-2 : tie.Need-same-length-2 Inv-loop μ-loop
-same-length-2 c = c .before .before .before .before .before .before .before .loop .inv .size
+same-length-2 c = c .before .before .before .before .before .before .before .before .loop .inv .size
 
 returns-2 : tie.Need-returns-2 Inv-loop μ-loop
-returns-2 c = draft-last (c .before .before .before .before .before .before .before .loop .inv)
-
-carried-requires : tie.Need-carried-requires Inv-loop μ-loop
-carried-requires c κs = search needs
+returns-2 c = draft-last (c .before .before .before .before .before .before .before .before .loop .inv)
 
 put-record-requires : tie.Need-put-record-requires Inv-loop μ-loop
-put-record-requires c κs = (c .before .before .before .before .loose .ensures (c .before .before .before .if1 .left), c .carried .ensures .1)
+put-record-requires c κs = (c .before .before .before .loose .ensures (c .before .before .if1 .left), c .before .before .before .before .before .cost-of .ensures .carried)
 
 sub-rest : tie.Need-sub-rest Inv-loop μ-loop
 sub-rest c = omega arith
@@ -57,10 +57,13 @@ part-rest-end : tie.Need-part-rest-end Inv-loop μ-loop
 part-rest-end c = search needs
 
 loop-less : tie.Need-loop-less Inv-loop μ-loop
-loop-less c = shorter (c .before .before .before .before .before .before .before .before .before .before .before .before .before .loop .rest .now) _ _ (c .before .before .before .before .before .before .before .before .before .before .record-bytes .ensures .0) (c .before .before .before .before .before .before .before .before .before .before .before .before .loop-test .taken)
+loop-less c =
+    shorter (c .before .before .before .before .before .before .before .before .before .before .before .before .before .loop .rest .now) _ _ (c .before .before .before .before .before .before .before .before .before .before .record-bytes .ensures .0) (c .before .before .before .before .before .before .before .before .before .before .before .before .loop-test .taken)
 
 loop-again : tie.Need-loop-again Inv-loop μ-loop
-loop-again c = draft-again (c .before .before .before .before .before .before .before .before .before .before .before .before .before .loop .inv) (c .before .before .before .before .before .before .before .before .before .turned .ensures) (c .before .before .before .before .before .before .before .before .loose .ensures (c .before .before .before .before .before .before .before .if1 .left)) (c .before .before .before .put-record .kept .0) (c .before .before .before .put-record .ensures)
+loop-again c =
+    draft-again (c .before .before .before .before .before .before .before .before .before .before .before .before .before .loop .inv) (c .before .before .before .before .before .before .before .before .turned .ensures) (c .before .before .before .before .before .before .before .loose .ensures (c .before .before .before .before .before .before .if1 .left))
+    (c .before .before .before .put-record .kept .0) (c .before .before .before .put-record .ensures)
 
 same-length-3 : tie.Need-same-length-3 Inv-loop μ-loop
 same-length-3 c = c .before .loop .inv .size
@@ -78,13 +81,13 @@ drafted-spec =
     loop-holds
     record-at-requires
     record-bytes-requires
+    cost-of-requires
     turned-requires
     loose-requires
     same-length
     returns
     same-length-2
     returns-2
-    carried-requires
     put-record-requires
     sub-rest
     part-rest-start
