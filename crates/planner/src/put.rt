@@ -11,21 +11,27 @@ ghost use Rattle.planner.specs.Inside.{Sized, Kept};
 // "LB", low byte first.
 const MARK: u16 = 0x424C;
 
-// Two bytes, low byte first, where they stand below the end.
-fn put2(out: &mut [u8], at: usize, value: u16, end: usize)
+// A byte below the end.
+fn put1(out: &mut [u8], at: usize, value: u8, end: usize)
+    requires { ⌜ end ≤ length (now out) ⌝ }
     ensures { λ _. ⌜ Kept end (now (out .entry)) (now (out .exit)) ⌝ }
 {
-    if out.len() < end {
+    if end <= at {
         return;
     }
-    if end < 2 {
-        return;
-    }
-    if end - 2 < at {
+    out[at] = value;
+}
+
+// Two bytes, low byte first, where they stand below the end.
+fn put2(out: &mut [u8], at: usize, value: u16, end: usize)
+    requires { ⌜ (end ≤ length (now out)) × (at ≤ 2000002) ⌝ }
+    ensures { λ _. ⌜ Kept end (now (out .entry)) (now (out .exit)) ⌝ }
+{
+    let next = at + 1;
+    if end <= next {
         return;
     }
     out[at] = (value % 256) as u8;
-    let next = at + 1;
     out[next] = (value / 256) as u8;
 }
 
@@ -48,28 +54,19 @@ fn word_of(q: Draft) -> u16 {
 
 // A command of one element that no longer rises: its word's low byte is the count alone.
 fn put_still(out: &mut [u8], at: usize, end: usize)
+    requires { ⌜ end ≤ length (now out) ⌝ }
     ensures { λ _. ⌜ Kept end (now (out .entry)) (now (out .exit)) ⌝ }
 {
-    if at == 0 {
-        return;
+    if at != 0 {
+        put1(out, at, 1, end);
     }
-    if out.len() < end {
-        return;
-    }
-    if end <= at {
-        return;
-    }
-    out[at] = 1;
 }
 
 // The element's bytes, which stand behind a record's address, up to the end.
 fn put_element(out: &mut [u8], rest: &[u8], n: usize, end: usize)
-    requires { ⌜ n ≤ 4 ⌝ }
+    requires { ⌜ (n ≤ 4) × (end ≤ length (now out)) ⌝ }
     ensures { λ _. ⌜ Kept end (now (out .entry)) (now (out .exit)) ⌝ }
 {
-    if out.len() < end {
-        return;
-    }
     if end < n {
         return;
     }
@@ -111,16 +108,42 @@ fn put_head(out: &mut [u8], q: Draft)
     }
 }
 
+// The first record of a command: the packet's mark, the unlock, the earlier word, and its own head.
+fn put_first(out: &mut [u8], q: Draft)
+    requires { ⌜ Sized q (length (now out)) ⌝ }
+    ensures { λ _. ⌜ Kept (q .end) (now (out .entry)) (now (out .exit)) ⌝ }
+{
+    put2(out, q.frame, MARK, q.end);
+    put_unlock(out, q);
+    put_still(out, q.still, q.end);
+    put_head(out, q);
+}
+
+// The low byte of a word: the count, and the increment above it.
+fn low_byte(count: u8, rises: bool) -> u8
+    requires { ⌜ count ≤ 127 ⌝ }
+{
+    if rises { count + 128 } else { count }
+}
+
+// Of a command's later records only the low byte of its word changes.
+fn put_command(out: &mut [u8], q: Draft)
+    requires { ⌜ Sized q (length (now out)) ⌝ }
+    ensures { λ _. ⌜ Kept (q .end) (now (out .entry)) (now (out .exit)) ⌝ }
+{
+    if q.count == 1 {
+        put_first(out, q);
+    } else {
+        put1(out, q.word, low_byte(q.count, q.rises), q.end);
+    }
+}
+
 // One record, of which the draft is already told; `n`: the bytes of its element.
 pub(crate) fn put_record(out: &mut [u8], q: Draft, rest: &[u8], n: usize)
     requires { ⌜ Sized q (length (now out)) × (n ≤ 4) ⌝ }
     ensures { λ _. ⌜ Kept (q .end) (now (out .entry)) (now (out .exit)) ⌝ }
 {
-    let end = q.end;
-    put2(out, q.frame, MARK, end);
-    put2(out, q.frame + 2, q.packet as u16, end);
-    put_unlock(out, q);
-    put_still(out, q.still, end);
-    put_head(out, q);
-    put_element(out, rest, n, end);
+    put2(out, q.frame + 2, q.packet as u16, q.end);
+    put_command(out, q);
+    put_element(out, rest, n, q.end);
 }

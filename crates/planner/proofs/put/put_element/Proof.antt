@@ -17,14 +17,11 @@ abbrev μ-loop : tie.MeasureT-loop
 returns : tie.Need-returns Inv-loop μ-loop
 returns c = kept-none
 
+add-if2 : tie.Need-add-if2 Inv-loop μ-loop
+add-if2 c = omega arith
+
 returns-2 : tie.Need-returns-2 Inv-loop μ-loop
 returns-2 c = kept-none
-
-add-if3 : tie.Need-add-if3 Inv-loop μ-loop
-add-if3 c = omega arith
-
-returns-3 : tie.Need-returns-3 Inv-loop μ-loop
-returns-3 c = kept-none
 
 loop-holds : tie.Need-loop-holds Inv-loop μ-loop
 loop-holds c = (omega arith, omega arith, omega arith, omega arith, refl, kept-none)
@@ -53,8 +50,8 @@ loop-again c = let inv = c .before .before .loop .inv in (omega arith, inv .1, i
 same-length : tie.Need-same-length Inv-loop μ-loop
 same-length c = c .before .loop .inv .4
 
-returns-4 : tie.Need-returns-4 Inv-loop μ-loop
-returns-4 c = c .before .loop .inv .5
+returns-3 : tie.Need-returns-3 Inv-loop μ-loop
+returns-3 c = c .before .loop .inv .5
 
 pub put-element-spec : {M : Type 1} → statement M
 put-element-spec =
@@ -63,9 +60,8 @@ put-element-spec =
     Inv-loop
     μ-loop
     returns
+    add-if2
     returns-2
-    add-if3
-    returns-3
     loop-holds
     add-out
     shared-slice-read-out
@@ -75,4 +71,4 @@ put-element-spec =
     loop-less
     loop-again
     same-length
-    returns-4)
+    returns-3)
