@@ -17,9 +17,9 @@ const UNSET: u32 = 65537;
 const MOST: usize = 2000000;
 
 // The last command's kind, space, address and count, whether it rises, and whether its address stands in it; `still`: the
-// place of an earlier word whose increment the last record takes away, 0 if none. `pointer`: where the packet left that of the last
-// command's space; `single`: the place of the word of this space's last command if it has one element, 0 else; `pointers` and
-// `singles`: the same of the other spaces. The others are as in `cue::packer::Packer`.
+// place of an earlier word whose increment the last record takes away, 0 if none. `pointer`: where the packet left the pointer
+// of the last command's space; `single`: the place of that command's word if it has one element, 0 else. `pointers` and
+// `singles` are the same of the other spaces and their last commands, the rest is as in `cue::packer::Packer`.
 pub(crate) struct Draft {
     pub write: bool,
     pub space: u8,

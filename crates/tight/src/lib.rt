@@ -23,7 +23,8 @@ pub enum TightAnswer {
     Refused(Refusal),
 }
 
-// For a caller that has planned the list: it is good, and the proposal is no longer than its output. Of others nothing is promised.
+// For a caller that has planned the list, so that it is good and the proposal no longer than its output. Of others nothing is
+// promised.
 pub fn check_planned(list: &[u8], proposal: &[u8]) -> TightAnswer
     ensures { λ r. ⌜ ((xs : List Step) → recordsOf (now (list .entry)) ≡ records xs → length (now (proposal .entry)) ≤ length (output xs) → checkListed r ≡ checked (now (list .entry)) (now (proposal .entry))) ⌝ }
 {
