@@ -60,10 +60,9 @@ used-inside k s zero a d bytes l e = absurd (omega arith)
 used-inside k s (suc n) a d bytes l e = let h = last-inside k s n a d bytes e in omega arith
 
 module _ {p : Pointers} {open? : Bool} {reply : ℕ} {f : Fields} {rest : List ℕ} (c : Passed p open? reply f rest) where
-  pub info-rejected : (list : List ℕ) → isInfo (kindOf f) ≡ true → (q : Pointers)
-      → Taken.Rejected ≡ stepsTake (stepsAt q f rest) list
+  pub info-rejected : (list : List ℕ) → isInfo (kindOf f) ≡ true → Taken.Rejected ≡ stepsTake (stepsAt p f rest) list
   unfolding stepsAt
-  info-rejected list e q = sym (info-elements _ _ _ _ _ _ list e (c .some))
+  info-rejected list e = sym (info-elements _ _ _ _ _ _ list e (c .some))
 
   pub used-low : addressUsed p f rest ≤ 65536
   unfolding stepsAt rowBy
@@ -78,11 +77,12 @@ module _ {p : Pointers} {open? : Bool} {reply : ℕ} {f : Fields} {rest : List �
   bytes-behind h e = let w = c .whole in rw (tail-whole, length-drop, e) (omega arith)
 
   -- what the code says of the elements, handed the bytes behind the header
-  pub plain-taken : (list : List ℕ) → isInfo (kindOf f) ≡ false → (used h : ℕ) → h ≡ headerBytes f → (t : Taken)
+  pub plain-taken : (list : List ℕ) → isInfo (kindOf f) ≡ false → (used h : ℕ) → used ≡ addressUsed p f rest → h ≡ headerBytes f
+      → (t : Taken)
       → t
       ≡ stepsTake
       (elements (kindOf f) (spaceOf (f .space)) (f .count) used (stride f) (take (length rest - h) (drop h rest)))
       list
-      → (q : Pointers) → used ≡ addressUsed q f rest → t ≡ stepsTake (stepsAt q f rest) list
+      → t ≡ stepsTake (stepsAt p f rest) list
   unfolding stepsAt handed
-  plain-taken list e used h b t s q u = s ∙ rw (tail-whole, u, b, e)
+  plain-taken list e used h u b t q = q ∙ rw (tail-whole, u, b, e)

@@ -19,9 +19,8 @@ ghost use mathlib.Core.List.{List};
 ghost use Prim.Native.Nat.{_+_, _*_, _≤_};
 ghost use lib.ListN.{length};
 ghost use Rattle.lbp16.specs.Space.{spaceOf, isAbsent};
-ghost use Rattle.lbp16.specs.declared.pointer.Pointers.{Pointers};
 ghost use Rattle.packet.specs.Step.{Step, isInfo, carried};
-ghost use Rattle.packet.specs.Command.{pickKind, kindOf, addressUsed, stride, elements, stepsAt};
+ghost use Rattle.packet.specs.Command.{pickKind, kindOf, stride, elements, stepsAt};
 ghost use Rattle.packet.specs.Judge.{Carried, accepted, judge};
 ghost use Rattle.card.specs.Inside.{LetPass};
 ghost use Rattle.cue.specs.Records.{records, recordsOf, recordBytes};
@@ -134,14 +133,15 @@ fn elements_take(list: &[u8], f: Fields, used: u32, data: &[u8]) -> Taken
     Taken::Bytes(taken)
 }
 
-// A command that no rule refuses, at the front of `rest`, which uses the address `used`. No record is an info read.
-fn command_takes(list: &[u8], rest: &[u8], f: Fields, used: u32) -> Taken
-    requires { ⌜ ((p : Pointers) × (LetPass p f (now rest) × (used ≡ addressUsed p f (now rest)))) ⌝ }
-    ensures { λ r. ⌜ ((p : Pointers) → used ≡ addressUsed p f (now (rest .entry)) → r ≡ stepsTake (stepsAt p f (now (rest .entry))) (now (list .entry))) ⌝ }
+// A command that no rule refuses, at the front of `rest`. No record is an info read.
+fn command_takes(list: &[u8], rest: &[u8], p: Pointers, f: Fields) -> Taken
+    requires { ⌜ LetPass p f (now rest) ⌝ }
+    ensures { λ r. ⌜ r ≡ stepsTake (stepsAt p f (now (rest .entry))) (now (list .entry)) ⌝ }
 {
     if command::is_info(f) {
         return Taken::Rejected;
     }
+    let used = command::address_used(p, f, rest);
     let h = command::header_bytes(f);
     elements_take(list, f, used, &rest[h..])
 }
@@ -156,12 +156,12 @@ fn commands_take(list: &[u8], packet: &[u8], p: Pointers) -> Taken
     let mut taken: usize = 0;
     while 0 < rest.len() {
         let f = command::fields_at(rest);
-        let used = command::address_used(pointers, f, rest);
-        let next = command_takes(&list[taken..], rest, f, used);
+        let next = command_takes(&list[taken..], rest, pointers, f);
         let Taken::Bytes(n) = next else {
             return Taken::Rejected;
         };
         taken += n;
+        let used = command::address_used(pointers, f, rest);
         pointers = command::pointers_after(pointers, f, used);
         let k = command::command_bytes(f);
         rest = &rest[k..];

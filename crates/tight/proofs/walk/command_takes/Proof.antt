@@ -8,13 +8,16 @@ is-info-requires : tie.Need-is-info-requires
 is-info-requires c κs = search needs
 
 returns : tie.Need-returns
-returns c q u = info-rejected (c .before .before .before .before .pre .1 .0 .passed) _ (sym (c .before .is-info .ensures) ∙ c .if1 .taken) q
+returns c = info-rejected (c .before .before .before .before .pre .passed) _ (sym (c .before .is-info .ensures) ∙ c .if1 .taken)
+
+address-used-requires : tie.Need-address-used-requires
+address-used-requires c κs = search needs
 
 header-bytes-requires : tie.Need-header-bytes-requires
 header-bytes-requires c κs = search needs
 
 sub-elements-take : tie.Need-sub-elements-take
-sub-elements-take c = rw (c .header-bytes .ensures .0) (c .before .before .before .before .before .pre .1 .0 .passed .header)
+sub-elements-take c = rw (c .header-bytes .ensures .0) (c .before .before .before .before .before .before .pre .passed .header)
 
 part-elements-take-start : tie.Need-part-elements-take-start
 part-elements-take-start c = sub-elements-take c
@@ -24,17 +27,19 @@ part-elements-take-end c = search needs
 
 elements-take-requires : tie.Need-elements-take-requires
 elements-take-requires c κs =
-    let (q, (passes, uses)) = c .before .before .before .before .before .before .pre in
-    let p = passes .passed in (
+    let b = c .before .before .before in
+    let p = b .before .before .before .before .pre .passed in (
       p .present,
-      sym (c .before .before .before .is-info .ensures) ∙ c .before .before .if1 .left,
-      rw uses (used-low p),
+      sym (b .before .is-info .ensures) ∙ b .if1 .left,
+      rw (c .before .before .address-used .ensures) (used-low p),
       bytes-behind p _ (c .before .header-bytes .ensures .0),
     )
 
 returns-2 : tie.Need-returns-2
 returns-2 c =
-    plain-taken (c .before .before .before .before .before .before .before .pre .1 .0 .passed) _ (sym (c .before .before .before .before .is-info .ensures) ∙ c .before .before .before .if1 .left) _ _
+    let b = c .before .before .before .before in
+    plain-taken (b .before .before .before .before .pre .passed) _ (sym (b .before .is-info .ensures) ∙ b .if1 .left) _ _
+    (c .before .before .before .address-used .ensures)
     (c .before .before .header-bytes .ensures .0)
     _
     (c .elements-take .ensures)
@@ -45,6 +50,7 @@ command-takes-spec =
     (tie.spec
     is-info-requires
     returns
+    address-used-requires
     header-bytes-requires
     sub-elements-take
     part-elements-take-start

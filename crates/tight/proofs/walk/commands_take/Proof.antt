@@ -26,11 +26,8 @@ found : (c : tie.After-fields-at Inv-loop μ-loop)
 found c =
     record { going = c .before .before .loop .inv; more = c .before .loop-test .taken; read = c .fields-at .ensures }
 
-address-used-requires : tie.Need-address-used-requires Inv-loop μ-loop
-address-used-requires c κs = search needs
-
 sub-command-takes : tie.Need-sub-command-takes Inv-loop μ-loop
-sub-command-takes c = taken-within (c .before .before .before .loop .inv)
+sub-command-takes c = taken-within (c .before .before .loop .inv)
 
 part-command-takes-start : tie.Need-part-command-takes-start Inv-loop μ-loop
 part-command-takes-start c = sub-command-takes c
@@ -39,7 +36,7 @@ part-command-takes-end : tie.Need-part-command-takes-end Inv-loop μ-loop
 part-command-takes-end c = search needs
 
 command-takes-requires : tie.Need-command-takes-requires Inv-loop μ-loop
-command-takes-requires c κs = (_, (passed-here (found (c .before .before)), c .before .address-used .ensures))
+command-takes-requires c κs = passed-here (found (c .before))
 
 enum-known-next : tie.Need-enum-known-next Inv-loop μ-loop
 enum-known-next c = search needs
@@ -48,12 +45,16 @@ enum-told : tie.Need-enum-told Inv-loop μ-loop
 enum-told c = search needs
 
 returns : tie.Need-returns Inv-loop μ-loop
-returns c = going-rejected (found (c .before .before .before .before .before)) _ (c .before .before .command-takes .ensures _ (c .before .before .before .before .address-used .ensures)) (c .enum-told .given .1)
+returns c = going-rejected (found (c .before .before .before .before)) _ (c .before .before .command-takes .ensures) (c .enum-told .given .1)
 
 add-taken : tie.Need-add-taken Inv-loop μ-loop
 add-taken c =
-    let l = more-within (found (c .before .before .before .before .before .before)) _ (c .before .before .before .command-takes .ensures _ (c .before .before .before .before .before .address-used .ensures)) _ (c .before .next .given .1) in
-    omega (arith, c .before .before .before .before .before .before .before .before .before .before .before .good .0)
+    let b = c .before .before .before .before .before in
+    let l = more-within (found b) _ (c .before .before .before .command-takes .ensures) _ (c .before .next .given .1) in
+    omega (arith, b .before .before .before .before .before .good .0)
+
+address-used-requires : tie.Need-address-used-requires Inv-loop μ-loop
+address-used-requires c κs = search needs
 
 pointers-after-requires : tie.Need-pointers-after-requires Inv-loop μ-loop
 pointers-after-requires c κs = search needs
@@ -82,8 +83,10 @@ loop-less c =
 
 loop-again : tie.Need-loop-again Inv-loop μ-loop
 loop-again c =
-    going-next (found (fields (c .before))) _ (c .before .command-bytes .ensures) _ (c .before .before .before .before .before .before .command-takes .ensures _ (c .before .before .before .before .before .before .before .before .address-used .ensures)) _ (c .before .before .before .before .next .given .1) _
-    (c .before .before .before .before .before .before .before .before .address-used .ensures) _ (c .before .before .pointers-after .ensures)
+    let b = c .before in
+    let t = b .before .before .before .before in
+    going-next (found (fields b)) _ (b .command-bytes .ensures) _ (t .before .before .command-takes .ensures) _ (t .next .given .1) _
+    (b .before .before .address-used .ensures) _ (b .before .pointers-after .ensures)
 
 returns-2 : tie.Need-returns-2 Inv-loop μ-loop
 returns-2 c = going-last (c .before .loop .inv) (omega arith)
@@ -96,7 +99,6 @@ commands-take-spec =
     μ-loop
     loop-holds
     fields-at-requires
-    address-used-requires
     sub-command-takes
     part-command-takes-start
     part-command-takes-end
@@ -105,6 +107,7 @@ commands-take-spec =
     enum-told
     returns
     add-taken
+    address-used-requires
     pointers-after-requires
     command-bytes-requires
     sub-rest
