@@ -70,15 +70,15 @@ uint32_t head_check(const uint8_t *packet, size_t packet_length,
  * count like any cell. A refused packet does not count.
  * Refused: the place is the offset of the command's first byte in the packet, but 0 for 1 and 2.
  *
- *    1  the store is not whole, or a pointer stands above its space's size: 65,728 bytes; 16 for an info area; also a
- *       reply not of 1,472 bytes, and another number of pointers than 8
+ *    1  the store is not whole (65,728 bytes), or a pointer stands above the size of its space or info area (16 bytes);
+ *       also a reply not of 1,472 bytes, and another number of pointers than 8
  *    2  the packet is above 1,472 bytes
  *    3  command word or its address cut off
  *    4  info bit set in a write
  *    5  the card has no such space: 1, 3, 4 or 5
  *    6  element size not the space's, or not 2 bytes in an info read
  *    7  count 0, no element is named
- *    8  address not a multiple of the element size, or an element past the space's end: the info area's in an info read
+ *    8  address not a multiple of the element size, or an element past the end of the space or info area
  *    9  a write to read-only cells, any of space 7 or those of space 2 below 0x20
  *   10  a write to space 2 while the unlock is closed
  *   11  write data cut off

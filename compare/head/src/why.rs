@@ -58,14 +58,14 @@ pub fn sentence(number: u32) -> &'static str {
 
 /// From refusal 1 on, in the words of the program `why`.
 const SENTENCES: [&str; 12] = [
-    "the store is not whole, or a pointer stands above its space's size",
+    "the store is not whole, or a pointer stands above the size of its space or info area",
     "the packet is above 1,472 bytes",
     "command word or its address cut off",
     "info bit set in a write",
     "the card has no such space",
     "element size not the space's, or not 2 bytes in an info read",
     "count 0, no element is named",
-    "address not a multiple of the element size, or an element past the space's end",
+    "address not a multiple of the element size, or an element past the end of the space or info area",
     "a write to read-only cells, any of space 7 or those of space 2 below 0x20",
     "a write to space 2 while the unlock is closed",
     "write data cut off",

@@ -187,7 +187,7 @@ fn reasons() {
     assert_eq!((reason.index, reason.fields), (1, head::fields(0x0281)));
     assert_eq!(
         reason.to_string(),
-        "refused 8 at 4: address not a multiple of the element size, or an element past the space's end"
+        "refused 8 at 4: address not a multiple of the element size, or an element past the end of the space or info area"
     );
     assert_eq!(head::why(&packet[..4], &store, &[0; POINTERS]), None);
     assert_eq!(head::why(&[], &store, &[0; POINTERS]), None);

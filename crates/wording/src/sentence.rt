@@ -23,7 +23,7 @@ pub(crate) fn put(out: &mut [u8], at: usize, number: u32) -> usize
     );
     let t = pick(
         number == 8,
-        b"address not a multiple of the element size, or an element past the space's end",
+        b"address not a multiple of the element size, or an element past the end of the space or info area",
         t,
     );
     let t = pick(number == 7, b"count 0, no element is named", t);
@@ -38,7 +38,7 @@ pub(crate) fn put(out: &mut [u8], at: usize, number: u32) -> usize
     let t = pick(number == 2, b"the packet is above 1,472 bytes", t);
     let t = pick(
         number == 1,
-        b"the store is not whole, or a pointer stands above its space's size",
+        b"the store is not whole, or a pointer stands above the size of its space or info area",
         t,
     );
     text::text(out, at, t)

@@ -43,7 +43,7 @@ fn answers_and_logs() {
     assert_eq!(
         card.line(),
         "6 bytes, 81 42 FC FF 81 02: refused 8 at 4: \
-         address not a multiple of the element size, or an element past the space's end"
+         address not a multiple of the element size, or an element past the end of the space or info area"
     );
     socket.send(&[0x01, 0x59, 0x0A, 0x00]).unwrap();
     assert_eq!(reply(&socket), [2, 0]);
