@@ -1,18 +1,33 @@
-/* The head controller: LBP16 packets and SPI bursts on a card store, cue lists, and command words.
+/* The head controller: LBP16 packets and SPI bursts on a card store, command words, cue lists, recorded shows, and the
+ * fields and readings of daughter cards.
  *
- * Every function returns 0 if it accepts, else the number of the refusal. A refused call changes nothing that it was
- * lent but the answers: *value (or *bytes) then holds the refusal's place, and *packets 0. If several refusals apply, 1
- * comes first, then 2, then those of the earliest failing command or record, the lowest number first.
+ * Every function but head_panel_report, which refuses nothing and returns nothing, returns 0 if it accepts, else the
+ * number of the refusal.
+ *
+ * A refused call changes nothing that it was lent but these answers: *value or *bytes then holds the refusal's place;
+ * *packets, *elements, *entries, *inputs and *outputs hold 0; what *taken, *place, *index, *list and head_why's fields hold is
+ * said at the function. All else keeps what it held, *word, *mask and *reading_bits too. Two functions change more:
+ *   - head_part keeps a fault of the list (21 to 24) in the state, so that later calls repeat it;
+ *   - head_judge leaves store and pointers, for 61 to 65, as the packets accepted before the fault leave them.
+ *
+ * If several refusals apply, 1 comes first, then 2, then those of the earliest failing command or record, the lowest number
+ * first. Of these functions it is otherwise, or more is to be said:
+ *   - head_why gives 13 before 1, and head_part 26 before 1;
+ *   - head_table, head_field, head_pack and head_unpack give 41, then 42, then 40;
+ *   - head_salvage gives 26, then 27; head_panel_reading 44, then 45, then 46;
+ *   - 26 of head_compile and head_tighten, and 50 and 51, are given only where the lists are good;
+ *   - head_judge gives 1, then the first fault in the recording.
  *
  * What a caller owes:
- *   - A buffer is given as a pointer and then its number of elements (bytes, or 32-bit words).
+ *   - A buffer is given as a pointer and then its number of elements (bytes, or numbers of 32 or of 64 bits).
  *   - No pointer may be null, not even that of a buffer with a length of 0.
  *   - Pointers are aligned for their type, and all that is lent holds a value, also what is only written: clear
- *     the rooms for reply, answer, output, fields, word and value before the first call.
+ *     all rooms and all that takes an answer before the first call.
  *   - Nothing lent to a call may overlap anything else lent to it, *value included, and nobody else may
  *     touch it before the call returns.
  *
- * The functions keep nothing between calls: the card's state is the store and the pointers, which the caller keeps.
+ * The functions keep nothing between calls. The card's state is the store and the pointers, that of a list in parts its
+ * HEAD_PART_BYTES bytes; the caller keeps them.
  */
 #ifndef HEAD_H
 #define HEAD_H
@@ -139,15 +154,18 @@ uint32_t head_word(const uint8_t *fields, size_t fields_length, uint16_t *word);
  *   pointers  8 numbers, each at most its space's size, or 16 for an info area
  *   place     takes the offset of the command's first byte in the packet
  *   index     takes the command's index in the packet, from 0
- *   fields    room for the 7 bytes of head_fields; takes the command's fields, all 0 where its word is cut off
+ *   fields    room for the 7 bytes of head_fields; takes the command's fields, all 0 where its word is cut off (3)
  *
+ * The address that the command uses is not given. If the second field is 1, it stands behind the word (for 3 it is cut off);
+ * else it is the pointer of the space, or that of its info area in an info read, as the commands before leave it: head_run of
+ * the bytes before the place, on a copy of store and pointers, shows it.
  * Returns 0 if the packet would be run, and place, index and fields are then 0. Else the number of the refusal:
  *
  *    1  as head_check gives it, also for another pointers_length than 8, and
  *    2  packet above 1,472 bytes: these name no command, and place, index and fields are 0
  *   3 to 12  as head_run gives them. The bytes of the packet before the place alone are a packet that is accepted, from the
  *       same store and pointers.
- *   13  fields_length is not 7; place and index are 0 and nothing else is written. This comes first.
+ *   13  fields_length is not 7; place and index are 0 and nothing else is written. This comes before 1.
  */
 uint32_t head_why(const uint8_t *packet, size_t packet_length,
                   const uint8_t *store, size_t store_length,
@@ -166,7 +184,8 @@ uint32_t head_why(const uint8_t *packet, size_t packet_length,
  * same, and a 32-bit value, low byte first, whose upper half is 0 in a space of 2-byte elements. At most 100,000 records.
  * Accepted: returns 0. Before each packet stand the mark "LB" (4C 42) and its length, 2 bytes, low byte first; out beyond the
  * output is unchanged. Running the packets in order with head_run reads the values and leaves the cells that doing the
- * records one by one would, the unlock cell and the packet count apart; the count rises by the number of packets. Twice the list's length is always room enough.
+ * records one by one would, the unlock cell and the packet count apart; the count rises by the number of packets. Twice
+ * the list's length is always room enough.
  * Refused: the place is the record's index from 0, but the bytes needed for 26.
  *
  *   21  100,000 records read and bytes remain
@@ -236,11 +255,12 @@ uint32_t head_tight_check(const uint8_t *list, size_t list_length,
  * the scan goes on behind it; any other byte is skipped, and the scan goes on behind that byte. Skipped bytes that touch are
  * one stretch.
  * Accepted: returns 0. The records kept stand in out, in order, and the stretches skipped in log; what is beyond is
- * unchanged in both. The output is a list that head_compile takes, unless it has more than 100,000 records (21). A good
- * list comes out unchanged, with no entries. An entry for every seven bytes of the list, and one more, is always room enough.
+ * unchanged in both. head_compile takes the output, unless it has more than 100,000 records (21) or the room lent there is too
+ * small (26). A good list comes out unchanged, with no entries. An entry for every seven bytes of the list, and one more, is
+ * always room enough.
  *
  *   26  out_length below list_length, which is the place
- *   27  log for fewer entries than needed; their number is the place
+ *   27  room enough in out, and log for fewer entries than needed; their number is the place
  */
 uint32_t head_salvage(const uint8_t *list, size_t list_length,
                       uint8_t *out, size_t out_length,
@@ -341,9 +361,9 @@ void head_panel_report(uint8_t asked, uint8_t faults,
  *
  *   44  type not 2 (unsigned, not the nonvolatile 4), width not 1 to 24, or value too large for the width
  *   45  a bound that is an infinity or a NaN, or a maximum not above the minimum
- *   46  the product is not finite
+ *   46  the value times the maximum is not finite
  *
- * Refused: *reading_bits keeps its value.
+ * They are asked in this order. Refused: *reading_bits keeps its value.
  */
 uint32_t head_panel_reading(uint32_t type, uint32_t width, uint64_t value,
                             uint32_t minimum_bits, uint32_t maximum_bits, uint32_t *reading_bits);
@@ -361,13 +381,19 @@ uint32_t head_panel_reading(uint32_t type, uint32_t width, uint64_t value,
  * A packet is finished when a record, wholly taken, opens the next one, or where the list ends. At the list's end call again,
  * with last not 0 and the bytes not yet taken, until 0 bytes are written: then all packets are out. However the list is cut,
  * the packets are those that head_compile writes for the whole list.
- * Refused: number and place are those of the whole list. The byte that shows the fault counts as taken; nothing is written
- * and the open packet is dropped; packets that came out before stand. Later calls repeat the refusal and take nothing.
- * After the list's end calls take and write nothing and return 0.
+ * A fault of the list, 21 to 24, has the number and the place that head_compile gives the whole list. The byte that shows it
+ * counts as taken; out is unchanged and the open packet is dropped; packets that came out before stand. The state keeps the
+ * fault: later calls repeat it and take nothing. After the list's end calls take and write nothing and return 0.
  *
- *   26  out_length below HEAD_PART_ROOM; the place is HEAD_PART_ROOM, nothing is taken and the state stays
- *    1  state_length is not HEAD_PART_BYTES, or the state holds numbers that no call leaves there; place 0, nothing changes
- *   21 to 24 as head_compile: an unknown mark at the record's second byte, 21 at the first byte behind the
+ *   26  out_length below HEAD_PART_ROOM, which is the place; nothing is taken, state and out are unchanged. This is asked first
+ *       at every call, also after a fault or the list's end.
+ *    1  state_length is not HEAD_PART_BYTES, or a number in the state is out of its range; place 0, nothing is taken, state and
+ *       out are unchanged. The ranges: byte 0 (what stands) 0, 1 or 21 to 24; byte 1 (bytes collected of the next record) at
+ *       most 9; bytes 12 to 15 (records taken), low byte first as all of these, at most 100,000; and while a packet is open,
+ *       which is when bytes 22 and 23 (its length) are not both 0, these at most 1,472, bytes 24 and 25 (its reply's length) at
+ *       most 1,472, byte 17 (the last command's space) at most 7, byte 20 (its count) at most 127, bytes 26 and 27 (its place
+ *       behind the mark) at most the packet's length. A state that was 0 and that only these calls changed is never refused.
+ *   21 to 24  as head_compile: an unknown mark at the record's second byte, 21 at the first byte behind the
  *       hundred-thousandth record, a record that is cut at the list's end (22), the others at the record's last byte
  */
 #define HEAD_PART_BYTES 1504
@@ -393,8 +419,8 @@ uint32_t head_part(uint8_t *state, size_t state_length,
  * It uses about 70 KB of stack.
  *
  *   21 to 24  as head_compile refuses that list
- *   51        the second list's record at place writes a cell which the first names, or names a cell which the first writes; it is
- *             the first such record
+ *   51        the second list's record at place writes a cell which the first names, or names a cell which the first writes; it
+ *             is the first such record
  */
 uint32_t head_independent(const uint8_t *first, size_t first_length,
                           const uint8_t *second, size_t second_length,
@@ -420,7 +446,8 @@ uint32_t head_independent(const uint8_t *first, size_t first_length,
  *   64  cut: the recording ends inside a part, or where a reply should begin
  *   65  a part without the mark
  *
- * Store and pointers are left as the packets accepted so far leave them, also where a reply is then at fault.
+ * Store and pointers are left as the packets accepted so far leave them, also where a reply is then at fault. 1 is asked
+ * before all else.
  */
 uint32_t head_judge(const uint8_t *show, size_t show_length,
                     uint8_t *store, size_t store_length,

@@ -92,7 +92,10 @@ stateOf s =
       packet = record { packer = packerAt s; room = drop 28 s };
     }
 
--- A state that is no good: of another length, or with a number that no call leaves.
+-- Refusal 1: a state of another length, or with a number out of its range. What stands is 0, 1 or 21 to 24; at most 9 bytes are
+-- collected, and at most 100,000 records taken. Of an open packet its last command has a space of at most 7 and a count of at
+-- most 127, packet and reply have at most 1,472 bytes each, and the word's place is at most the packet's bytes. Kind, address and
+-- unlock may be anything, and all of them while no packet is open.
 unfoldable pub badNumbers : ℕ → ℕ → ℕ → Packer → List Bool
 badNumbers stands collected index p =
     ltb 24 stands
