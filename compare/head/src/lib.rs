@@ -50,13 +50,14 @@ pub const PACKET_BYTES: usize = 1_472;
 /// spaces' info areas.
 pub const POINTERS: usize = 8;
 
-/// Why a call was turned away. A refused call has changed nothing that it was lent.
+/// Why a call was turned away. A refused call has changed nothing that it was lent, but that
+/// [`parts::Compiler`] keeps a fault of its list.
 #[derive(Clone, Copy, Debug, PartialEq, Eq)]
 pub struct Refusal {
     /// Which rule was broken: never 0.
     pub number: u32,
     /// The offset of the refused command, the number of the refused record, the bytes needed
-    /// (refusal 26), or 0.
+    /// (refusal 26), the log entries needed (27), or 0.
     pub place: u64,
 }
 
