@@ -19,7 +19,7 @@ use Rattle.salvage.proofs.LoopLaws.{log-length}
 use Rattle.salvage.proofs.SalvageLaws.{both-fit, whole}
 use Rattle.salvage.proofs.EntryLaws.{few-entries, spaced, spaced-wider, output-length, records-few}
 use Rattle.account.specs.Account.{answered, lineOnly, fixed, accounted, accountOf, keptLine, linesOf, usageLine, tooLongLine, Said, mostBytes, mostRead}
-use Rattle.account.specs.declared.Wish.{Wish}
+use Rattle.account.specs.declared.Request.{Request}
 use Rattle.account.specs.Inside.{Readable, Lined, Taken}
 
 -- a text at a room's front
@@ -147,41 +147,41 @@ line-said line room room₁ log n h l =
     let m : n ≡ length line = l .behind ∙ zero-add _ in
     record { count = m; front = rw (m, l .written) (front-reads line room h); room-left = l .written; log-left = refl }
 
-pub list-not-usage : (w : Wish) → w ≡ Wish.List → w ≡ Wish.Usage → ⊥
+pub list-not-usage : (w : Request) → w ≡ Request.List → w ≡ Request.Usage → ⊥
 list-not-usage w e f = let z : _≡_ {A = ℕ} 0 1 = cc in omega arith
 
-pub log-not-usage : (w : Wish) → w ≡ Wish.Log → w ≡ Wish.Usage → ⊥
+pub log-not-usage : (w : Request) → w ≡ Request.Log → w ≡ Request.Usage → ⊥
 log-not-usage w e f = let z : _≡_ {A = ℕ} 0 1 = cc in omega arith
 
--- what is wished for decides
-module _ (w : Wish) (list room log room₁ : List ℕ) (n : ℕ) (size : 64 ≤ length room) where
-  pub usage-said : w ≡ Wish.Usage → Lined usageLine 0 room room₁ n → Said (answered w list room log) room₁ log n
+-- what is asked for decides
+module _ (w : Request) (list room log room₁ : List ℕ) (n : ℕ) (size : 64 ≤ length room) where
+  pub usage-said : w ≡ Request.Usage → Lined usageLine 0 room room₁ n → Said (answered w list room log) room₁ log n
   unfolding answered usageLine ascii
   usage-said e l = rw e (line-said usageLine room room₁ log n (omega arith) l)
 
-  pub too-long-said : (w ≡ Wish.Usage → ⊥) → mostBytes < length list → Lined tooLongLine 0 room room₁ n
+  pub too-long-said : (w ≡ Request.Usage → ⊥) → mostBytes < length list → Lined tooLongLine 0 room room₁ n
       → Said (answered w list room log) room₁ log n
   unfolding answered tooLongLine ascii
   too-long-said e h l = go w e
     where
-      go : (v : Wish) → (v ≡ Wish.Usage → ⊥) → Said (answered v list room log) room₁ log n
-      go Wish.Usage e = absurd (e refl)
-      go Wish.List e = rw (lt-ltb mostBytes (length list) h) (line-said tooLongLine room room₁ log n (omega arith) l)
-      go Wish.Log e = rw (lt-ltb mostBytes (length list) h) (line-said tooLongLine room room₁ log n (omega arith) l)
+      go : (v : Request) → (v ≡ Request.Usage → ⊥) → Said (answered v list room log) room₁ log n
+      go Request.Usage e = absurd (e refl)
+      go Request.List e = rw (lt-ltb mostBytes (length list) h) (line-said tooLongLine room room₁ log n (omega arith) l)
+      go Request.Log e = rw (lt-ltb mostBytes (length list) h) (line-said tooLongLine room room₁ log n (omega arith) l)
 
-  pub list-answered : (log₁ : List ℕ) → w ≡ Wish.List → length list ≤ mostBytes → Said (fixed list room log) room₁ log₁ n
+  pub list-answered : (log₁ : List ℕ) → w ≡ Request.List → length list ≤ mostBytes → Said (fixed list room log) room₁ log₁ n
       → Said (answered w list room log) room₁ log₁ n
   unfolding answered
   list-answered log₁ e h s = rw (e, le-ltb mostBytes (length list) h) s
 
-  pub log-answered : (log₁ : List ℕ) → w ≡ Wish.Log → length list ≤ mostBytes → Said (accounted list room log) room₁ log₁ n
+  pub log-answered : (log₁ : List ℕ) → w ≡ Request.Log → length list ≤ mostBytes → Said (accounted list room log) room₁ log₁ n
       → Said (answered w list room log) room₁ log₁ n
   unfolding answered
   log-answered log₁ e h s = rw (e, le-ltb mostBytes (length list) h) s
 
 -- the program's room for its input is large enough
-pub most-read-within : (w : Wish) → mostRead w ≤ 1000001
+pub most-read-within : (w : Request) → mostRead w ≤ 1000001
 unfolding mostRead
-most-read-within Wish.Usage = omega arith
-most-read-within Wish.List = omega arith
-most-read-within Wish.Log = omega arith
+most-read-within Request.Usage = omega arith
+most-read-within Request.List = omega arith
+most-read-within Request.Log = omega arith

@@ -8,7 +8,7 @@ use lib.Seq.{sets}
 use lib.Dec.{eqb, ltb}
 use Rattle.report.specs.Text.{ascii, pairLine}
 use Rattle.salvage.specs.Salvage.{scan, keptCount, output, logged}
-use Rattle.account.specs.declared.Wish.{Wish}
+use Rattle.account.specs.declared.Request.{Request}
 
 -- the most bytes that a list may have: those of a hundred thousand writes
 abbrev pub mostBytes : ℕ
@@ -65,10 +65,10 @@ accounted list room log =
       log = sets log 0 (logged list);
     }
 
-unfoldable pub answered : Wish → List ℕ → List ℕ → List ℕ → Left
-answered Wish.Usage list room log = lineOnly usageLine room log
-answered Wish.List list room log = cond (ltb mostBytes (length list)) (lineOnly tooLongLine room log) (fixed list room log)
-answered Wish.Log list room log = cond (ltb mostBytes (length list)) (lineOnly tooLongLine room log) (accounted list room log)
+unfoldable pub answered : Request → List ℕ → List ℕ → List ℕ → Left
+answered Request.Usage list room log = lineOnly usageLine room log
+answered Request.List list room log = cond (ltb mostBytes (length list)) (lineOnly tooLongLine room log) (fixed list room log)
+answered Request.Log list room log = cond (ltb mostBytes (length list)) (lineOnly tooLongLine room log) (accounted list room log)
 
 -- The text stands at the front of the room, n bytes of it.
 pub record Said (left : Left) (room log : List ℕ) (n : ℕ) : Type 0 where
@@ -77,7 +77,7 @@ pub record Said (left : Left) (room log : List ℕ) (n : ℕ) : Type 0 where
   pub room-left : room ≡ left .room
   pub log-left : log ≡ left .log
 
--- What is wished for: by no argument the list, by "--log" alone the account, by anything else how the program is used.
+-- What is asked for: by no argument the list, by "--log" alone the account, by anything else how the program is used.
 unfoldable pub isLog : List ℕ → Bool
 isLog word =
     eqb (length word) 5 && eqb (getD word 0 0) 45 && eqb (getD word 1 0) 45 && eqb (getD word 2 0) 108
@@ -85,11 +85,11 @@ isLog word =
     && eqb (getD word 4 0) 103
 
 -- `count`: the program's name and its arguments
-unfoldable pub wished : ℕ → List ℕ → Wish
-wished count word = cond (eqb count 1) Wish.List (cond (eqb count 2 && isLog word) Wish.Log Wish.Usage)
+unfoldable pub requested : ℕ → List ℕ → Request
+requested count word = cond (eqb count 1) Request.List (cond (eqb count 2 && isLog word) Request.Log Request.Usage)
 
 -- the bytes of standard input that are looked at: one more than a list may have, so that a longer one is noticed
-unfoldable pub mostRead : Wish → ℕ
-mostRead Wish.Usage = 0
-mostRead Wish.List = 1000001
-mostRead Wish.Log = 1000001
+unfoldable pub mostRead : Request → ℕ
+mostRead Request.Usage = 0
+mostRead Request.List = 1000001
+mostRead Request.Log = 1000001

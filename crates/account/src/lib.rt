@@ -7,14 +7,14 @@ mod lines;
 ghost use mathlib.Core.Path.{_≡_};
 ghost use Prim.Native.Nat.{_≤_};
 ghost use lib.ListN.{length};
-ghost use Rattle.account.specs.Account.{answered, fixed, accounted, Said, isLog, wished, mostRead, usageLine, tooLongLine};
+ghost use Rattle.account.specs.Account.{answered, fixed, accounted, Said, isLog, requested, mostRead, usageLine, tooLongLine};
 ghost use Rattle.account.specs.Inside.{Taken, Lined};
 
 // The most bytes that a list may have.
 const MOST: usize = 1000000;
 
 // What the program is asked for.
-pub enum Wish {
+pub enum Request {
     List,
     Log,
     Usage,
@@ -34,26 +34,26 @@ fn is_log(word: &[u8]) -> bool
 }
 
 // `count`: how many words the program was started with, its name among them; `word`: the first behind it.
-pub fn wish_of(count: usize, word: &[u8]) -> Wish
-    ensures { λ r. ⌜ r ≡ wished count (now (word .entry)) ⌝ }
+pub fn request_of(count: usize, word: &[u8]) -> Request
+    ensures { λ r. ⌜ r ≡ requested count (now (word .entry)) ⌝ }
 {
     if count == 1 {
-        return Wish::List;
+        return Request::List;
     }
     if (count == 2) & is_log(word) {
-        return Wish::Log;
+        return Request::Log;
     }
-    Wish::Usage
+    Request::Usage
 }
 
 // The bytes of standard input that are looked at: one more than a list may have, and none where nothing is done with them.
-pub fn most_read(wish: Wish) -> usize
-    ensures { λ r. ⌜ r ≡ mostRead wish ⌝ }
+pub fn most_read(request: Request) -> usize
+    ensures { λ r. ⌜ r ≡ mostRead request ⌝ }
 {
-    match wish {
-        Wish::Usage => 0,
-        Wish::List => 1000001,
-        Wish::Log => 1000001,
+    match request {
+        Request::Usage => 0,
+        Request::List => 1000001,
+        Request::Log => 1000001,
     }
 }
 
@@ -94,18 +94,23 @@ fn put_too_long(room: &mut [u8]) -> usize
 }
 
 // The bytes to write stand at the front of the room; how many they are is answered.
-pub fn answer(wish: Wish, input: &[u8], room: &mut [u8; 3715000], log: &mut [u64; 285716]) -> usize
-    ensures { λ r. ⌜ Said (answered wish (now (input .entry)) (now (room .entry)) (now (log .entry))) (now (room .exit)) (now (log .exit)) r ⌝ }
+pub fn answer(
+    request: Request,
+    input: &[u8],
+    room: &mut [u8; 3715000],
+    log: &mut [u64; 285716],
+) -> usize
+    ensures { λ r. ⌜ Said (answered request (now (input .entry)) (now (room .entry)) (now (log .entry))) (now (room .exit)) (now (log .exit)) r ⌝ }
 {
-    match wish {
-        Wish::Usage => put_usage(room),
-        Wish::List => {
+    match request {
+        Request::Usage => put_usage(room),
+        Request::List => {
             if MOST < input.len() {
                 return put_too_long(room);
             }
             put_list(input, room, log)
         }
-        Wish::Log => {
+        Request::Log => {
             if MOST < input.len() {
                 return put_too_long(room);
             }

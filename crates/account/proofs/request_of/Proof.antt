@@ -1,23 +1,23 @@
 use borrow.Author.Tests.{eq-eqb, ne-eqb}
-use Rattle.account.specs.Account.{wished}
+use Rattle.account.specs.Account.{requested}
 use borrow.Author.Needs.{needs}
-use Rattle.account.proofs.wish_of.Statement.{statement}
-use Rattle.account.proofs.wish_of.Tie as tie
+use Rattle.account.proofs.request_of.Statement.{statement}
+use Rattle.account.proofs.request_of.Tie as tie
 
 returns : tie.Need-returns
-unfolding wished
+unfolding requested
 returns c = rw (eq-eqb _ _ (c .if1 .taken))
 
 is-log-requires : tie.Need-is-log-requires
 is-log-requires c κs = search needs
 
 returns-2 : tie.Need-returns-2
-unfolding wished
+unfolding requested
 returns-2 c = rw (ne-eqb _ _ (c .before .before .if1 .left), ← c .before .is-log .ensures, c .if2 .taken)
 
 returns-3 : tie.Need-returns-3
-unfolding wished
+unfolding requested
 returns-3 c = rw (ne-eqb _ _ (c .before .before .if1 .left), ← c .before .is-log .ensures, c .if2 .left)
 
-pub wish-of-spec : {M : Type 1} → statement M
-wish-of-spec = tie.close (tie.spec returns is-log-requires returns-2 returns-3)
+pub request-of-spec : {M : Type 1} → statement M
+request-of-spec = tie.close (tie.spec returns is-log-requires returns-2 returns-3)
