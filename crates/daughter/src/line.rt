@@ -3,10 +3,10 @@ use crate::text;
 use lbp16::Refusal;
 use sserial::call;
 use sserial::call::CallAnswer;
+use sserial::count;
+use sserial::count::TableAnswer;
 use sserial::field;
 use sserial::field::FieldAnswer;
-use sserial::survey;
-use sserial::survey::TableAnswer;
 use sserial::table::Direction;
 use sserial::table::Field;
 
@@ -18,7 +18,7 @@ fn refusal(r: Refusal) {
 }
 
 pub(crate) fn counts(memory: &[u8], table: u16) {
-    let answer = survey::survey(memory, table);
+    let answer = count::count_fields(memory, table);
     match answer {
         TableAnswer::Fields { inputs, outputs } => {
             text::say(b" fields in ");

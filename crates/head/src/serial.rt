@@ -1,10 +1,10 @@
 // Daughter card fields. `table` is the table's address in the card's memory; direction 0 are the inputs, 1 the outputs.
 use sserial::call;
 use sserial::call::CallAnswer;
+use sserial::count;
+use sserial::count::TableAnswer;
 use sserial::field;
 use sserial::field::FieldAnswer;
-use sserial::survey;
-use sserial::survey::TableAnswer;
 use sserial::table::Direction;
 use sserial::table::Field;
 ghost use mathlib.Core.Path.{_≡_};
@@ -58,7 +58,7 @@ fn call_number(answer: CallAnswer) -> u32
 fn table_or_40(memory: &[u8], table: u16) -> u32
     ensures { λ r. ⌜ r ≡ numberOf (orRefused (checkedAt (now (memory .entry)) table)) ⌝ }
 {
-    let answer = survey::survey(memory, table);
+    let answer = count::count_fields(memory, table);
     match answer {
         TableAnswer::Fields {
             inputs: _,
@@ -102,7 +102,7 @@ fn put_field(f: Field, words: &mut [u32])
 pub extern "C" fn head_table(memory: &[u8], table: u16, inputs: &mut u64, outputs: &mut u64) -> u32
     ensures { λ r. ⌜ tableLeft r (now (inputs .exit)) (now (outputs .exit)) ≡ exportTable (checkedAt (now (memory .entry)) table) ⌝ }
 {
-    let answer = survey::survey(memory, table);
+    let answer = count::count_fields(memory, table);
     *inputs = table_inputs(answer);
     *outputs = table_outputs(answer);
     table_number(answer)

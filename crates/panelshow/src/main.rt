@@ -6,10 +6,10 @@ mod text;
 use lbp16::Refusal;
 use libc::STDIN_FILENO;
 use sserial::call;
+use sserial::count;
+use sserial::count::TableAnswer;
 use sserial::field;
 use sserial::field::FieldAnswer;
-use sserial::survey;
-use sserial::survey::TableAnswer;
 use sserial::table::Direction;
 
 fn pair(low: u8, high: u8) -> u16 {
@@ -67,7 +67,7 @@ fn incoming(memory: &[u8], table: u16, n: usize, registers: &[u32], room: &mut [
 }
 
 fn card(memory: &[u8], table: u16, registers: &[u32]) {
-    let answer = survey::survey(memory, table);
+    let answer = count::count_fields(memory, table);
     match answer {
         TableAnswer::Refused(r) => refused(r),
         TableAnswer::Fields { inputs, outputs: _ } => {

@@ -14,7 +14,7 @@ use Rattle.sserial.specs.Table.{Table, fields, Checked, laid, checkedAt,
 use Rattle.sserial.specs.Table as table
 use Rattle.sserial.specs.Layout.{joined, wordsOf, packed, unpacked, inRange, fitting}
 use Rattle.sserial.specs.Calls.{noChannel, packedBy, packedTo, Outcome, unpackedBy, unpackedTo, counted}
-use Rattle.sserial.specs.Inside.{Each, Wide, AllWide, Layable, fieldsIn, fieldsLeft, chosen, rowsFrom, flat}
+use Rattle.sserial.specs.Inside.{Each, Wide, AllWide, Packable, fieldsIn, fieldsLeft, chosen, rowsFrom, flat}
 use Rattle.sserial.specs.declared.table.Field.{Field}
 use Rattle.sserial.specs.declared.table.Direction.{Direction}
 use Rattle.sserial.specs.declared.table.Direction.the-variants.{Inputs, Outputs}
@@ -141,8 +141,8 @@ module _ (m : List ℕ) (table : ℕ) (d : Direction) where
   unfolding fieldsLeft fieldsIn
   left-laid l = rw (l .here) refl
 
-  pub layable : (i o n : ℕ) → Counts (tableAt m table) i o → n ≡ chosen d i o → Layable d m table 0 n
-  layable i o n k e =
+  pub packable : (i o n : ℕ) → Counts (tableAt m table) i o → n ≡ chosen d i o → Packable d m table 0 n
+  packable i o n k e =
       let s = left-laid (k .laid) in
       let b = laid-bits (k .laid .fs) (k .laid .fits) d in
       record {

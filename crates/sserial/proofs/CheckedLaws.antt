@@ -1,4 +1,4 @@
--- What a survey's answer says of the table.
+-- What the answer of counting the fields says of the table.
 use Prim.Native.Nat.{ℕ, _+_, _≤_, _<_}
 use mathlib.Core.Path.{_≡_, refl, sym, ap, _∙_}
 use mathlib.Core.Bool.{Bool, true, false, cond}
@@ -12,7 +12,7 @@ use Rattle.sserial.specs.Table as table
 use Rattle.sserial.specs.Calls.{counted, tableListed}
 use Rattle.sserial.specs.declared.table.Field.{Field}
 use Rattle.sserial.specs.declared.table.Direction.the-variants.{Inputs, Outputs}
-use Rattle.sserial.specs.declared.survey.TableAnswer.{TableAnswer}
+use Rattle.sserial.specs.declared.count.TableAnswer.{TableAnswer}
 
 -- a table that is not refused, with its fields
 pub record Laid (t : Table) : Type 0 where
@@ -24,7 +24,7 @@ pub laid-checked : (t : Table) (l : Laid t) → checked t ≡ laid (l .fs)
 unfolding checked
 laid-checked t l = rw (l .here, l .fits) refl
 
--- a refused survey is the table's refusal
+-- a refused count is the table's refusal
 pub refused-checked : (k : Checked) (n p : ℕ) → refused n p ≡ counted k → (k ≡ table.refused n) × (p ≡ 0)
 unfolding counted
 refused-checked (table.refused n) m p e = (cc, cc)

@@ -16,7 +16,7 @@ use Rattle.sserial.specs.declared.table.Entry.{Entry}
 use Rattle.sserial.specs.declared.table.Entry.the-variants.{End, Unreadable, Mode}
 use Rattle.sserial.specs.declared.table.Direction.{Direction}
 use Rattle.sserial.proofs.TableLaws.{readable, entry-lent}
-use Rattle.sserial.proofs.SurveyLaws.{table-next}
+use Rattle.sserial.proofs.CountLaws.{table-next}
 use Rattle.sserial.proofs.CheckedLaws.{Laid, laid-checked, refused-checked}
 
 abbrev pub isField : Entry → Bool

@@ -3,7 +3,7 @@ pub mod LayoutLaws
 pub mod BitLaws
 pub mod ChannelLaws
 pub mod TableLaws
-pub mod SurveyLaws
+pub mod CountLaws
 pub mod CheckedLaws
 pub mod FieldLaws
 pub mod WalkLaws

@@ -39,7 +39,7 @@ and-all true = refl
 and-all false = refl
 
 -- packing: j values are laid into the words below bit `low`
-pub record Laying (fs₀ : List Field) (vs : List ℕ) (fs : List Field) (words : List ℕ) (good : Bool) (low j : ℕ) : Type 0 where
+pub record Packing (fs₀ : List Field) (vs : List ℕ) (fs : List Field) (words : List ℕ) (good : Bool) (low j : ℕ) : Type 0 where
   pub count : j + length fs ≡ length vs
   pub wide : AllWide fs
   pub end : low + bits fs ≤ 96
@@ -49,10 +49,10 @@ pub record Laying (fs₀ : List Field) (vs : List ℕ) (fs : List Field) (words 
   pub sum : joined words + 2 ^ low * packed fs (drop j vs) ≡ packed fs₀ vs
   pub fits : (good && fitting fs (drop j vs)) ≡ fitting fs₀ vs
 
-pub laying-first : (fs : List Field) (vs : List ℕ) → length fs ≡ length vs → AllWide fs → 0 + bits fs ≤ 96
-    → Laying fs vs fs (0 ∷ 0 ∷ 0 ∷ []) true 0 0
+pub packing-first : (fs : List Field) (vs : List ℕ) → length fs ≡ length vs → AllWide fs → 0 + bits fs ≤ 96
+    → Packing fs vs fs (0 ∷ 0 ∷ 0 ∷ []) true 0 0
 unfolding joined
-laying-first fs vs n w b =
+packing-first fs vs n w b =
     let z : 0 < 2 ^ 32 = omega arith in
     record {
       count = omega arith;
@@ -65,22 +65,22 @@ laying-first fs vs n w b =
       fits = refl;
     }
 
-module _ {fs₀ fs : List Field} {vs words : List ℕ} {good : Bool} {low j : ℕ} (h : Laying fs₀ vs fs words good low j) where
-  pub laying-some : j < length vs → 0 < length fs
-  laying-some l = let c = h .count in omega arith
+module _ {fs₀ fs : List Field} {vs words : List ℕ} {good : Bool} {low j : ℕ} (h : Packing fs₀ vs fs words good low j) where
+  pub packing-some : j < length vs → 0 < length fs
+  packing-some l = let c = h .count in omega arith
 
   module _ (f : Field) (gs : List Field) (e : fs ≡ f ∷ gs) where
-    pub laying-wide : Wide f
-    laying-wide = head-wide (rw e at (h .wide))
+    pub packing-wide : Wide f
+    packing-wide = head-wide (rw e at (h .wide))
 
-    pub laying-room : low + f .width ≤ 96
-    laying-room = let d = next-fits low e (h .end) in omega arith
+    pub packing-room : low + f .width ≤ 96
+    packing-room = let d = next-fits low e (h .end) in omega arith
 
-    pub laying-more : j < length vs → (b : ℕ) (t : Bool) (more : List ℕ) → b ≡ bitsOf f (getD vs j 0) → t ≡ inRange f (getD vs j 0)
+    pub packing-more : j < length vs → (b : ℕ) (t : Bool) (more : List ℕ) → b ≡ bitsOf f (getD vs j 0) → t ≡ inRange f (getD vs j 0)
         → joined more ≡ joined words + b * 2 ^ low → Each (2 ^ 32) more → length more ≡ 3
-        → Laying fs₀ vs gs more (good && t) (low + f .width) (j + 1)
+        → Packing fs₀ vs gs more (good && t) (low + f .width) (j + 1)
     unfolding packed fitting
-    laying-more l b t more q r s i n =
+    packing-more l b t more q r s i n =
         let d : drop j vs ≡ getD vs j 0 ∷ drop (suc j) vs = drop-cons vs j 0 l in
         let c = h .count in
         let k : length fs ≡ suc (length gs) = rw e refl in
@@ -100,9 +100,9 @@ module _ {fs₀ fs : List Field} {vs words : List ℕ} {good : Bool} {low j : �
         spread : (b p : ℕ) → 2 ^ low * (b + 2 ^ (f .width) * p) ≡ b * 2 ^ low + 2 ^ (low + f .width) * p
         spread b p = mul-add (2 ^ low) b (2 ^ (f .width) * p) ∙ ap₂ (λ (x y : ℕ). x + y) (mul-comm (2 ^ low) b) (sym (mul-assoc (2 ^ low) (2 ^ (f .width)) p) ∙ ap (λ (x : ℕ). x * p) (sym (pow-add 2 low (f .width))))
 
-  pub laying-done : length vs ≤ j → (good ≡ fitting fs₀ vs) × (words ≡ wordsOf 3 (packed fs₀ vs))
+  pub packing-done : length vs ≤ j → (good ≡ fitting fs₀ vs) × (words ≡ wordsOf 3 (packed fs₀ vs))
   unfolding packed fitting
-  laying-done l =
+  packing-done l =
       let c = h .count in
       let e : fs ≡ [] = none-left fs (omega arith) in
       let k : j ≡ length vs = omega arith in

@@ -11,7 +11,7 @@ use Rattle.sserial.specs.Layout.{joined, wordsOf, packed, unpacked, fitt
 use Rattle.sserial.specs.declared.table.Field.{Field}
 use Rattle.sserial.specs.declared.table.Direction.{Direction}
 use Rattle.sserial.specs.declared.table.Direction.the-variants.{Inputs, Outputs}
-use Rattle.sserial.specs.declared.survey.TableAnswer.{TableAnswer}
+use Rattle.sserial.specs.declared.count.TableAnswer.{TableAnswer}
 use Rattle.sserial.specs.declared.field.FieldAnswer.{FieldAnswer}
 use Rattle.sserial.specs.declared.call.CallAnswer.{CallAnswer}
 

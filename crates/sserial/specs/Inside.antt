@@ -12,8 +12,8 @@ use Rattle.sserial.specs.declared.table.Entry.{Entry}
 use Rattle.sserial.specs.declared.table.Entry.the-variants.{Unreadable, Mode}
 use Rattle.sserial.specs.declared.table.Direction.{Direction}
 use Rattle.sserial.specs.declared.table.Direction.the-variants.{Inputs, Outputs}
-use Rattle.sserial.specs.declared.survey.Sum.{Sum}
-use Rattle.sserial.specs.declared.survey.Sums.{Sums}
+use Rattle.sserial.specs.declared.count.Sum.{Sum}
+use Rattle.sserial.specs.declared.count.Sums.{Sums}
 
 unfoldable pub fieldRecord : List ℕ → ℕ → Entry
 fieldRecord memory p = cond (soundField memory p) (Entry.Field (fieldOf memory p)) Unreadable
@@ -36,7 +36,7 @@ Readable t = t ≡ fields (fieldsIn t)
 unfoldable pub fieldsLeft : Direction → List ℕ → ℕ → List Field
 fieldsLeft d memory at = directed d (fieldsIn (tableAt memory at))
 
--- A survey: the fields so far each way, and their bits, while these stay within 96.
+-- The fields counted so far each way, and their bits, while these stay within 96.
 pub record Small (s : Sum) : Type 0 where
   pub bits : s .bits ≤ 96
   pub fields : s .fields ≤ s .bits
@@ -56,13 +56,13 @@ sumsWith s f =
     (record { inputs = s .inputs; outputs = s .outputs; over = true })
     (record { inputs = inputs; outputs = outputs; over = false })
 
-unfoldable pub surveyed : Sums → Answer
-surveyed s = cond (s .over) (refused 42 0) (accepted (s .inputs .fields ∷ s .outputs .fields ∷ []))
+unfoldable pub sumsAnswer : Sums → Answer
+sumsAnswer s = cond (s .over) (refused 42 0) (accepted (s .inputs .fields ∷ s .outputs .fields ∷ []))
 
--- a survey's answer if these entries follow
-unfoldable pub surveyOn : Sums → Table → Answer
-surveyOn s unreadable = refused 41 0
-surveyOn s (fields fs) =
+-- the answer if these entries follow
+unfoldable pub countOn : Sums → Table → Answer
+countOn s unreadable = refused 41 0
+countOn s (fields fs) =
     let inputs = directed Inputs fs in
     let outputs = directed Outputs fs in
     cond
@@ -95,7 +95,7 @@ pub data AllWide : List Field → Type 0 where
   more : {f : Field} {fs : List Field} → Wide f → AllWide fs → AllWide (f ∷ fs)
 
 -- the fields of one direction, from the entry at a place on: n of them, from bit `low` on
-pub record Layable (d : Direction) (memory : List ℕ) (at low n : ℕ) : Type 0 where
+pub record Packable (d : Direction) (memory : List ℕ) (at low n : ℕ) : Type 0 where
   pub count : length (fieldsLeft d memory at) ≡ n
   pub wide : AllWide (fieldsLeft d memory at)
   pub fits : low + bits (fieldsLeft d memory at) ≤ 96

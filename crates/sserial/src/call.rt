@@ -1,15 +1,15 @@
 // One direction of one channel, packed and unpacked. The registers lent are three words for each of eight channels.
 use crate::channels;
+use crate::count;
+use crate::count::TableAnswer;
 use crate::pack;
-use crate::survey;
-use crate::survey::TableAnswer;
 use crate::table::Direction;
 use lbp16::Refusal;
 ghost use mathlib.Core.Path.{_≡_};
 ghost use Rattle.lbp16.specs.Answer.{refused};
 ghost use Rattle.sserial.specs.Table.{checkedAt};
 ghost use Rattle.sserial.specs.Calls.{noChannel, packedBy, packedTo, unpackedBy, unpackedTo, callListed, called};
-ghost use Rattle.sserial.specs.Inside.{Layable, fieldsLeft, chosen};
+ghost use Rattle.sserial.specs.Inside.{Packable, fieldsLeft, chosen};
 
 // The answer of packing and of unpacking.
 pub enum CallAnswer {
@@ -50,7 +50,7 @@ fn pack_fields(
     values: &[u64],
     registers: &mut [u32],
 ) -> CallAnswer
-    requires { ⌜ Layable d (now memory) table 0 n ⌝ }
+    requires { ⌜ Packable d (now memory) table 0 n ⌝ }
     ensures { λ r. ⌜ called r (now (registers .exit)) ≡ packedBy (fieldsLeft d (now (memory .entry)) table) channel (now (values .entry)) (now (registers .entry)) ⌝ }
 {
     if no_channel(channel, registers) {
@@ -59,11 +59,11 @@ fn pack_fields(
     if values.len() != n {
         return bad_call();
     }
-    let laid = pack::lay(memory, table, d, values);
-    if !laid.good {
+    let packed = pack::pack_values(memory, table, d, values);
+    if !packed.good {
         return bad_call();
     }
-    let words = laid.words;
+    let words = packed.words;
     let all = channels::channels_of(registers);
     let next = channels::with_channel(all, channel as usize, words);
     channels::put_channels(next, registers);
@@ -79,7 +79,7 @@ fn unpack_fields(
     registers: &[u32],
     values: &mut [u64],
 ) -> CallAnswer
-    requires { ⌜ Layable d (now memory) table 0 n ⌝ }
+    requires { ⌜ Packable d (now memory) table 0 n ⌝ }
     ensures { λ r. ⌜ called r (now (values .exit)) ≡ unpackedBy (fieldsLeft d (now (memory .entry)) table) channel (now (registers .entry)) (now (values .entry)) ⌝ }
 {
     if no_channel(channel, registers) {
@@ -106,7 +106,7 @@ pub fn pack(
 ) -> CallAnswer
     ensures { λ r. ⌜ called r (now (registers .exit)) ≡ packedTo (checkedAt (now (memory .entry)) table) d channel (now (values .entry)) (now (registers .entry)) ⌝ }
 {
-    let answer = survey::survey(memory, table);
+    let answer = count::count_fields(memory, table);
     match answer {
         TableAnswer::Refused(r) => CallAnswer::Refused(r),
         TableAnswer::Fields { inputs, outputs } => {
@@ -127,7 +127,7 @@ pub fn unpack(
 ) -> CallAnswer
     ensures { λ r. ⌜ called r (now (values .exit)) ≡ unpackedTo (checkedAt (now (memory .entry)) table) d channel (now (registers .entry)) (now (values .entry)) ⌝ }
 {
-    let answer = survey::survey(memory, table);
+    let answer = count::count_fields(memory, table);
     match answer {
         TableAnswer::Refused(r) => CallAnswer::Refused(r),
         TableAnswer::Fields { inputs, outputs } => {

@@ -1,6 +1,6 @@
 // A table's fields one by one.
-use crate::survey;
-use crate::survey::TableAnswer;
+use crate::count;
+use crate::count::TableAnswer;
 use crate::table;
 use crate::table::Direction;
 use crate::table::Entry;
@@ -62,7 +62,7 @@ fn find(memory: &[u8], table: u16, index: u64) -> FieldAnswer
 pub fn field(memory: &[u8], table: u16, index: u64) -> FieldAnswer
     ensures { λ r. ⌜ fieldListed r ≡ indexed (checkedAt (now (memory .entry)) table) index ⌝ }
 {
-    let answer = survey::survey(memory, table);
+    let answer = count::count_fields(memory, table);
     match answer {
         TableAnswer::Refused(r) => FieldAnswer::Refused(r),
         TableAnswer::Fields {

@@ -2,8 +2,8 @@
 mod bits;
 pub mod call;
 mod channels;
+pub mod count;
 pub mod field;
 mod pack;
-pub mod survey;
 pub mod table;
 mod value;

@@ -1,4 +1,4 @@
-// The fields of one direction, laid into three words and read back.
+// The fields of one direction, packed into three words and read back.
 use crate::bits;
 use crate::field;
 use crate::table::Direction;
@@ -7,16 +7,16 @@ ghost use mathlib.Core.Path.{_≡_};
 ghost use Prim.Native.Nat.{_^_};
 ghost use lib.ListN.{length};
 ghost use Rattle.sserial.specs.Layout.{joined, wordsOf, packed, unpacked, fitting};
-ghost use Rattle.sserial.specs.Inside.{Each, Layable, fieldsLeft};
+ghost use Rattle.sserial.specs.Inside.{Each, Packable, fieldsLeft};
 
 // One direction's values as three words. `good`: each is in its field's range.
-pub(crate) struct Laid {
+pub(crate) struct Packed {
     pub good: bool,
     pub words: [u32; 3],
 }
 
-pub(crate) fn lay(memory: &[u8], table: u16, d: Direction, values: &[u64]) -> Laid
-    requires { ⌜ Layable d (now memory) table 0 (length (now values)) ⌝ }
+pub(crate) fn pack_values(memory: &[u8], table: u16, d: Direction, values: &[u64]) -> Packed
+    requires { ⌜ Packable d (now memory) table 0 (length (now values)) ⌝ }
     ensures { λ r. ⌜ (r .good ≡ fitting (fieldsLeft d (now (memory .entry)) table) (now (values .entry))) × (r .words ≡ wordsOf 3 (packed (fieldsLeft d (now (memory .entry)) table) (now (values .entry)))) ⌝ }
 {
     let mut words = [0u32; 3];
@@ -36,11 +36,11 @@ pub(crate) fn lay(memory: &[u8], table: u16, d: Direction, values: &[u64]) -> La
         at = next.at;
         j += 1;
     }
-    Laid { good, words }
+    Packed { good, words }
 }
 
 pub(crate) fn read(memory: &[u8], table: u16, d: Direction, words: [u32; 3], values: &mut [u64])
-    requires { ⌜ Layable d (now memory) table 0 (length (now values)) × Each (2 ^ 32) words ⌝ }
+    requires { ⌜ Packable d (now memory) table 0 (length (now values)) × Each (2 ^ 32) words ⌝ }
     ensures { λ _. ⌜ now (values .exit) ≡ unpacked (fieldsLeft d (now (memory .entry)) table) (joined words) ⌝ }
 {
     let mut at = table as usize;

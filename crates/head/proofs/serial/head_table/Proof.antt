@@ -4,11 +4,11 @@ use Rattle.head.proofs.serial.head_table.Tie as tie
 use Rattle.head.proofs.serial.table_inputs.Reads as table-inputs-reads
 use Rattle.head.proofs.serial.table_number.Reads as table-number-reads
 use Rattle.head.proofs.serial.table_outputs.Reads as table-outputs-reads
-use Rattle.sserial.proofs.survey.survey.Reads as survey-reads
+use Rattle.sserial.proofs.count.count_fields.Reads as count-fields-reads
 use Rattle.head.proofs.SerialLaws.{table-exported}
 
-survey-requires : tie.Need-survey-requires
-survey-requires c κs = search needs
+count-fields-requires : tie.Need-count-fields-requires
+count-fields-requires c κs = search needs
 
 table-inputs-requires : tie.Need-table-inputs-requires
 table-inputs-requires c κs = search needs
@@ -20,13 +20,13 @@ table-number-requires : tie.Need-table-number-requires
 table-number-requires c κs = search needs
 
 returns : tie.Need-returns
-returns c = table-exported _ _ _ _ _ (c .before .before .before .survey .ensures) (c .table-number .ensures) (c .before .before .table-inputs .ensures) (c .before .table-outputs .ensures)
+returns c = table-exported _ _ _ _ _ (c .before .before .before .count-fields .ensures) (c .table-number .ensures) (c .before .before .table-inputs .ensures) (c .before .table-outputs .ensures)
 
 pub head-table-spec : {M : Type 1} → statement M
 head-table-spec =
     tie.close
     (tie.spec
-    survey-requires
+    count-fields-requires
     table-inputs-requires
     table-outputs-requires
     table-number-requires

@@ -1,12 +1,12 @@
 use borrow.Author.Needs.{needs}
 use Rattle.head.proofs.serial.table_or_40.Statement.{statement}
 use Rattle.head.proofs.serial.table_or_40.Tie as tie
-use Rattle.sserial.proofs.survey.survey.Reads as survey-reads
+use Rattle.sserial.proofs.count.count_fields.Reads as count-fields-reads
 use Rattle.sserial.specs.Calls.{tableListed}
 use Rattle.head.proofs.SerialLaws.{or-40, or-refused}
 
-survey-requires : tie.Need-survey-requires
-survey-requires c κs = search needs
+count-fields-requires : tie.Need-count-fields-requires
+count-fields-requires c κs = search needs
 
 enum-told : tie.Need-enum-told
 enum-told c = search needs
@@ -16,12 +16,12 @@ enum-known-answer c = search needs
 
 returns : tie.Need-returns
 unfolding tableListed
-returns c = or-40 _ _ _ (rw (c .enum-told .given .1) at (c .before .before .survey .ensures))
+returns c = or-40 _ _ _ (rw (c .enum-told .given .1) at (c .before .before .count-fields .ensures))
 
 returns-2 : tie.Need-returns-2
 unfolding tableListed
-returns-2 c = or-refused _ _ _ (rw (c .before .answer .given .1) at (c .before .before .before .survey .ensures))
+returns-2 c = or-refused _ _ _ (rw (c .before .answer .given .1) at (c .before .before .before .count-fields .ensures))
 
 pub table-or-40-spec : {M : Type 1} → statement M
 table-or-40-spec =
-    tie.close (tie.spec survey-requires enum-told enum-known-answer returns returns-2)
+    tie.close (tie.spec count-fields-requires enum-told enum-known-answer returns returns-2)

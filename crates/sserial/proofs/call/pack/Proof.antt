@@ -3,15 +3,15 @@ use Rattle.sserial.proofs.call.pack.Statement.{statement}
 use Rattle.sserial.proofs.call.pack.Tie as tie
 use Rattle.sserial.proofs.call.fields_of.Reads as fields-of-reads
 use Rattle.sserial.proofs.call.pack_fields.Reads as pack-fields-reads
-use Rattle.sserial.proofs.survey.survey.Reads as survey-reads
+use Rattle.sserial.proofs.count.count_fields.Reads as count-fields-reads
 use mathlib.Core.Path.{sym}
 use Rattle.sserial.specs.Table.{checkedAt}
 use Rattle.sserial.specs.Calls.{tableListed, callListed}
 use Rattle.sserial.proofs.CheckedLaws.{accepted-checked}
-use Rattle.sserial.proofs.CallLaws.{layable, packed-laid, packed-refused}
+use Rattle.sserial.proofs.CallLaws.{packable, packed-laid, packed-refused}
 
-survey-requires : tie.Need-survey-requires
-survey-requires c κs = search needs
+count-fields-requires : tie.Need-count-fields-requires
+count-fields-requires c κs = search needs
 
 enum-known-answer : tie.Need-enum-known-answer
 enum-known-answer c = search needs
@@ -24,24 +24,24 @@ fields-of-requires c κs = search needs
 
 pack-fields-requires : tie.Need-pack-fields-requires
 unfolding tableListed checkedAt
-pack-fields-requires c κs = let b = c .before .before .before in layable _ _ _ _ _ _ (accepted-checked _ _ _ (rw (b .answer2 .given .1) at (b .before .before .survey .ensures))) (c .before .fields-of .ensures)
+pack-fields-requires c κs = let b = c .before .before .before in packable _ _ _ _ _ _ (accepted-checked _ _ _ (rw (b .answer2 .given .1) at (b .before .before .count-fields .ensures))) (c .before .fields-of .ensures)
 
 returns : tie.Need-returns
 unfolding tableListed callListed
-returns c = sym (packed-refused _ _ _ _ _ _ _ _ (rw (c .before .answer .given .1) at (c .before .before .before .survey .ensures)))
+returns c = sym (packed-refused _ _ _ _ _ _ _ _ (rw (c .before .answer .given .1) at (c .before .before .before .count-fields .ensures)))
 
 same-length : tie.Need-same-length
 same-length c = search needs
 
 returns-2 : tie.Need-returns-2
 unfolding tableListed checkedAt
-returns-2 c = let b = c .before .before .before .before .before .before in rw (packed-laid _ _ _ _ _ _ (accepted-checked _ _ _ (rw (b .answer2 .given .1) at (b .before .before .survey .ensures)) .laid)) (c .before .before .pack-fields .ensures)
+returns-2 c = let b = c .before .before .before .before .before .before in rw (packed-laid _ _ _ _ _ _ (accepted-checked _ _ _ (rw (b .answer2 .given .1) at (b .before .before .count-fields .ensures)) .laid)) (c .before .before .pack-fields .ensures)
 
 pub pack-spec : {M : Type 1} → statement M
 pack-spec =
     tie.close
     (tie.spec
-    survey-requires
+    count-fields-requires
     enum-known-answer
     enum-known-answer-2
     fields-of-requires

@@ -6,7 +6,7 @@ use Rattle.sserial.proofs.call.no_channel.Reads as no-channel-reads
 use Rattle.sserial.proofs.channels.channels_of.Reads as channels-of-reads
 use Rattle.sserial.proofs.channels.put_channels.Reads as put-channels-reads
 use Rattle.sserial.proofs.channels.with_channel.Reads as with-channel-reads
-use Rattle.sserial.proofs.pack.lay.Reads as lay-reads
+use Rattle.sserial.proofs.pack.pack_values.Reads as pack-values-reads
 use mathlib.Core.Path.{sym, _∙_}
 use native.Mathlib.Omega.{arith}
 use borrow.Author.Tests.{not-true, not-false}
@@ -34,8 +34,8 @@ same-length-2 c = search needs
 returns-2 : tie.Need-returns-2
 returns-2 c = rw (pack-refused _ _ _ _ (uncounted-refused _ _ _ _ (λ e. c .before .if2 .taken (e ∙ c .before .before .before .before .before .before .before .before .pre .count)))) (refused-by _ (c .bad-call2 .ensures))
 
-lay-requires : tie.Need-lay-requires
-lay-requires c κs = search needs
+pack-values-requires : tie.Need-pack-values-requires
+pack-values-requires c κs = search needs
 
 bad-call-requires-3 : tie.Need-bad-call-requires-3
 bad-call-requires-3 c κs = search needs
@@ -44,7 +44,7 @@ same-length-3 : tie.Need-same-length-3
 same-length-3 c = search needs
 
 returns-3 : tie.Need-returns-3
-returns-3 c = rw (pack-refused _ _ _ _ (unfit-refused _ _ _ _ (sym (c .before .before .before .lay .ensures .0) ∙ not-true _ (c .before .if3 .taken)))) (refused-by _ (c .bad-call3 .ensures))
+returns-3 c = rw (pack-refused _ _ _ _ (unfit-refused _ _ _ _ (sym (c .before .before .before .pack-values .ensures .0) ∙ not-true _ (c .before .if3 .taken)))) (refused-by _ (c .bad-call3 .ensures))
 
 channels-of-requires : tie.Need-channels-of-requires
 channels-of-requires c κs = let b = c .before .before .before .before .before .before in channel-there _ _ (sym (b .before .no-channel .ensures) ∙ b .if1 .left) .1
@@ -60,7 +60,7 @@ same-length-4 c = search needs
 
 returns-4 : tie.Need-returns-4
 unfolding callListed
-returns-4 c = let d = c .before .before in let e = d .before .before .before .before .before .before in let l = e .before .before in let b = l .before .before in let h = sym (b .before .no-channel .ensures) ∙ b .if1 .left in rw (pack-done _ _ _ _ h (sym (l .lay .ensures .0) ∙ not-false _ (e .if3 .left))) (left-by (put-back _ _ _ _ _ _ _ _ h (l .lay .ensures .1) (d .before .before .before .channels-of .ensures) (d .before .before .with-channel .ensures) (d .put-channels .ensures)))
+returns-4 c = let d = c .before .before in let e = d .before .before .before .before .before .before in let l = e .before .before in let b = l .before .before in let h = sym (b .before .no-channel .ensures) ∙ b .if1 .left in rw (pack-done _ _ _ _ h (sym (l .pack-values .ensures .0) ∙ not-false _ (e .if3 .left))) (left-by (put-back _ _ _ _ _ _ _ _ h (l .pack-values .ensures .1) (d .before .before .before .channels-of .ensures) (d .before .before .with-channel .ensures) (d .put-channels .ensures)))
 
 pub pack-fields-spec : {M : Type 1} → statement M
 pack-fields-spec =
@@ -73,7 +73,7 @@ pack-fields-spec =
     bad-call-requires-2
     same-length-2
     returns-2
-    lay-requires
+    pack-values-requires
     bad-call-requires-3
     same-length-3
     returns-3

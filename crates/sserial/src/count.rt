@@ -7,7 +7,7 @@ use lbp16::Refusal;
 ghost use mathlib.Core.Path.{_≡_};
 ghost use Rattle.sserial.specs.Table.{checkedAt};
 ghost use Rattle.sserial.specs.Calls.{counted, tableListed};
-ghost use Rattle.sserial.specs.Inside.{Small, Within, sumWith, sumsWith, surveyed};
+ghost use Rattle.sserial.specs.Inside.{Small, Within, sumWith, sumsWith, sumsAnswer};
 
 // How many fields stand in a direction, and how many bits they take.
 pub struct Sum {
@@ -68,7 +68,7 @@ fn sums_with(s: Sums, f: Field) -> Sums
 }
 
 fn answered(s: Sums) -> TableAnswer
-    ensures { λ r. ⌜ tableListed r ≡ surveyed s ⌝ }
+    ensures { λ r. ⌜ tableListed r ≡ sumsAnswer s ⌝ }
 {
     if s.over {
         return TableAnswer::Refused(Refusal {
@@ -83,7 +83,7 @@ fn answered(s: Sums) -> TableAnswer
 }
 
 // How many fields the table at this address has each way. 41 holds anywhere in the table before 42 does.
-pub fn survey(memory: &[u8], table: u16) -> TableAnswer
+pub fn count_fields(memory: &[u8], table: u16) -> TableAnswer
     ensures { λ r. ⌜ tableListed r ≡ counted (checkedAt (now (memory .entry)) table) ⌝ }
 {
     let mut at = table as usize;

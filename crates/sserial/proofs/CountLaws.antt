@@ -1,4 +1,4 @@
--- A table entry by entry, and what a survey of it answers.
+-- A table entry by entry, and what counting its fields answers.
 use Prim.Native.Nat.{ℕ, zero, suc, _+_, _-_, _*_, _≤_, _<_}
 use mathlib.Core.Path.{_≡_, refl, sym, ap, ap₂, _∙_}
 use mathlib.Core.Bool.{Bool, true, false, _||_, _&&_, cond}
@@ -15,14 +15,14 @@ use Rattle.lbp16.specs.Answer.{Answer, accepted, refused}
 use Rattle.lbp16.proofs.BoolLaws.{or-false}
 use Rattle.sserial.specs.Table.{Table, unreadable, fields, Checked, standsIn, directed, bits, anyMiswide, overfull, checked, checkedAt, tableFrom, tableAt, pairAt, entryOf, withField, withEntry}
 use Rattle.sserial.specs.Calls.{counted}
-use Rattle.sserial.specs.Inside.{Small, Within, sumWith, sumsWith, surveyed, surveyOn, entryAt}
+use Rattle.sserial.specs.Inside.{Small, Within, sumWith, sumsWith, sumsAnswer, countOn, entryAt}
 use Rattle.sserial.specs.declared.table.Field.{Field}
 use Rattle.sserial.specs.declared.table.Entry.{Entry}
 use Rattle.sserial.specs.declared.table.Entry.the-variants.{End, Unreadable, Mode}
 use Rattle.sserial.specs.declared.table.Direction.{Direction}
 use Rattle.sserial.specs.declared.table.Direction.the-variants.{Inputs, Outputs}
-use Rattle.sserial.specs.declared.survey.Sum.{Sum}
-use Rattle.sserial.specs.declared.survey.Sums.{Sums}
+use Rattle.sserial.specs.declared.count.Sum.{Sum}
+use Rattle.sserial.specs.declared.count.Sums.{Sums}
 use Rattle.sserial.proofs.TableLaws.{entry-cut, entry-read}
 
 -- the table from an entry on is that entry and the table after it
@@ -86,10 +86,10 @@ or-true false = refl
 
 module _ (s : Sums) (f : Field) where
   -- a field counted now is a field that follows
-  pub survey-field : (t : Table) → surveyOn s (withField f t) ≡ surveyOn (sumsWith s f) t
-  unfolding surveyOn withField sumsWith anyMiswide
-  survey-field unreadable = refl
-  survey-field (fields fs) =
+  pub count-field : (t : Table) → countOn s (withField f t) ≡ countOn (sumsWith s f) t
+  unfolding countOn withField sumsWith anyMiswide
+  count-field unreadable = refl
+  count-field (fields fs) =
       rw (sum-bits Inputs (s .inputs) f fs, sum-bits Outputs (s .outputs) f fs, sum-fields Inputs (s .inputs) f fs, sum-fields Outputs (s .outputs) f fs)
       (go (s .over) (eqb (f .width) 0) (ltb 64 (f .width)) (ltb 96 (ins .bits)) (ltb 96 (outs .bits)) refl refl)
     where
@@ -104,7 +104,7 @@ module _ (s : Sums) (f : Field) where
           (o || (a || b || anyMiswide fs) || ltb 96 (ins .bits + bits (directed Inputs fs)) || ltb 96 (outs .bits + bits (directed Outputs fs)))
           (refused 42 0)
           (accepted ((ins .fields + length (directed Inputs fs)) ∷ (outs .fields + length (directed Outputs fs)) ∷ []))
-          ≡ surveyOn
+          ≡ countOn
           (cond (o || a || b || i || j)
           (record { inputs = s .inputs; outputs = s .outputs; over = true })
           (record { inputs = ins; outputs = outs; over = false }))
@@ -154,14 +154,14 @@ module _ (s : Sums) (f : Field) where
             outputs = sum-small Outputs (s .outputs) f (h .outputs) w (ltb-false _ _ d);
           }
 
--- a survey's start and its end
+-- the count's start and its end
 abbrev pub begun : Sums
 begun = record { inputs = record { fields = 0; bits = 0 }; outputs = record { fields = 0; bits = 0 }; over = false }
 
-pub survey-start : (t : Table) → surveyOn begun t ≡ counted (checked t)
-unfolding surveyOn checked counted overfull anyMiswide
-survey-start unreadable = refl
-survey-start (fields fs) = simp zero-add (go (anyMiswide fs || ltb 96 (bits (directed Inputs fs)) || ltb 96 (bits (directed Outputs fs))))
+pub count-start : (t : Table) → countOn begun t ≡ counted (checked t)
+unfolding countOn checked counted overfull anyMiswide
+count-start unreadable = refl
+count-start (fields fs) = simp zero-add (go (anyMiswide fs || ltb 96 (bits (directed Inputs fs)) || ltb 96 (bits (directed Outputs fs))))
   where
     go : (t : Bool)
         → cond t (refused 42 0) (accepted (length (directed Inputs fs) ∷ length (directed Outputs fs) ∷ []))
@@ -169,9 +169,9 @@ survey-start (fields fs) = simp zero-add (go (anyMiswide fs || ltb 96 (bits (dir
     go true = refl
     go false = refl
 
-pub survey-end : (s : Sums) → Within s → surveyOn s (fields []) ≡ surveyed s
-unfolding surveyOn surveyed directed bits anyMiswide
-survey-end s h = simp add-zero (rw (le-ltb _ _ (h .inputs .bits), le-ltb _ _ (h .outputs .bits)) (go (s .over)))
+pub count-end : (s : Sums) → Within s → countOn s (fields []) ≡ sumsAnswer s
+unfolding countOn sumsAnswer directed bits anyMiswide
+count-end s h = simp add-zero (rw (le-ltb _ _ (h .inputs .bits), le-ltb _ _ (h .outputs .bits)) (go (s .over)))
   where
     go : (t : Bool)
         → cond (t || false || false || false) (refused 42 0) (accepted (s .inputs .fields ∷ s .outputs .fields ∷ []))
@@ -179,39 +179,39 @@ survey-end s h = simp add-zero (rw (le-ltb _ _ (h .inputs .bits), le-ltb _ _ (h 
     go true = refl
     go false = refl
 
--- a survey of the table at `table`, with the entries before `at` counted
-pub record Surveying (m : List ℕ) (table at : ℕ) (s : Sums) : Type 0 where
-  pub same : surveyOn s (tableAt m at) ≡ counted (checkedAt m table)
+-- the table at `table`, with the entries before `at` counted
+pub record Counting (m : List ℕ) (table at : ℕ) (s : Sums) : Type 0 where
+  pub same : countOn s (tableAt m at) ≡ counted (checkedAt m table)
   pub within : Within s
 
-pub surveying-first : (m : List ℕ) (table : ℕ) → Surveying m table table begun
+pub counting-first : (m : List ℕ) (table : ℕ) → Counting m table table begun
 unfolding checkedAt
-surveying-first m table =
+counting-first m table =
     let none : Small (record { fields = 0; bits = 0 }) = record { bits = omega arith; fields = omega arith } in
-    record { same = survey-start (tableAt m table); within = record { inputs = none; outputs = none } }
+    record { same = count-start (tableAt m table); within = record { inputs = none; outputs = none } }
 
-module _ {m : List ℕ} {table at : ℕ} {s : Sums} (h : Surveying m table at s) where
-  entry-first : (e : Entry) → e ≡ entryAt m at → surveyOn s (withEntry e (tableAt m (at + 2))) ≡ counted (checkedAt m table)
+module _ {m : List ℕ} {table at : ℕ} {s : Sums} (h : Counting m table at s) where
+  entry-first : (e : Entry) → e ≡ entryAt m at → countOn s (withEntry e (tableAt m (at + 2))) ≡ counted (checkedAt m table)
   entry-first e d = rw (d, ← table-next m at) (h .same)
 
-  pub survey-ended : (e : Entry) → e ≡ entryAt m at → e ≡ End → surveyed s ≡ counted (checkedAt m table)
+  pub count-ended : (e : Entry) → e ≡ entryAt m at → e ≡ End → sumsAnswer s ≡ counted (checkedAt m table)
   unfolding withEntry
-  survey-ended e d k = sym (survey-end s (h .within)) ∙ (rw k at (entry-first e d))
+  count-ended e d k = sym (count-end s (h .within)) ∙ (rw k at (entry-first e d))
 
-  pub survey-cut : (e : Entry) → e ≡ entryAt m at → e ≡ Unreadable → refused 41 0 ≡ counted (checkedAt m table)
-  unfolding withEntry surveyOn
-  survey-cut e d k = rw k at (entry-first e d)
+  pub count-cut : (e : Entry) → e ≡ entryAt m at → e ≡ Unreadable → refused 41 0 ≡ counted (checkedAt m table)
+  unfolding withEntry countOn
+  count-cut e d k = rw k at (entry-first e d)
 
-  pub survey-mode : (e : Entry) → e ≡ entryAt m at → e ≡ Mode → (s′ : Sums) → s′ ≡ s → Surveying m table (at + 2) s′
+  pub count-mode : (e : Entry) → e ≡ entryAt m at → e ≡ Mode → (s′ : Sums) → s′ ≡ s → Counting m table (at + 2) s′
   unfolding withEntry
-  survey-mode e d k s′ q = rw q (record { same = rw k at (entry-first e d); within = h .within })
+  count-mode e d k s′ q = rw q (record { same = rw k at (entry-first e d); within = h .within })
 
-  pub survey-more : (e : Entry) (f : Field) → e ≡ entryAt m at → e ≡ Entry.Field f
-      → (s′ : Sums) → s′ ≡ sumsWith s f → Surveying m table (at + 2) s′
+  pub count-more : (e : Entry) (f : Field) → e ≡ entryAt m at → e ≡ Entry.Field f
+      → (s′ : Sums) → s′ ≡ sumsWith s f → Counting m table (at + 2) s′
   unfolding withEntry
-  survey-more e f d k s′ q =
+  count-more e f d k s′ q =
       rw q
       (record {
-        same = sym (survey-field s f (tableAt m (at + 2))) ∙ (rw k at (entry-first e d));
+        same = sym (count-field s f (tableAt m (at + 2))) ∙ (rw k at (entry-first e d));
         within = sums-within s f (h .within);
       })

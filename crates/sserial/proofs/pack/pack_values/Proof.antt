@@ -1,5 +1,5 @@
-use Rattle.sserial.proofs.pack.lay.Statement.{statement}
-use Rattle.sserial.proofs.pack.lay.Tie as tie
+use Rattle.sserial.proofs.pack.pack_values.Statement.{statement}
+use Rattle.sserial.proofs.pack.pack_values.Tie as tie
 use Rattle.sserial.proofs.bits.put.Reads as put-reads
 use Rattle.sserial.proofs.field.next_field.Reads as next-field-reads
 use Rattle.sserial.proofs.value.bits_of.Reads as bits-of-reads
@@ -11,19 +11,19 @@ use native.Mathlib.Omega.{arith}
 use lib.ListN.{length, getD}
 use Rattle.sserial.specs.Inside.{fieldsLeft}
 use Rattle.sserial.proofs.LayoutLaws.{bits-below}
-use Rattle.sserial.proofs.WalkLaws.{Laying, laying-first, laying-some, laying-wide, laying-room, laying-more, laying-done}
+use Rattle.sserial.proofs.WalkLaws.{Packing, packing-first, packing-some, packing-wide, packing-room, packing-more, packing-done}
 
 abbrev Inv-loop : tie.InvT-loop
-Inv-loop memory table d values words₀ good₀ at₀ low₀ j₀ words good at low j = Laying (fieldsLeft d memory table) values (fieldsLeft d memory at) words good low j
+Inv-loop memory table d values words₀ good₀ at₀ low₀ j₀ words good at low j = Packing (fieldsLeft d memory table) values (fieldsLeft d memory at) words good low j
 
 abbrev μ-loop : tie.MeasureT-loop
 μ-loop memory table d values words₀ good₀ at₀ low₀ j₀ words good at low j = length values - j
 
 loop-holds : tie.Need-loop-holds Inv-loop μ-loop
-loop-holds c = let p = c .before .before .pre in laying-first _ _ (p .count) (p .wide) (p .fits)
+loop-holds c = let p = c .before .before .pre in packing-first _ _ (p .count) (p .wide) (p .fits)
 
 next-field-requires : tie.Need-next-field-requires Inv-loop μ-loop
-next-field-requires c κs = laying-some (c .before .loop .inv) (c .loop-test .taken)
+next-field-requires c κs = packing-some (c .before .loop .inv) (c .loop-test .taken)
 
 mul-v : tie.Need-mul-v Inv-loop μ-loop
 mul-v c = search needs
@@ -35,16 +35,16 @@ cast-width : tie.Need-cast-width Inv-loop μ-loop
 cast-width c = search needs
 
 bits-of-requires : tie.Need-bits-of-requires Inv-loop μ-loop
-bits-of-requires c κs = let b = c .before .before .before in laying-wide (b .before .before .loop .inv) _ _ (b .next-field .ensures)
+bits-of-requires c κs = let b = c .before .before .before in packing-wide (b .before .before .loop .inv) _ _ (b .next-field .ensures)
 
 put-requires : tie.Need-put-requires Inv-loop μ-loop
-put-requires c κs = let b = c .before .before .before .before in let i = b .before .before .loop .inv in (laying-room i _ _ (b .next-field .ensures), laying-wide i _ _ (b .next-field .ensures) .most, rw (c .bits-of .ensures) (bits-below _ _), i .free, i .each)
+put-requires c κs = let b = c .before .before .before .before in let i = b .before .before .loop .inv in (packing-room i _ _ (b .next-field .ensures), packing-wide i _ _ (b .next-field .ensures) .most, rw (c .bits-of .ensures) (bits-below _ _), i .free, i .each)
 
 in-range-requires : tie.Need-in-range-requires Inv-loop μ-loop
-in-range-requires c κs = let b = c .before .before .before .before .before in laying-wide (b .before .before .loop .inv) _ _ (b .next-field .ensures)
+in-range-requires c κs = let b = c .before .before .before .before .before in packing-wide (b .before .before .loop .inv) _ _ (b .next-field .ensures)
 
 add-low : tie.Need-add-low Inv-loop μ-loop
-add-low c = let b = c .before .before .before .before .before .before in let h = laying-room (b .before .before .loop .inv) _ _ (b .next-field .ensures) in omega arith
+add-low c = let b = c .before .before .before .before .before .before in let h = packing-room (b .before .before .loop .inv) _ _ (b .next-field .ensures) in omega arith
 
 add-j : tie.Need-add-j Inv-loop μ-loop
 add-j c = omega arith
@@ -53,13 +53,13 @@ loop-less : tie.Need-loop-less Inv-loop μ-loop
 loop-less c = omega arith
 
 loop-again : tie.Need-loop-again Inv-loop μ-loop
-loop-again c = let b = c .before .before .before .before .before .before in laying-more (b .before .before .loop .inv) _ _ (b .next-field .ensures) (b .before .loop-test .taken) _ _ _ (c .before .before .bits-of .ensures) (c .in-range .ensures) (c .before .put .ensures .0) (c .before .put .ensures .1) (search needs)
+loop-again c = let b = c .before .before .before .before .before .before in packing-more (b .before .before .loop .inv) _ _ (b .next-field .ensures) (b .before .loop-test .taken) _ _ _ (c .before .before .bits-of .ensures) (c .in-range .ensures) (c .before .put .ensures .0) (c .before .put .ensures .1) (search needs)
 
 returns : tie.Need-returns Inv-loop μ-loop
-returns c = laying-done (c .before .loop .inv) (c .loop-test .left)
+returns c = packing-done (c .before .loop .inv) (c .loop-test .left)
 
-pub lay-spec : {M : Type 1} → statement M
-lay-spec =
+pub pack-values-spec : {M : Type 1} → statement M
+pack-values-spec =
     tie.close
     (tie.spec
     Inv-loop

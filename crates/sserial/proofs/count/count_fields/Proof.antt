@@ -1,30 +1,30 @@
-use Rattle.sserial.proofs.survey.survey.Statement.{statement}
-use Rattle.sserial.proofs.survey.survey.Tie as tie
-use Rattle.sserial.proofs.survey.answered.Reads as answered-reads
-use Rattle.sserial.proofs.survey.sums_with.Reads as sums-with-reads
+use Rattle.sserial.proofs.count.count_fields.Statement.{statement}
+use Rattle.sserial.proofs.count.count_fields.Tie as tie
+use Rattle.sserial.proofs.count.answered.Reads as answered-reads
+use Rattle.sserial.proofs.count.sums_with.Reads as sums-with-reads
 use Rattle.sserial.proofs.table.entry_at.Reads as entry-at-reads
 use borrow.Author.Needs.{needs}
 use Prim.Native.Nat.{_-_}
 use native.Mathlib.Omega.{arith}
 use lib.ListN.{length}
-use Rattle.sserial.proofs.SurveyLaws.{Surveying}
+use Rattle.sserial.proofs.CountLaws.{Counting}
 use mathlib.Core.Path.{refl, ap, _∙_}
 use mathlib.Core.Logic.{⊎-elim}
 use Prim.Native.Nat.{_+_, _≤_}
 use denote.Ref.{now}
 use Rattle.sserial.specs.Calls.{tableListed}
 use Rattle.sserial.proofs.TableLaws.{readable, entry-lent}
-use Rattle.sserial.proofs.SurveyLaws.{surveying-first, survey-ended, survey-cut, survey-mode, survey-more}
+use Rattle.sserial.proofs.CountLaws.{counting-first, count-ended, count-cut, count-mode, count-more}
 use Rattle.sserial.specs.declared.table.Entry.the-variants.{Mode}
 
 abbrev Inv-loop : tie.InvT-loop
-Inv-loop memory table at₀ s₀ at s = Surveying memory table at s
+Inv-loop memory table at₀ s₀ at s = Counting memory table at s
 
 abbrev μ-loop : tie.MeasureT-loop
 μ-loop memory table at₀ s₀ at s = length memory - at
 
 loop-holds : tie.Need-loop-holds Inv-loop μ-loop
-loop-holds c = surveying-first _ _
+loop-holds c = counting-first _ _
 
 entry-at-requires : tie.Need-entry-at-requires Inv-loop μ-loop
 entry-at-requires c κs = search needs
@@ -36,14 +36,14 @@ answered-requires : tie.Need-answered-requires Inv-loop μ-loop
 answered-requires c κs = search needs
 
 returns : tie.Need-returns Inv-loop μ-loop
-returns c = c .answered .ensures ∙ survey-ended (c .before .before .before .before .loop .inv) _ (c .before .before .before .entry-at .ensures) (c .before .enum-told .given .1)
+returns c = c .answered .ensures ∙ count-ended (c .before .before .before .before .loop .inv) _ (c .before .before .before .entry-at .ensures) (c .before .enum-told .given .1)
 
 enum-told-2 : tie.Need-enum-told-2 Inv-loop μ-loop
 enum-told-2 c = search needs
 
 returns-2 : tie.Need-returns-2 Inv-loop μ-loop
 unfolding tableListed
-returns-2 c = survey-cut (c .before .before .before .loop .inv) _ (c .before .before .entry-at .ensures) (c .enum-told2 .given .1)
+returns-2 c = count-cut (c .before .before .before .loop .inv) _ (c .before .before .entry-at .ensures) (c .enum-told2 .given .1)
 
 enum-told-3 : tie.Need-enum-told-3 Inv-loop μ-loop
 enum-told-3 c = search needs
@@ -64,10 +64,10 @@ loop-less : tie.Need-loop-less Inv-loop μ-loop
 loop-less c = let h = lent c in omega arith
 
 loop-again : tie.Need-loop-again Inv-loop μ-loop
-loop-again c = ⊎-elim (λ w. survey-mode (c .before .before .loop .inv) _ (c .before .entry-at .ensures) (w .1 .given .1) _ (w .2)) (λ w. survey-more (c .before .before .loop .inv) _ _ (c .before .entry-at .ensures) (w .1 .given .1) _ (w .4 ∙ w .3 .ensures)) (c .match .came)
+loop-again c = ⊎-elim (λ w. count-mode (c .before .before .loop .inv) _ (c .before .entry-at .ensures) (w .1 .given .1) _ (w .2)) (λ w. count-more (c .before .before .loop .inv) _ _ (c .before .entry-at .ensures) (w .1 .given .1) _ (w .4 ∙ w .3 .ensures)) (c .match .came)
 
-pub survey-spec : {M : Type 1} → statement M
-survey-spec =
+pub count-fields-spec : {M : Type 1} → statement M
+count-fields-spec =
     tie.close
     (tie.spec
     Inv-loop
