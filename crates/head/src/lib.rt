@@ -1,4 +1,4 @@
-// What C programs call; include/head.h declares it. Each function returns the refusal's number, 0 if accepted.
+// What C programs call; include/head.h declares it. A function that can refuse returns the refusal's number, 0 if accepted.
 mod lent;
 mod panels;
 pub mod part;
