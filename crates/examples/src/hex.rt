@@ -2,8 +2,11 @@
 use packet::bytes;
 ghost use Prim.Native.Nat.{_≤_};
 
-// The digits that are read of a text, at most.
-const DIGITS: usize = 512;
+// The bytes that a text's digits make, two digits a byte.
+pub(crate) struct Data {
+    pub(crate) bytes: [u8; 256],
+    pub(crate) digits: usize,
+}
 
 // The value of a digit, and 16 for any other byte.
 fn value(c: u8) -> u8
@@ -16,32 +19,36 @@ fn value(c: u8) -> u8
     }
 }
 
-// A digit behind the n that are in the room. Other bytes are passed over. The digits that are then there.
-fn put_digit(room: &mut [u8], n: usize, c: u8) -> usize {
-    let d = value(c);
-    if d == 16 {
-        return n;
+// A digit more. Other bytes are passed over, and so is what there is no room for.
+fn with_digit(d: Data, c: u8) -> Data {
+    let v = value(c);
+    let n = d.digits;
+    let mut bytes = d.bytes;
+    if v == 16 {
+        return d;
     }
-    if DIGITS <= n {
-        return n;
+    if 512 <= n {
+        return d;
     }
-    let at = n / 2;
-    if room.len() <= at {
-        return n;
+    bytes[n / 2] = bytes[n / 2] % 16 * 16 + v;
+    Data {
+        bytes,
+        digits: n + 1,
     }
-    room[at] = room[at] % 16 * 16 + d;
-    n + 1
 }
 
-// The bytes that a text's digits make, two digits a byte. How many.
-pub(crate) fn bytes_of(text: &[u8], room: &mut [u8]) -> u64 {
-    let mut n: usize = 0;
+pub(crate) fn data_of(text: &[u8]) -> Data {
+    let mut data = Data {
+        bytes: [0; 256],
+        digits: 0,
+    };
     let mut i: usize = 0;
     while i < text.len() {
-        n = put_digit(room, n, text[i]);
+        let next = with_digit(data, text[i]);
+        data = next;
         i += 1;
     }
-    (n / 2) as u64
+    data
 }
 
 fn swapped(n: u16) -> u32
@@ -60,23 +67,20 @@ pub(crate) fn word_at(s: &[u8], at: usize) -> u32 {
     high * 65536 + swapped(bytes::pair_at(tail, 2))
 }
 
-fn put_word(room: &mut [u32], at: usize, w: u32) {
-    if at < room.len() {
-        room[at] = w;
-    }
-}
-
-// The words that bytes make, four bytes a word, at most 8. How many.
-pub(crate) fn words_of(s: &[u8], room: &mut [u32]) -> usize
+// How many words bytes make, at most 8.
+pub(crate) fn word_count(s: &[u8]) -> usize
     ensures { λ r. ⌜ r ≤ 8 ⌝ }
 {
-    let mut n: usize = 0;
-    while n < 8 {
-        if s.len() <= n * 4 {
-            return n;
-        }
-        put_word(room, n, word_at(s, n * 4));
-        n += 1;
+    let n = s.len() / 4;
+    if n < 8 { n } else { 8 }
+}
+
+pub(crate) fn words_of(s: &[u8]) -> [u32; 8] {
+    let mut words = [0u32; 8];
+    let mut i: usize = 0;
+    while i < 8 {
+        words[i] = word_at(s, i * 4);
+        i += 1;
     }
-    n
+    words
 }

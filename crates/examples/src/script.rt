@@ -1,14 +1,20 @@
-// Examples written as text, a line for each:
+// Examples as text, a line for each:
 //
-//     # TITLE        a new part, with a fresh card
-//     p NAME: HEX    a packet's bytes, in the order of the wire
-//     b NAME: HEX    a burst's words, at most 8
-//     w NAME: HEX    a command word, in the order of the wire
-//     h NAME: HEX    an SPI header
-//     l NAME: HEX    a cue list, compiled into 64 bytes of room
+//     # TITLE        a new part, with a fresh card and room for 64 bytes and 8 numbers
+//     p NAME= HEX    a packet's bytes, in the order of the wire
+//     b NAME= HEX    a burst's words, at most 8
+//     w NAME= HEX    a command word, in the order of the wire
+//     h NAME= HEX    an SPI header
+//     l NAME= HEX    a cue list, compiled
+//     d NAME= HEX    a damaged cue list, salvaged
+//     r NAME= HEX    room for what the lists of this part put out: bytes, and numbers of the log
+//     n NAME= HEX    the card's name, the first bytes of space 7, which no packet can set
+//
+// Any other line is passed over.
 use crate::hex;
+use crate::repair;
 use crate::show;
-use lbp16::pointer::Pointers;
+use crate::show::Card;
 use lines::answer;
 use lines::slice;
 use lines::text;
@@ -16,39 +22,70 @@ use packet::bytes;
 ghost use Prim.Native.Nat.{_≤_};
 ghost use lib.ListN.{length};
 
-// A name that is a whole line, with its end.
-fn title(name: &[u8]) {
+// Where the card's name stands in the store.
+const NAME: usize = 65696;
+
+// A title is a whole line, with its end.
+fn part(title: &[u8]) -> Card {
     text::say(b"\n");
-    text::say(name);
+    text::say(title);
+    show::fresh()
 }
 
-fn burst(name: &[u8], data: &[u8], card: &mut [u8], words: &mut [u32], answer: &mut [u32])
-    requires { ⌜ (8 ≤ length (now words)) × (8 ≤ length (now answer)) ⌝ }
-{
-    let n = hex::words_of(data, words);
-    show::burst(name, &words[..n], card, &mut answer[..n]);
+fn byte_at(s: &[u8], i: usize) -> u8 {
+    if i < s.len() { s[i] } else { 0 }
 }
 
-// The examples that need no card.
-fn alone(kind: u8, name: &[u8], data: &[u8]) {
+fn named(name: &[u8], card: Card) -> Card {
+    let mut store = card.store;
+    let mut i: usize = 0;
+    while i < 32 {
+        store[NAME + i] = byte_at(name, i);
+        i += 1;
+    }
+    let pointers = card.pointers;
+    Card {
+        pointers,
+        store,
+        room: card.room,
+        log: card.log,
+    }
+}
+
+fn with_room(n: u16, card: Card) -> Card {
+    let pointers = card.pointers;
+    let store = card.store;
+    Card {
+        pointers,
+        store,
+        room: (n % 256) as u8,
+        log: (n / 256) as u8,
+    }
+}
+
+// The examples that leave the card as it is.
+fn apart(kind: u8, name: &[u8], data: &[u8], room: u8, log: u8) {
     match kind {
-        b'#' => title(name),
         b'w' => answer::word(name, bytes::pair_at(data, 0)),
         b'h' => answer::header(name, hex::word_at(data, 0)),
-        b'l' => show::list(name, data, &mut [0; 64]),
+        b'l' => show::list(name, data, room),
+        b'd' => repair::list(name, data, room, log),
         _ => {}
     }
 }
 
-fn example(kind: u8, name: &[u8], data: &[u8], card: &mut [u8], p: Pointers) -> Pointers {
+fn example(kind: u8, name: &[u8], data: &[u8], card: Card) -> Card {
     match kind {
-        b'p' => {
-            return show::packet(name, data, card, p);
+        b'#' => part(name),
+        b'p' => show::packet(name, data, card),
+        b'b' => show::burst(name, data, card),
+        b'n' => named(data, card),
+        b'r' => with_room(bytes::pair_at(data, 0), card),
+        _ => {
+            apart(kind, name, data, card.room, card.log);
+            card
         }
-        b'b' => burst(name, data, card, &mut [0; 8], &mut [0; 8]),
-        _ => alone(kind, name, data),
     }
-    p
 }
 
 // The bytes before the first b: all of them where there is none.
@@ -65,24 +102,13 @@ fn before(s: &[u8], b: u8) -> usize
     i
 }
 
-// The bytes of a line before its colon. A title is all of its line.
-fn head_bytes(s: &[u8], kind: u8) -> usize
-    ensures { λ r. ⌜ r ≤ length (now (s .entry)) ⌝ }
-{
-    if kind == b'#' {
-        return s.len();
-    }
-    before(s, b':')
-}
-
-fn line(s: &[u8], card: &mut [u8], p: Pointers) -> Pointers {
-    let room: &mut [u8] = &mut [0; 256];
+fn line(s: &[u8], card: Card) -> Card {
+    let head = before(s, b'=');
+    let data = hex::data_of(&s[head..]);
+    let n = (data.digits / 2) as u64;
     let kind = (bytes::pair_at(s, 0) % 256) as u8;
-    let head = head_bytes(s, kind);
-    let n = hex::bytes_of(&s[head..], room);
-    let front = slice::part(s, 0, head as u64);
-    let name = slice::part(front, 2, head as u64);
-    example(kind, name, slice::part(room, 0, n), card, p)
+    let name = slice::part(slice::part(s, 0, head as u64), 2, head as u64);
+    example(kind, name, slice::part(&data.bytes, 0, n), card)
 }
 
 // The first line, with its end.
@@ -94,30 +120,13 @@ fn line_bytes(rest: &[u8]) -> usize
     if n < rest.len() { n + 1 } else { n }
 }
 
-// One part, on a card that may hold something already.
-pub(crate) fn on_card(part: &[u8], card: &mut [u8]) {
-    let mut p = Pointers::fresh();
-    let mut rest = part;
-    while 1 <= rest.len() {
-        let k = line_bytes(rest);
-        p = line(slice::part(rest, 0, k as u64), card, p);
-        rest = &rest[k..];
-    }
-}
-
-// The first part: up to the next title.
-fn part_bytes(rest: &[u8]) -> usize
-    requires { ⌜ 1 ≤ length (now rest) ⌝ }
-    ensures { λ r. ⌜ (1 ≤ r) × (r ≤ length (now (rest .entry))) ⌝ }
-{
-    1 + before(&rest[1..], b'#')
-}
-
 pub(crate) fn play(script: &[u8]) {
+    let mut card = show::fresh();
     let mut rest = script;
     while 1 <= rest.len() {
-        let k = part_bytes(rest);
-        on_card(slice::part(rest, 0, k as u64), &mut [0; 65728]);
+        let k = line_bytes(rest);
+        let next = line(slice::part(rest, 0, k as u64), card);
+        card = next;
         rest = &rest[k..];
     }
 }

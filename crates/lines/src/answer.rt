@@ -1,4 +1,4 @@
-// What was answered, as text: a refusal, a reply, and the fields of words and headers.
+// What was sent and answered, as text: a packet's bytes, a refusal, a reply, and the fields of words and headers.
 use crate::slice;
 use crate::text;
 use card::spi;
@@ -13,14 +13,9 @@ use packet::judge::Verdict;
 ghost use mathlib.Core.Path.{_≡_};
 ghost use Prim.Native.Nat.{_≤_, _^_};
 
-// A longer reply is written as its first and last bytes, and so is a longer list, output or packet.
-const SHOWN: usize = 32;
-
-const WHOLE: usize = 128;
-
+// Up to the line's end, as the answers below.
 pub fn refusal(r: Refusal) {
-    text::number(b" refused ", r.number as u64);
-    text::number(b" at ", r.place);
+    text::numbers(b" refused # at #\n", r.number as u64, r.place);
 }
 
 // The bytes of an element, by its size code.
@@ -35,133 +30,122 @@ fn element_bytes(size: u8) -> u64
     }
 }
 
-fn flags(write: bool, address: bool, info: bool) {
-    text::say_if(write, b" write,", b" read,");
-    text::say_if(address, b" address,", b" no address,");
-    text::say_if(info, b" info,", b"");
-}
-
 fn fields(f: Fields) {
-    flags(f.write, f.address, f.info);
-    text::number(b" space ", f.space as u64);
-    text::number(b", ", element_bytes(f.size));
-    text::say_if(f.increment, b" bytes, increment,", b" bytes, no increment,");
-    text::number(b" count ", f.count as u64);
+    text::fill(
+        b": [write|read],[| no] address,[ info,|] space #, # bytes,[| no] increment, count #;",
+        &[
+            f.write as u64,
+            f.address as u64,
+            f.info as u64,
+            f.space as u64,
+            element_bytes(f.size),
+            f.increment as u64,
+            f.count as u64,
+        ],
+    );
 }
 
 fn word_written(written: Written) {
     match written {
-        Written::Word(back) => {
-            text::say(b"; written back");
-            text::command_word(back);
-        }
-        Written::Refused(r) => {
-            text::say(b";");
-            refusal(r);
-        }
+        Written::Word(w) => text::numbers(
+            b" written back % %\n",
+            (w % 256) as u64,
+            (w / 256) as u64,
+        ),
+        Written::Refused(r) => refusal(r),
     }
-    text::say(b"\n");
 }
 
 // A command word, its fields, and the word that they are written as.
 pub fn word(name: &[u8], w: u16) {
-    text::named(name, b", word");
-    text::command_word(w);
-    text::say(b":");
+    text::say(name);
+    text::numbers(b", word % %", (w % 256) as u64, (w / 256) as u64);
     let f = word::fields_of(w);
     fields(f);
-    let written = word::word_of(f);
-    word_written(written);
-}
-
-fn command(c: u8) {
-    match c {
-        0xA => text::say(b" read,"),
-        0xB => text::say(b" write,"),
-        _ => {
-            text::number(b" command ", c as u64);
-            text::say(b",");
-        }
-    }
+    word_written(word::word_of(f));
 }
 
 fn header_fields(h: Header) {
-    command(h.command);
-    text::say(b" address ");
-    text::address(h.address);
-    text::say_if(h.increment, b", increment,", b", no increment,");
-    text::number(b" count ", h.count as u64);
+    text::fill(
+        b":[ read|][ write|][ command #|], address @,[| no] increment, count #;",
+        &[
+            (h.command == 0xA) as u64,
+            (h.command == 0xB) as u64,
+            ((h.command != 0xA) & (h.command != 0xB)) as u64,
+            h.command as u64,
+            h.address as u64,
+            h.increment as u64,
+            h.count as u64,
+        ],
+    );
 }
 
 fn header_written(written: HeaderWritten) {
     match written {
-        HeaderWritten::Word(back) => {
-            text::say(b"; written back");
-            text::spi_word(back);
+        HeaderWritten::Word(w) => {
+            text::numbers(
+                b" written back @@\n",
+                (w / 65536) as u64,
+                (w % 65536) as u64,
+            );
         }
-        HeaderWritten::Refused(r) => {
-            text::say(b";");
-            refusal(r);
-        }
+        HeaderWritten::Refused(r) => refusal(r),
     }
-    text::say(b"\n");
 }
 
 // An SPI header, its fields, and the header that they are written as.
 pub fn header(name: &[u8], w: u32) {
-    text::named(name, b", header");
-    text::spi_word(w);
-    text::say(b":");
+    text::say(name);
+    text::numbers(b", header @@", (w / 65536) as u64, (w % 65536) as u64);
     let h = spi::header_of(w);
     header_fields(h);
-    let written = spi::header_word(h);
-    header_written(written);
+    header_written(spi::header_word(h));
 }
 
-pub fn reply_bytes(s: &[u8]) {
+// All bytes, or where they are more than `most` the first and the last eight.
+pub fn shown(s: &[u8], most: usize) {
     let n = s.len();
-    if n <= SHOWN {
+    if n <= most {
         text::bytes(s);
         return;
     }
-    let front = slice::within(8, s);
-    let back = n - 8;
-    text::bytes(&s[..front]);
+    let k = slice::within(8, s);
+    text::bytes(&s[..k]);
     text::say(b" ..");
+    let back = n - k;
     text::bytes(&s[back..]);
 }
 
-pub fn shown(s: &[u8]) {
-    if s.len() <= WHOLE {
-        text::bytes(s);
-    } else {
-        reply_bytes(s);
-    }
+// What was sent, behind its name and kind, up to the colon.
+pub fn sent(name: &[u8], kind: &[u8], s: &[u8]) {
+    text::say(name);
+    text::say(kind);
+    shown(s, 128);
+    text::say(b":");
 }
 
 fn accepted(n: u64, reply: &[u8]) {
-    text::number(b" accepted, ", n);
-    text::say_if(n == 0, b" bytes", b" bytes:");
-    reply_bytes(slice::part(reply, 0, n));
+    text::numbers(b" accepted, # bytes[:|]", n, n);
+    shown(slice::part(reply, 0, n), 32);
+    text::say(b"\n");
 }
 
-// A packet's answer, up to the line's end.
+// A packet's answer.
 pub fn ran(answer: Verdict, reply: &[u8]) {
     match answer {
         Verdict::Accepted(n) => accepted(n, reply),
         Verdict::Refused(r) => refusal(r),
     }
-    text::say(b"\n");
 }
 
-// A burst's answer, up to the line's end.
+// A burst's answer.
 pub fn burst(outcome: BurstAnswer, words: &[u32]) {
     match outcome {
         BurstAnswer::Accepted(_) => {
             text::say(b" accepted:");
             text::spi_words(words);
+            text::say(b"\n");
         }
         BurstAnswer::Refused(r) => refusal(r),
     }
-    text::say(b"\n");
 }

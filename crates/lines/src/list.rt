@@ -18,35 +18,24 @@ pub fn frame_bytes(rest: &[u8]) -> usize
 }
 
 fn lengths(out: &[u8]) {
-    text::say(b", lengths");
     let mut rest = out;
     while 4 <= rest.len() {
         let k = frame_bytes(rest);
-        text::number(b" ", (k - 4) as u64);
+        text::number(b" #", (k - 4) as u64);
         rest = &rest[k..];
     }
 }
 
-fn lengths_and_bytes(out: &[u8]) {
-    lengths(out);
-    text::say(b":");
-    answer::shown(out);
-}
-
 fn output(packets: usize, out: &[u8]) {
-    text::number(b" compiled, ", out.len() as u64);
-    text::number(b" bytes, ", packets as u64);
-    text::say_if(packets == 1, b" packet", b" packets");
-    if packets != 0 {
-        lengths_and_bytes(out);
-    }
-}
-
-// A list and its name, up to the colon.
-pub fn named(name: &[u8], list: &[u8]) {
-    text::named(name, b", list");
-    answer::shown(list);
-    text::say(b":");
+    let n = packets as u64;
+    text::fill(
+        b" compiled, # bytes, # packet[|s][, lengths|]",
+        &[out.len() as u64, n, (n == 1) as u64, n],
+    );
+    lengths(out);
+    text::number(b"[:|]", n);
+    answer::shown(out, 128);
+    text::say(b"\n");
 }
 
 // What a list was answered with, up to the line's end; the output stands at the front of the room.
@@ -58,5 +47,4 @@ pub fn compiled(given: CompileAnswer, room: &[u8]) {
         ),
         CompileAnswer::Refused(r) => answer::refusal(r),
     }
-    text::say(b"\n");
 }

@@ -1,6 +1,7 @@
-// Long cue lists, and shows played end to end: a list compiled, its packets run on one card, and its records done one by
-// one on another.
-use crate::buffer::put;
+// Cue lists compiled, and shows played end to end: a list's packets run on one card, and its records done one by one on
+// another.
+use crate::buffer;
+use crate::buffer::List;
 use crate::buffer::same;
 use card::check;
 use card::run;
@@ -17,54 +18,55 @@ ghost use lib.ListN.{length};
 
 const WRITE_MARK: u16 = 0x5257;
 
-// A list and what it compiles to in the room lent. The bytes of the output.
-pub(crate) fn compiled(name: &[u8], list: &[u8], room: &mut [u8]) -> u64 {
-    list::named(name, list);
-    let given = cue::compile(list, room);
-    list::compiled(given, room);
+// A record behind a list. Of its address and value the first `rising` bytes are the address given, again and again.
+fn put_record(list: List, record: &[u8], rising: u8, address: u64) -> List {
+    let low = (address % 256) as u8;
+    let high = (address / 256 % 256) as u8;
+    let k = rising as u64;
+    let marked = buffer::with(list, slice::part(record, 0, 4));
+    let risen = buffer::with(marked, slice::part(&[low, high, low, high], 0, k));
+    buffer::with(risen, slice::part(record, 4 + k, 256))
+}
+
+// A record `count` times, behind a list; what rises in it rises by 4.
+pub(crate) fn repeated(list: List, record: &[u8], count: u16, rising: u8) -> List {
+    let mut all = list;
+    let mut i: u16 = 0;
+    while i < count {
+        let next = put_record(all, record, rising, 4 * i as u64);
+        all = next;
+        i += 1;
+    }
+    all
+}
+
+// A table's list: its records, how often, and what rises in them.
+pub(crate) fn list_of(records: &[u8], how: &[u8]) -> List {
+    repeated(
+        buffer::empty(),
+        records,
+        bytes::pair_at(how, 0),
+        (bytes::pair_at(how, 2) % 256) as u8,
+    )
+}
+
+fn output_bytes(given: CompileAnswer) -> usize {
     match given {
-        CompileAnswer::Compiled { bytes, packets } => bytes as u64,
+        CompileAnswer::Compiled { bytes, packets } => bytes,
         CompileAnswer::Refused(r) => 0,
     }
 }
 
-// A record of space 0 behind a list's first n bytes. A write's value is its address.
-fn put_record(list: &mut [u8], n: usize, write: bool, address: u16) -> usize {
-    let low = (address % 256) as u8;
-    let high = (address / 256) as u8;
-    if write {
-        return put(list, n, &[b'W', b'R', 0, 0, low, high, low, high, 0, 0]);
+// A list and what it compiles to.
+pub(crate) fn compiled(name: &[u8], list: &[u8]) -> List {
+    let mut room = [0u8; 8192];
+    answer::sent(name, b", list", list);
+    let given = cue::compile(list, &mut room);
+    list::compiled(given, &room);
+    List {
+        bytes: room,
+        n: output_bytes(given),
     }
-    put(list, n, &[b'R', b'D', 0, 0, low, high])
-}
-
-// Records of rising addresses from 0 on, behind a list's first n bytes.
-fn rising(list: &mut [u8], n: usize, write: bool, count: u16) -> usize
-    requires { ⌜ count ≤ 400 ⌝ }
-{
-    let mut end = n;
-    let mut i: u16 = 0;
-    while i < count {
-        end = put_record(list, end, write, 4 * i);
-        i += 1;
-    }
-    end
-}
-
-fn rising_list(name: &[u8], write: bool, count: u16)
-    requires { ⌜ count ≤ 400 ⌝ }
-{
-    let mut records = [0u8; 4096];
-    let list: &mut [u8] = &mut records;
-    let n = rising(list, 0, write, count);
-    compiled(name, slice::part(list, 0, n as u64), &mut [0; 2048]);
-}
-
-fn long_lists() {
-    text::say(b"\nDocument 01: long cue lists; a write's value is its address\n");
-    rising_list(b"369 rising reads", false, 369);
-    rising_list(b"365 rising writes", true, 365);
-    rising_list(b"366 rising writes", true, 366);
 }
 
 // What follows of a record gets the list's bytes from that record on.
@@ -86,30 +88,22 @@ fn record_bytes(rest: &[u8]) -> usize
     slice::within(6, rest)
 }
 
-fn value_words(rest: &[u8]) {
-    if space_of(rest) == 0 {
-        text::address(bytes::pair_at(rest, 8));
-    }
-    text::address(bytes::pair_at(rest, 6));
-    text::say(b" to");
-}
-
-fn kind_words(rest: &[u8]) {
-    if is_write(rest) {
-        text::say(b": write ");
-        value_words(rest);
-    } else {
-        text::say(b": read");
-    }
-}
-
 fn record_words(rest: &[u8], index: u64) {
-    text::number(b"record ", index);
-    kind_words(rest);
-    text::number(b" space ", space_of(rest) as u64);
-    text::say(b" at ");
-    text::address(bytes::pair_at(rest, 4));
-    text::say(b"\n");
+    let write = is_write(rest);
+    let space = space_of(rest);
+    text::fill(
+        b"record #: [write |read][@|][@ to|] space # at @\n",
+        &[
+            index,
+            write as u64,
+            (write & (space == 0)) as u64,
+            bytes::pair_at(rest, 8) as u64,
+            write as u64,
+            bytes::pair_at(rest, 6) as u64,
+            space as u64,
+            bytes::pair_at(rest, 4) as u64,
+        ],
+    );
 }
 
 fn list_words(list: &[u8]) {
@@ -123,82 +117,124 @@ fn list_words(list: &[u8]) {
     }
 }
 
-// What the packets so far left: the pointers, and the bytes of their replies.
-pub(crate) struct Left {
+// A card, and the values that were read from it.
+pub(crate) struct Card {
     pub(crate) pointers: Pointers,
-    pub(crate) bytes: usize,
+    pub(crate) store: [u8; 65728],
+    pub(crate) values: List,
 }
 
-// Checks one packet and runs it, if the check lets it pass. Its reply goes behind the earlier ones.
-fn play_packet(sent: &[u8], store: &mut [u8], before: Left, replies: &mut [u8]) -> Left {
+fn start(pointers: Pointers, store: [u8; 65728]) -> Card {
+    let values = buffer::empty();
+    Card {
+        pointers,
+        store,
+        values,
+    }
+}
+
+fn reply_bytes(answer: Verdict) -> u64 {
+    match answer {
+        Verdict::Accepted(n) => n,
+        Verdict::Refused(_) => 0,
+    }
+}
+
+// Checks one packet and runs it: one that is refused changes nothing. Its reply goes behind the earlier ones.
+fn play_packet(sent: &[u8], before: Card) -> Card {
     let mut room = [0u8; 1472];
-    text::say(b"packet");
-    answer::shown(sent);
-    text::say(b":");
-    let checked = check::check(sent, store, before.pointers);
-    let Verdict::Accepted(n) = checked else {
-        answer::ran(checked, &room);
-        return before;
-    };
-    let ran = run::run(sent, store, before.pointers, &mut room);
-    let given = ran.answer;
-    answer::ran(given, &room);
-    let bytes = put(replies, before.bytes, slice::part(&room, 0, n));
+    let mut store = before.store;
+    answer::sent(b"", b"packet", sent);
+    let checked = check::check(sent, &store, before.pointers);
+    let ran = run::run(sent, &mut store, before.pointers, &mut room);
+    answer::ran(checked, &room);
+    let values = buffer::with(before.values, slice::part(&room, 0, reply_bytes(checked)));
     let pointers = ran.pointers;
-    Left { pointers, bytes }
+    Card {
+        pointers,
+        store,
+        values,
+    }
 }
 
-pub(crate) fn fresh() -> Left {
-    let pointers = Pointers::fresh();
-    Left { pointers, bytes: 0 }
-}
-
-// Runs the packets of an output in order, after those that left this.
-pub(crate) fn play(out: &[u8], store: &mut [u8], before: Left, replies: &mut [u8]) -> Left {
-    let mut left = before;
-    let mut rest = out;
+// Runs the packets of an output in order.
+pub(crate) fn play(out: List, pointers: Pointers, store: [u8; 65728]) -> Card {
+    let mut left = start(pointers, store);
+    let mut rest = slice::part(&out.bytes, 0, out.n as u64);
     while 4 <= rest.len() {
         let k = list::frame_bytes(rest);
-        left = play_packet(&rest[4..k], store, left, replies);
+        let next = play_packet(&rest[4..k], left);
+        left = next;
         rest = &rest[k..];
     }
     left
 }
 
-// Where a space starts in the store.
-fn place_of(space: u16) -> u64
-    ensures { λ r. ⌜ r ≤ 65696 ⌝ }
+// Where a space starts in the store, and the bytes of its elements.
+struct Place {
+    at: u64,
+    element: u64,
+}
+
+fn place_of(space: u16) -> Place
+    ensures { λ r. ⌜ r .at ≤ 65696 ⌝ }
 {
     match space {
-        0 => 0,
-        2 => 65536,
-        6 => 65664,
-        _ => 65696,
+        0 => Place { at: 0, element: 4 },
+        2 => Place {
+            at: 65536,
+            element: 2,
+        },
+        6 => Place {
+            at: 65664,
+            element: 2,
+        },
+        _ => Place {
+            at: 65696,
+            element: 2,
+        },
     }
 }
 
-// One record alone: its element is read or written straight in the store. The bytes of the values read so far.
-fn record_alone(rest: &[u8], store: &mut [u8], values: &mut [u8], n: usize) -> usize {
-    let space = space_of(rest);
-    let place = place_of(space) + bytes::pair_at(rest, 4) as u64;
-    let element: u64 = if space == 0 { 4 } else { 2 };
-    if is_write(rest) {
-        put(store, place as usize, slice::part(rest, 6, element));
-        return n;
-    }
-    put(values, n, slice::part(store, place, element))
+fn where_so(test: bool, n: u64) -> u64 {
+    if test { n } else { 0 }
 }
 
-// The records of a list one by one. The values read go behind the first 2048 bytes. The place behind them.
-fn alone(list: &[u8], store: &mut [u8], values: &mut [u8]) -> usize {
+// One record alone: its element is read or written straight in the store.
+fn record_alone(rest: &[u8], before: Card) -> Card {
+    let mut store = before.store;
+    let write = is_write(rest);
+    let place = place_of(space_of(rest));
+    let at = place.at + bytes::pair_at(rest, 4) as u64;
+    let element = place.element;
+    buffer::put(
+        &mut store,
+        at as usize,
+        slice::part(rest, 6, where_so(write, element)),
+    );
+    let values = buffer::with(
+        before.values,
+        slice::part(&store, at, where_so(!write, element)),
+    );
+    let pointers = before.pointers;
+    Card {
+        pointers,
+        store,
+        values,
+    }
+}
+
+// The records of a list one by one.
+fn alone(list: &[u8]) -> Card {
+    let mut left = start(Pointers::fresh(), [0; 65728]);
     let mut rest = list;
-    let mut end: usize = 2048;
     while 1 <= rest.len() {
-        end = record_alone(rest, store, values, end);
+        let next = record_alone(rest, left);
+        left = next;
         let k = record_bytes(rest);
         rest = &rest[k..];
     }
-    end
+    left
 }
 
 // The packet count is the two bytes from 65674 on, the unlock cell those from 65690 on.
@@ -208,72 +244,41 @@ fn same_but_both(a: &[u8], b: &[u8]) -> bool {
         & same(slice::part(a, 65692, 36), slice::part(b, 65692, 36))
 }
 
-fn values_words(replied: &[u8], read: &[u8]) {
+fn ends_words(packets: Card, records: Card) {
+    let read = records.values;
     text::say(b"records one by one, values read:");
-    answer::reply_bytes(read);
-    text::say(b"\nreplies and values read: ");
-    text::say_if(same(replied, read), b"equal", b"different");
-}
-
-fn stores_words(a: &[u8], b: &[u8]) {
-    text::say(b"; stores but for the unlock cell and the packet count: ");
-    text::say_if(same_but_both(a, b), b"equal", b"different");
-}
-
-fn counts_words(packets: u16, records: u16) {
-    text::number(b"; packet count after the records ", records as u64);
-    text::number(b", after the packets ", packets as u64);
-    text::say(b"\n");
-}
-
-// The packets run on one store, and the records done on another. The replies go to the front of `seen`, the values read
-// behind its first 2048 bytes.
-fn both_ways(list: &[u8], out: &[u8], a: &mut [u8], b: &mut [u8], seen: &mut [u8]) {
-    let left = play(out, a, fresh(), seen);
-    let n = left.bytes as u64;
-    let end = alone(list, b, seen) as u64;
-    let read = slice::part(slice::part(seen, 0, end), 2048, end);
-    values_words(slice::part(seen, 0, n), read);
-    stores_words(a, b);
-    counts_words(bytes::pair_at(a, 65674), bytes::pair_at(b, 65674));
+    answer::shown(slice::part(&read.bytes, 0, read.n as u64), 32);
+    text::fill(
+        b"\nreplies and values read: [equal|different]; stores but for the unlock cell and the packet count: [equal|different]; packet count after the records #, after the packets #\n",
+        &[
+            buffer::same_lists(packets.values, read) as u64,
+            same_but_both(&packets.store, &records.store) as u64,
+            bytes::pair_at(&records.store, 65674) as u64,
+            bytes::pair_at(&packets.store, 65674) as u64,
+        ],
+    );
 }
 
 // A list compiled, and done both ways.
 fn perform(list: &[u8]) {
-    let room: &mut [u8] = &mut [0; 2048];
-    let n = compiled(b"the show", list, room);
-    let out = slice::part(room, 0, n);
-    both_ways(list, out, &mut [0; 65728], &mut [0; 65728], &mut [0; 4096]);
+    let out = compiled(b"the show", list);
+    let packets = play(out, Pointers::fresh(), [0; 65728]);
+    let records = alone(list);
+    ends_words(packets, records);
 }
 
-fn short_show() {
-    text::say(b"\nA show: motor registers, status and EEPROM\n");
-    let list: &[u8] = b"\
-        WR\x00\x00\x00\x20\x00\x00\x01\x00\
-        WR\x00\x00\x04\x20\x00\x00\x02\x00\
-        WR\x00\x00\x08\x20\x00\x00\xFE\xFF\
-        WR\x00\x00\x0C\x20\x78\x56\x34\x12\
-        RD\x00\x00\x04\x20\
-        RD\x00\x00\x08\x20\
-        WR\x06\x00\x16\x00\x08\x00\x00\x00\
-        WR\x02\x00\x20\x00\x20\x00\x00\x00\
-        WR\x02\x00\x22\x00\xA8\xC0\x00\x00\
-        RD\x02\x00\x22\x00";
+pub(crate) fn show(list: &[u8]) {
     list_words(list);
     perform(list);
 }
 
-fn long_show() {
-    let mut records = [0u8; 8192];
-    let list: &mut [u8] = &mut records;
-    text::say(b"\nA show of three packets: 369 rising writes, then 369 rising reads\n");
-    let n = rising(list, 0, true, 369);
-    let m = rising(list, n, false, 369);
-    perform(slice::part(list, 0, m as u64));
+pub(crate) fn long_show() {
+    let writes = repeated(buffer::empty(), b"WR\0\0\0\0\0\0\0\0", 369, 4);
+    let both = repeated(writes, b"RD\0\0\0\0", 369, 2);
+    perform(slice::part(&both.bytes, 0, both.n as u64));
 }
 
-pub(crate) fn all() {
-    long_lists();
-    short_show();
-    long_show();
+pub(crate) fn long_list(name: &[u8], records: &[u8], how: &[u8]) {
+    let list = list_of(records, how);
+    compiled(name, slice::part(&list.bytes, 0, list.n as u64));
 }

@@ -1,29 +1,33 @@
+use Prim.Native.Nat.{_≤_}
+use lib.ListN.{length, length-take, length-drop}
 use native.Mathlib.Omega.{arith}
 use borrow.Author.Needs.{needs}
-use lib.ListN.{length, length-take, length-drop}
 use Rattle.examples.proofs.repair.entries.Statement.{statement}
 use Rattle.examples.proofs.repair.entries.Tie as tie
 
 abbrev Inv-loop : tie.InvT-loop
-Inv-loop log count rest₀ left₀ rest left = Unit
+Inv-loop log count rest₀ left₀ t5 rest left = length rest ≤ length log
 
 abbrev μ-loop : tie.MeasureT-loop
-μ-loop log count rest₀ left₀ rest left = length rest
+μ-loop log count rest₀ left₀ t5 rest left = length rest
 
 loop-holds : tie.Need-loop-holds Inv-loop μ-loop
-loop-holds c = tt
+loop-holds c = search needs
 
 returns : tie.Need-returns Inv-loop μ-loop
 returns c = search needs
 
-shared-slice-read-entry : tie.Need-shared-slice-read-entry Inv-loop μ-loop
-shared-slice-read-entry c = search needs
+slice-aggregate-numbers : tie.Need-slice-aggregate-numbers Inv-loop μ-loop
+slice-aggregate-numbers c = search needs
 
-shared-slice-read-entry-2 : tie.Need-shared-slice-read-entry-2 Inv-loop μ-loop
-shared-slice-read-entry-2 c = search needs
+shared-slice-read-numbers : tie.Need-shared-slice-read-numbers Inv-loop μ-loop
+shared-slice-read-numbers c = search needs
 
-entry-requires : tie.Need-entry-requires Inv-loop μ-loop
-entry-requires c κs = search needs
+shared-slice-read-numbers-2 : tie.Need-shared-slice-read-numbers-2 Inv-loop μ-loop
+shared-slice-read-numbers-2 c = search needs
+
+numbers-requires : tie.Need-numbers-requires Inv-loop μ-loop
+numbers-requires c κs = search needs
 
 sub-left : tie.Need-sub-left Inv-loop μ-loop
 sub-left c = search needs
@@ -41,7 +45,7 @@ loop-less : tie.Need-loop-less Inv-loop μ-loop
 loop-less c = simp (length-take, length-drop) (omega arith)
 
 loop-again : tie.Need-loop-again Inv-loop μ-loop
-loop-again c = tt
+loop-again c = simp (length-take, length-drop) (omega arith)
 
 returns-2 : tie.Need-returns-2 Inv-loop μ-loop
 returns-2 c = search needs
@@ -54,9 +58,10 @@ entries-spec =
     μ-loop
     loop-holds
     returns
-    shared-slice-read-entry
-    shared-slice-read-entry-2
-    entry-requires
+    slice-aggregate-numbers
+    shared-slice-read-numbers
+    shared-slice-read-numbers-2
+    numbers-requires
     sub-left
     sub-rest
     part-rest-start

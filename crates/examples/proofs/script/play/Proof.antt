@@ -1,4 +1,4 @@
-use Prim.{Unit}
+use Prim.Native.Nat.{_≤_}
 use lib.ListN.{length, length-take, length-drop}
 use native.Mathlib.Omega.{arith}
 use borrow.Author.Needs.{needs}
@@ -6,25 +6,25 @@ use Rattle.examples.proofs.script.play.Statement.{statement}
 use Rattle.examples.proofs.script.play.Tie as tie
 
 abbrev Inv-loop : tie.InvT-loop
-Inv-loop script rest₀ rest = Unit
+Inv-loop script card₀ rest₀ card rest = length rest ≤ length script
 
 abbrev μ-loop : tie.MeasureT-loop
-μ-loop script rest₀ rest = length rest
+μ-loop script card₀ rest₀ card rest = length rest
+
+fresh-requires : tie.Need-fresh-requires Inv-loop μ-loop
+fresh-requires c κs = search needs
 
 loop-holds : tie.Need-loop-holds Inv-loop μ-loop
 loop-holds c = search needs
 
-part-bytes-requires : tie.Need-part-bytes-requires Inv-loop μ-loop
-part-bytes-requires c κs = search needs
+line-bytes-requires : tie.Need-line-bytes-requires Inv-loop μ-loop
+line-bytes-requires c κs = search needs
 
 part-requires : tie.Need-part-requires Inv-loop μ-loop
 part-requires c κs = search needs
 
-slice-aggregate-on-card : tie.Need-slice-aggregate-on-card Inv-loop μ-loop
-slice-aggregate-on-card c = search needs
-
-on-card-requires : tie.Need-on-card-requires Inv-loop μ-loop
-on-card-requires c κs = search needs
+line-requires : tie.Need-line-requires Inv-loop μ-loop
+line-requires c κs = search needs
 
 sub-rest : tie.Need-sub-rest Inv-loop μ-loop
 sub-rest c = search needs
@@ -39,7 +39,7 @@ loop-less : tie.Need-loop-less Inv-loop μ-loop
 loop-less c = simp (length-take, length-drop) (omega arith)
 
 loop-again : tie.Need-loop-again Inv-loop μ-loop
-loop-again c = search needs
+loop-again c = simp (length-take, length-drop) (omega arith)
 
 returns : tie.Need-returns Inv-loop μ-loop
 returns c = search needs
@@ -50,11 +50,11 @@ play-spec =
     (tie.spec
     Inv-loop
     μ-loop
+    fresh-requires
     loop-holds
-    part-bytes-requires
+    line-bytes-requires
     part-requires
-    slice-aggregate-on-card
-    on-card-requires
+    line-requires
     sub-rest
     part-rest-start
     part-rest-end

@@ -1,21 +1,15 @@
 use Prim.Native.Nat.{_≤_}
+use lib.ListN.{length, length-take, length-drop}
 use native.Mathlib.Omega.{arith}
 use borrow.Author.Needs.{needs}
-use lib.ListN.{length, length-take, length-drop}
 use Rattle.lines.proofs.list.lengths.Statement.{statement}
 use Rattle.lines.proofs.list.lengths.Tie as tie
 
 abbrev Inv-loop : tie.InvT-loop
-Inv-loop out rest₀ t5 rest = length rest ≤ length out
+Inv-loop out rest₀ t4 rest = length rest ≤ length out
 
 abbrev μ-loop : tie.MeasureT-loop
-μ-loop out rest₀ t5 rest = length rest
-
-slice-aggregate-say : tie.Need-slice-aggregate-say Inv-loop μ-loop
-slice-aggregate-say c = search needs
-
-say-requires : tie.Need-say-requires Inv-loop μ-loop
-say-requires c κs = search needs
+μ-loop out rest₀ t4 rest = length rest
 
 loop-holds : tie.Need-loop-holds Inv-loop μ-loop
 loop-holds c = search needs
@@ -56,8 +50,6 @@ lengths-spec =
     (tie.spec
     Inv-loop
     μ-loop
-    slice-aggregate-say
-    say-requires
     loop-holds
     frame-bytes-requires
     slice-aggregate-number

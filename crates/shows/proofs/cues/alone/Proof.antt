@@ -1,15 +1,21 @@
-use mathlib.Core.Path.{_≡_}
+use Prim.Native.Nat.{_≤_}
+use lib.ListN.{length, length-take, length-drop}
 use native.Mathlib.Omega.{arith}
 use borrow.Author.Needs.{needs}
-use lib.ListN.{length, length-take, length-drop}
 use Rattle.shows.proofs.cues.alone.Statement.{statement}
 use Rattle.shows.proofs.cues.alone.Tie as tie
 
 abbrev Inv-loop : tie.InvT-loop
-Inv-loop list store₀ values₀ rest₀ n₀ store values rest n = (length store ≡ length store₀) × (length values ≡ length values₀)
+Inv-loop list left₀ rest₀ left rest = length rest ≤ length list
 
 abbrev μ-loop : tie.MeasureT-loop
-μ-loop list store₀ values₀ rest₀ n₀ store values rest n = length rest
+μ-loop list left₀ rest₀ left rest = length rest
+
+fresh-requires : tie.Need-fresh-requires Inv-loop μ-loop
+fresh-requires c κs = search needs
+
+start-requires : tie.Need-start-requires Inv-loop μ-loop
+start-requires c κs = search needs
 
 loop-holds : tie.Need-loop-holds Inv-loop μ-loop
 loop-holds c = search needs
@@ -33,13 +39,7 @@ loop-less : tie.Need-loop-less Inv-loop μ-loop
 loop-less c = simp (length-take, length-drop) (omega arith)
 
 loop-again : tie.Need-loop-again Inv-loop μ-loop
-loop-again c = search needs
-
-same-length : tie.Need-same-length Inv-loop μ-loop
-same-length c = search needs
-
-same-length-2 : tie.Need-same-length-2 Inv-loop μ-loop
-same-length-2 c = search needs
+loop-again c = simp (length-take, length-drop) (omega arith)
 
 returns : tie.Need-returns Inv-loop μ-loop
 returns c = search needs
@@ -50,6 +50,8 @@ alone-spec =
     (tie.spec
     Inv-loop
     μ-loop
+    fresh-requires
+    start-requires
     loop-holds
     record-alone-requires
     record-bytes-requires
@@ -58,6 +60,4 @@ alone-spec =
     part-rest-end
     loop-less
     loop-again
-    same-length
-    same-length-2
     returns)

@@ -1,15 +1,21 @@
-use mathlib.Core.Path.{_≡_}
+use Prim.Native.Nat.{_≤_}
+use lib.ListN.{length, length-take, length-drop}
 use native.Mathlib.Omega.{arith}
 use borrow.Author.Needs.{needs}
-use lib.ListN.{length, length-take, length-drop}
 use Rattle.shows.proofs.cues.play.Statement.{statement}
 use Rattle.shows.proofs.cues.play.Tie as tie
 
 abbrev Inv-loop : tie.InvT-loop
-Inv-loop out store₀ replies₀ p₀ rest₀ store replies p rest = (length store ≡ length store₀) × (length replies ≡ length replies₀)
+Inv-loop left₀ rest₀ left rest = length rest ≤ length rest₀
 
 abbrev μ-loop : tie.MeasureT-loop
-μ-loop out store₀ replies₀ p₀ rest₀ store replies p rest = length rest
+μ-loop left₀ rest₀ left rest = length rest
+
+start-requires : tie.Need-start-requires Inv-loop μ-loop
+start-requires c κs = search needs
+
+part-requires : tie.Need-part-requires Inv-loop μ-loop
+part-requires c κs = search needs
 
 loop-holds : tie.Need-loop-holds Inv-loop μ-loop
 loop-holds c = search needs
@@ -42,13 +48,7 @@ loop-less : tie.Need-loop-less Inv-loop μ-loop
 loop-less c = simp (length-take, length-drop) (omega arith)
 
 loop-again : tie.Need-loop-again Inv-loop μ-loop
-loop-again c = search needs
-
-same-length : tie.Need-same-length Inv-loop μ-loop
-same-length c = search needs
-
-same-length-2 : tie.Need-same-length-2 Inv-loop μ-loop
-same-length-2 c = search needs
+loop-again c = simp (length-take, length-drop) (omega arith)
 
 returns : tie.Need-returns Inv-loop μ-loop
 returns c = search needs
@@ -59,6 +59,8 @@ play-spec =
     (tie.spec
     Inv-loop
     μ-loop
+    start-requires
+    part-requires
     loop-holds
     frame-bytes-requires
     sub-play-packet
@@ -70,6 +72,4 @@ play-spec =
     part-rest-end
     loop-less
     loop-again
-    same-length
-    same-length-2
     returns)

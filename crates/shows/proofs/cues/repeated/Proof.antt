@@ -1,18 +1,19 @@
 use Prim.Native.Nat.{_≤_, _-_}
-use mathlib.Core.Path.{_≡_}
 use borrow.Author.Needs.{needs}
-use lib.ListN.{length}
-use Rattle.shows.proofs.cues.rising.Statement.{statement}
-use Rattle.shows.proofs.cues.rising.Tie as tie
+use Rattle.shows.proofs.cues.repeated.Statement.{statement}
+use Rattle.shows.proofs.cues.repeated.Tie as tie
 
 abbrev Inv-loop : tie.InvT-loop
-Inv-loop list₀ n write count end₀ i₀ list end i = (i ≤ count) × (length list ≡ length list₀)
+Inv-loop «record» count rising all₀ i₀ all i = i ≤ count
 
 abbrev μ-loop : tie.MeasureT-loop
-μ-loop list₀ n write count end₀ i₀ list end i = count - i
+μ-loop «record» count rising all₀ i₀ all i = count - i
 
 loop-holds : tie.Need-loop-holds Inv-loop μ-loop
 loop-holds c = search needs
+
+cast-put-record : tie.Need-cast-put-record Inv-loop μ-loop
+cast-put-record c = search needs
 
 mul-put-record : tie.Need-mul-put-record Inv-loop μ-loop
 mul-put-record c = search needs
@@ -29,23 +30,20 @@ loop-less c = search needs
 loop-again : tie.Need-loop-again Inv-loop μ-loop
 loop-again c = search needs
 
-same-length : tie.Need-same-length Inv-loop μ-loop
-same-length c = search needs
-
 returns : tie.Need-returns Inv-loop μ-loop
 returns c = search needs
 
-pub rising-spec : {M : Type 1} → statement M
-rising-spec =
+pub repeated-spec : {M : Type 1} → statement M
+repeated-spec =
     tie.close
     (tie.spec
     Inv-loop
     μ-loop
     loop-holds
+    cast-put-record
     mul-put-record
     put-record-requires
     add-i
     loop-less
     loop-again
-    same-length
     returns)
