@@ -3,7 +3,6 @@
 use crate::buffer;
 use crate::buffer::List;
 use crate::buffer::same;
-use card::check;
 use card::run;
 use cue::CompileAnswer;
 use lbp16::pointer::Pointers;
@@ -38,16 +37,6 @@ pub(crate) fn repeated(list: List, record: &[u8], count: u16, rising: u8) -> Lis
         i += 1;
     }
     all
-}
-
-// A table's list: its records, how often, and what rises in them.
-pub(crate) fn list_of(records: &[u8], how: &[u8]) -> List {
-    repeated(
-        buffer::empty(),
-        records,
-        bytes::pair_at(how, 0),
-        (bytes::pair_at(how, 2) % 256) as u8,
-    )
 }
 
 fn output_bytes(given: CompileAnswer) -> usize {
@@ -124,32 +113,61 @@ pub(crate) struct Card {
     pub(crate) values: List,
 }
 
-fn start(pointers: Pointers, store: [u8; 65728]) -> Card {
+pub(crate) fn fresh() -> Card {
+    let pointers = Pointers::fresh();
     let values = buffer::empty();
     Card {
         pointers,
-        store,
+        store: [0; 65728],
         values,
     }
 }
 
-fn reply_bytes(answer: Verdict) -> u64 {
+pub(crate) fn reply_bytes(answer: Verdict) -> u64 {
     match answer {
         Verdict::Accepted(n) => n,
         Verdict::Refused(_) => 0,
     }
 }
 
-// Checks one packet and runs it: one that is refused changes nothing. Its reply goes behind the earlier ones.
-fn play_packet(sent: &[u8], before: Card) -> Card {
-    let mut room = [0u8; 1472];
+// What one packet did, and the card after it.
+pub(crate) struct Done {
+    pub(crate) card: Card,
+    pub(crate) answer: Verdict,
+    pub(crate) elements: u64,
+    pub(crate) reply: [u8; 1472],
+}
+
+// Runs one packet: one that is refused changes nothing.
+pub(crate) fn run_on(sent: &[u8], before: Card) -> Done {
+    let mut reply = [0u8; 1472];
     let mut store = before.store;
-    answer::sent(b"", b"packet", sent);
-    let checked = check::check(sent, &store, before.pointers);
-    let ran = run::run(sent, &mut store, before.pointers, &mut room);
-    answer::ran(checked, &room);
-    let values = buffer::with(before.values, slice::part(&room, 0, reply_bytes(checked)));
+    let ran = run::run(sent, &mut store, before.pointers, &mut reply);
     let pointers = ran.pointers;
+    let values = before.values;
+    let card = Card {
+        pointers,
+        store,
+        values,
+    };
+    let answer = ran.answer;
+    Done {
+        card,
+        answer,
+        elements: ran.elements,
+        reply,
+    }
+}
+
+// Writes a packet's answer, and puts its reply behind the earlier ones.
+fn replied(done: Done) -> Card {
+    let answer = done.answer;
+    let reply = done.reply;
+    let before = done.card;
+    answer::ran(answer, &reply);
+    let values = buffer::with(before.values, slice::part(&reply, 0, reply_bytes(answer)));
+    let pointers = before.pointers;
+    let store = before.store;
     Card {
         pointers,
         store,
@@ -157,9 +175,14 @@ fn play_packet(sent: &[u8], before: Card) -> Card {
     }
 }
 
+fn play_packet(sent: &[u8], before: Card) -> Card {
+    answer::sent(b"", b"packet", sent);
+    replied(run_on(sent, before))
+}
+
 // Runs the packets of an output in order.
-pub(crate) fn play(out: List, pointers: Pointers, store: [u8; 65728]) -> Card {
-    let mut left = start(pointers, store);
+pub(crate) fn play(out: List, before: Card) -> Card {
+    let mut left = before;
     let mut rest = slice::part(&out.bytes, 0, out.n as u64);
     while 4 <= rest.len() {
         let k = list::frame_bytes(rest);
@@ -196,26 +219,36 @@ fn place_of(space: u16) -> Place
     }
 }
 
-fn where_so(test: bool, n: u64) -> u64 {
-    if test { n } else { 0 }
+// Where a record's element stands, and how many bytes of it are read or written.
+struct Element {
+    at: u64,
+    read: u64,
+    written: u64,
+}
+
+fn element_of(rest: &[u8]) -> Element {
+    let place = place_of(space_of(rest));
+    let at = place.at + bytes::pair_at(rest, 4) as u64;
+    if is_write(rest) {
+        return Element {
+            at,
+            read: 0,
+            written: place.element,
+        };
+    }
+    Element {
+        at,
+        read: place.element,
+        written: 0,
+    }
 }
 
 // One record alone: its element is read or written straight in the store.
 fn record_alone(rest: &[u8], before: Card) -> Card {
     let mut store = before.store;
-    let write = is_write(rest);
-    let place = place_of(space_of(rest));
-    let at = place.at + bytes::pair_at(rest, 4) as u64;
-    let element = place.element;
-    buffer::put(
-        &mut store,
-        at as usize,
-        slice::part(rest, 6, where_so(write, element)),
-    );
-    let values = buffer::with(
-        before.values,
-        slice::part(&store, at, where_so(!write, element)),
-    );
+    let e = element_of(rest);
+    buffer::put(&mut store, e.at as usize, slice::part(rest, 6, e.written));
+    let values = buffer::with(before.values, slice::part(&store, e.at, e.read));
     let pointers = before.pointers;
     Card {
         pointers,
@@ -226,7 +259,7 @@ fn record_alone(rest: &[u8], before: Card) -> Card {
 
 // The records of a list one by one.
 fn alone(list: &[u8]) -> Card {
-    let mut left = start(Pointers::fresh(), [0; 65728]);
+    let mut left = fresh();
     let mut rest = list;
     while 1 <= rest.len() {
         let next = record_alone(rest, left);
@@ -244,27 +277,33 @@ fn same_but_both(a: &[u8], b: &[u8]) -> bool {
         & same(slice::part(a, 65692, 36), slice::part(b, 65692, 36))
 }
 
-fn ends_words(packets: Card, records: Card) {
-    let read = records.values;
+fn stores_words(packets: &[u8], records: &[u8]) {
+    text::fill(
+        b"; stores but for the unlock cell and the packet count: [equal|different]; packet count after the records #, after the packets #\n",
+        &[
+            same_but_both(packets, records) as u64,
+            bytes::pair_at(records, 65674) as u64,
+            bytes::pair_at(packets, 65674) as u64,
+        ],
+    );
+}
+
+fn values_words(replied: List, read: List) {
     text::say(b"records one by one, values read:");
     answer::shown(slice::part(&read.bytes, 0, read.n as u64), 32);
-    text::fill(
-        b"\nreplies and values read: [equal|different]; stores but for the unlock cell and the packet count: [equal|different]; packet count after the records #, after the packets #\n",
-        &[
-            buffer::same_lists(packets.values, read) as u64,
-            same_but_both(&packets.store, &records.store) as u64,
-            bytes::pair_at(&records.store, 65674) as u64,
-            bytes::pair_at(&packets.store, 65674) as u64,
-        ],
+    text::number(
+        b"\nreplies and values read: [equal|different]",
+        buffer::same_lists(replied, read) as u64,
     );
 }
 
 // A list compiled, and done both ways.
 fn perform(list: &[u8]) {
     let out = compiled(b"the show", list);
-    let packets = play(out, Pointers::fresh(), [0; 65728]);
+    let packets = play(out, fresh());
     let records = alone(list);
-    ends_words(packets, records);
+    values_words(packets.values, records.values);
+    stores_words(&packets.store, &records.store);
 }
 
 pub(crate) fn show(list: &[u8]) {
@@ -278,7 +317,14 @@ pub(crate) fn long_show() {
     perform(slice::part(&both.bytes, 0, both.n as u64));
 }
 
-pub(crate) fn long_list(name: &[u8], records: &[u8], how: &[u8]) {
-    let list = list_of(records, how);
+// A table's list, compiled: its records, how often, and what rises in them.
+pub(crate) fn long_list(name: &[u8], records: &[u8], how: &[u8]) -> List {
+    let list = repeated(
+        buffer::empty(),
+        records,
+        bytes::pair_at(how, 0),
+        (bytes::pair_at(how, 2) % 256) as u8,
+    );
     compiled(name, slice::part(&list.bytes, 0, list.n as u64));
+    list
 }

@@ -14,7 +14,9 @@ const ROWS: u8 = 28;
 
 fn on_lists(kind: u8, name: &[u8], data: &[u8], more: &[u8]) {
     match kind {
-        b'c' => cues::long_list(name, data, more),
+        b'c' => {
+            cues::long_list(name, data, more);
+        }
         b't' => tighter::beside(name, data, more),
         b'2' => two_lists::pair(name, data, more),
         _ => text::say(name),

@@ -7,9 +7,8 @@ use lines::text;
 // A list, what it compiles to, and what the planner puts out.
 pub(crate) fn beside(name: &[u8], records: &[u8], how: &[u8]) {
     let mut room = [0u8; 2048];
-    let whole = cues::list_of(records, how);
+    let whole = cues::long_list(name, records, how);
     let list = slice::part(&whole.bytes, 0, whole.n as u64);
-    cues::compiled(name, list);
     text::say(b"tighter:");
     let given = planner::tighten(list, &mut room);
     list::compiled(given, &room);

@@ -6,7 +6,6 @@ use crate::cues;
 use crate::cues::Card;
 use crate::cues::play;
 use independent::Independence;
-use lbp16::pointer::Pointers;
 use lines::answer;
 use lines::text;
 use packet::bytes;
@@ -17,27 +16,45 @@ struct Turn {
     card: Card,
 }
 
+// A card with the values read so far put away.
+fn unread(card: Card) -> Card {
+    let pointers = card.pointers;
+    let store = card.store;
+    let values = buffer::empty();
+    Card {
+        pointers,
+        store,
+        values,
+    }
+}
+
 // All packets of one output and then all of the other.
 fn in_turn(one: List, other: List) -> Turn {
-    let between = play(one, Pointers::fresh(), [0; 65728]);
-    let store = between.store;
-    let card = play(other, between.pointers, store);
+    let between = play(one, cues::fresh());
     let first = between.values;
+    let card = play(other, unread(between));
     Turn { first, card }
+}
+
+fn stores_words(a: &[u8], b: &[u8]) {
+    text::fill(
+        b"all bytes of the stores: [equal|different]; packet count # and #",
+        &[
+            same(a, b) as u64,
+            bytes::pair_at(a, 65674) as u64,
+            bytes::pair_at(b, 65674) as u64,
+        ],
+    );
 }
 
 fn ends_words(forth: Turn, back: Turn) {
     let a = forth.card;
     let b = back.card;
-    text::fill(
-        b"all bytes of the stores: [equal|different]; packet count # and #; the first list's values: [equal|different]; the second's: [equal|different]\n",
-        &[
-            same(&a.store, &b.store) as u64,
-            bytes::pair_at(&a.store, 65674) as u64,
-            bytes::pair_at(&b.store, 65674) as u64,
-            buffer::same_lists(forth.first, b.values) as u64,
-            buffer::same_lists(a.values, back.first) as u64,
-        ],
+    stores_words(&a.store, &b.store);
+    text::numbers(
+        b"; the first list's values: [equal|different]; the second's: [equal|different]\n",
+        buffer::same_lists(forth.first, b.values) as u64,
+        buffer::same_lists(a.values, back.first) as u64,
     );
 }
 

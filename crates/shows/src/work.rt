@@ -3,12 +3,8 @@
 use crate::buffer;
 use crate::buffer::List;
 use crate::cues;
-use card::check;
-use card::run;
-use lbp16::pointer::Pointers;
 use lines::slice;
 use lines::text;
-use packet::judge::Verdict;
 
 // Five writes of 127 elements, and one of 89.
 fn packet() -> List {
@@ -24,21 +20,17 @@ fn packet() -> List {
     buffer::with(writes, slice::part(&write, 0, 180))
 }
 
-fn answer(verdict: Verdict) {
-    match verdict {
-        Verdict::Accepted(n) => text::number(b": accepted, reply of #", n),
-        Verdict::Refused(r) => text::number(b": refused #", r.number as u64),
-    }
+fn outcome(sent: &[u8]) {
+    let done = cues::run_on(sent, cues::fresh());
+    let answer = done.answer;
+    let n = cues::reply_bytes(answer);
+    text::fill(
+        b"736 reads and 724 writes, packet of #: [accepted|refused], reply of # bytes, elements moved #\n",
+        &[sent.len() as u64, n, n, done.elements],
+    );
 }
 
-// Checked, and run all the same.
 pub(crate) fn most() {
     let list = packet();
-    let sent = slice::part(&list.bytes, 0, list.n as u64);
-    let mut store = [0u8; 65728];
-    text::number(b"736 reads and 724 writes, packet of #", list.n as u64);
-    let checked = check::check(sent, &store, Pointers::fresh());
-    answer(checked);
-    let ran = run::run(sent, &mut store, Pointers::fresh(), &mut [0; 1472]);
-    text::number(b" bytes, elements moved #\n", ran.elements);
+    outcome(slice::part(&list.bytes, 0, list.n as u64));
 }

@@ -14,9 +14,6 @@ abbrev μ-loop : tie.MeasureT-loop
 fresh-requires : tie.Need-fresh-requires Inv-loop μ-loop
 fresh-requires c κs = search needs
 
-start-requires : tie.Need-start-requires Inv-loop μ-loop
-start-requires c κs = search needs
-
 loop-holds : tie.Need-loop-holds Inv-loop μ-loop
 loop-holds c = search needs
 
@@ -51,7 +48,6 @@ alone-spec =
     Inv-loop
     μ-loop
     fresh-requires
-    start-requires
     loop-holds
     record-alone-requires
     record-bytes-requires

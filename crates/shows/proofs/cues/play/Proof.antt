@@ -11,9 +11,6 @@ Inv-loop left₀ rest₀ left rest = length rest ≤ length rest₀
 abbrev μ-loop : tie.MeasureT-loop
 μ-loop left₀ rest₀ left rest = length rest
 
-start-requires : tie.Need-start-requires Inv-loop μ-loop
-start-requires c κs = search needs
-
 part-requires : tie.Need-part-requires Inv-loop μ-loop
 part-requires c κs = search needs
 
@@ -59,7 +56,6 @@ play-spec =
     (tie.spec
     Inv-loop
     μ-loop
-    start-requires
     part-requires
     loop-holds
     frame-bytes-requires
