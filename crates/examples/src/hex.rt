@@ -1,38 +1,45 @@
 // Hexadecimal digits as bytes and words.
-use packet::bytes;
 ghost use Prim.Native.Nat.{_≤_};
+ghost use lib.ListN.{length};
 
-// The bytes that a text's digits make, two digits a byte.
+// What a text's digits make: bytes of two digits, and words of eight.
 pub(crate) struct Data {
     pub(crate) bytes: [u8; 256],
+    pub(crate) words: [u32; 64],
     pub(crate) digits: usize,
 }
 
-// The value of a digit, and 16 for any other byte.
-fn value(c: u8) -> u8
-    ensures { λ r. ⌜ r ≤ 16 ⌝ }
+// The bytes before the first b: all of them where there is none.
+pub(crate) fn before(s: &[u8], b: u8) -> usize
+    ensures { λ r. ⌜ r ≤ length (now (s .entry)) ⌝ }
 {
-    match c {
-        b'0'..=b'9' => c - b'0',
-        b'A'..=b'F' => c - b'A' + 10,
-        _ => 16,
+    let mut i: usize = 0;
+    while i < s.len() {
+        if s[i] == b {
+            return i;
+        }
+        i += 1;
     }
+    i
 }
 
 // A digit more. Other bytes are passed over, and so is what there is no room for.
 fn with_digit(d: Data, c: u8) -> Data {
-    let v = value(c);
+    let v = before(b"0123456789ABCDEF", c);
     let n = d.digits;
     let mut bytes = d.bytes;
-    if v == 16 {
+    let mut words = d.words;
+    if 16 <= v {
         return d;
     }
     if 512 <= n {
         return d;
     }
-    bytes[n / 2] = bytes[n / 2] % 16 * 16 + v;
+    bytes[n / 2] = bytes[n / 2] % 16 * 16 + v as u8;
+    words[n / 8] = words[n / 8] % 0x10000000 * 16 + v as u32;
     Data {
         bytes,
+        words,
         digits: n + 1,
     }
 }
@@ -40,6 +47,7 @@ fn with_digit(d: Data, c: u8) -> Data {
 pub(crate) fn data_of(text: &[u8]) -> Data {
     let mut data = Data {
         bytes: [0; 256],
+        words: [0; 64],
         digits: 0,
     };
     let mut i: usize = 0;
@@ -51,36 +59,10 @@ pub(crate) fn data_of(text: &[u8]) -> Data {
     data
 }
 
-fn swapped(n: u16) -> u32
-    ensures { λ r. ⌜ r ≤ 65535 ⌝ }
-{
-    (n % 256 * 256 + n / 256) as u32
-}
-
-// The word in the four bytes from `at` on, high byte first.
-pub(crate) fn word_at(s: &[u8], at: usize) -> u32 {
-    if s.len() <= at {
-        return 0;
-    }
-    let high = swapped(bytes::pair_at(s, at));
-    let tail = &s[at..];
-    high * 65536 + swapped(bytes::pair_at(tail, 2))
-}
-
 // How many words bytes make, at most 8.
 pub(crate) fn word_count(s: &[u8]) -> usize
     ensures { λ r. ⌜ r ≤ 8 ⌝ }
 {
     let n = s.len() / 4;
     if n < 8 { n } else { 8 }
-}
-
-pub(crate) fn words_of(s: &[u8]) -> [u32; 8] {
-    let mut words = [0u32; 8];
-    let mut i: usize = 0;
-    while i < 8 {
-        words[i] = word_at(s, i * 4);
-        i += 1;
-    }
-    words
 }

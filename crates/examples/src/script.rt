@@ -64,51 +64,38 @@ fn with_room(n: u16, card: Card) -> Card {
 }
 
 // The examples that leave the card as it is.
-fn apart(kind: u8, name: &[u8], data: &[u8], room: u8, log: u8) {
+fn apart(kind: u8, name: &[u8], data: &[u8], word: u32, room: u8, log: u8) {
     match kind {
         b'w' => answer::word(name, bytes::pair_at(data, 0)),
-        b'h' => answer::header(name, hex::word_at(data, 0)),
+        b'h' => answer::header(name, word),
         b'l' => show::list(name, data, room),
         b'd' => repair::list(name, data, room, log),
         _ => {}
     }
 }
 
-fn example(kind: u8, name: &[u8], data: &[u8], card: Card) -> Card {
+fn example(kind: u8, name: &[u8], data: &[u8], words: [u32; 64], card: Card) -> Card {
     match kind {
         b'#' => part(name),
         b'p' => show::packet(name, data, card),
-        b'b' => show::burst(name, data, card),
+        b'b' => show::burst(name, words, hex::word_count(data), card),
         b'n' => named(data, card),
         b'r' => with_room(bytes::pair_at(data, 0), card),
         _ => {
-            apart(kind, name, data, card.room, card.log);
+            apart(kind, name, data, words[0], card.room, card.log);
             card
         }
     }
 }
 
-// The bytes before the first b: all of them where there is none.
-fn before(s: &[u8], b: u8) -> usize
-    ensures { λ r. ⌜ r ≤ length (now (s .entry)) ⌝ }
-{
-    let mut i: usize = 0;
-    while i < s.len() {
-        if s[i] == b {
-            return i;
-        }
-        i += 1;
-    }
-    i
-}
-
 fn line(s: &[u8], card: Card) -> Card {
-    let head = before(s, b'=');
+    let head = hex::before(s, b'=');
     let data = hex::data_of(&s[head..]);
     let n = (data.digits / 2) as u64;
+    let words = data.words;
     let kind = (bytes::pair_at(s, 0) % 256) as u8;
     let name = slice::part(slice::part(s, 0, head as u64), 2, head as u64);
-    example(kind, name, slice::part(&data.bytes, 0, n), card)
+    example(kind, name, slice::part(&data.bytes, 0, n), words, card)
 }
 
 // The first line, with its end.
@@ -116,7 +103,7 @@ fn line_bytes(rest: &[u8]) -> usize
     requires { ⌜ 1 ≤ length (now rest) ⌝ }
     ensures { λ r. ⌜ (1 ≤ r) × (r ≤ length (now (rest .entry))) ⌝ }
 {
-    let n = before(rest, b'\n');
+    let n = hex::before(rest, b'\n');
     if n < rest.len() { n + 1 } else { n }
 }
 

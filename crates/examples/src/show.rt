@@ -1,5 +1,4 @@
 // One packet, burst or cue list, run through the public functions and written as a line: its name, what was sent, and the answer.
-use crate::hex;
 use card::check;
 use card::run;
 use card::spi;
@@ -53,11 +52,12 @@ fn burst_words(name: &[u8], sent: &[u32], store: &mut [u8], room: &mut [u32]) {
     answer::burst(outcome, room);
 }
 
-pub(crate) fn burst(name: &[u8], data: &[u8], card: Card) -> Card {
+// A burst of the first n words.
+pub(crate) fn burst(name: &[u8], words: [u32; 64], n: usize, card: Card) -> Card
+    requires { ⌜ n ≤ 8 ⌝ }
+{
     let mut store = card.store;
     let mut room = [0u32; 8];
-    let words = hex::words_of(data);
-    let n = hex::word_count(data);
     burst_words(name, &words[..n], &mut store, &mut room[..n]);
     let pointers = card.pointers;
     Card {

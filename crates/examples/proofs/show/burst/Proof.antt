@@ -4,12 +4,6 @@ use borrow.Author.Needs.{needs}
 use Rattle.examples.proofs.show.burst.Statement.{statement}
 use Rattle.examples.proofs.show.burst.Tie as tie
 
-words-of-requires : tie.Need-words-of-requires
-words-of-requires c κs = search needs
-
-word-count-requires : tie.Need-word-count-requires
-word-count-requires c κs = search needs
-
 array-share-prefix-words : tie.Need-array-share-prefix-words
 array-share-prefix-words c = search needs
 
@@ -35,8 +29,6 @@ pub burst-spec : {M : Type 1} → statement M
 burst-spec =
     tie.close
     (tie.spec
-    words-of-requires
-    word-count-requires
     array-share-prefix-words
     slice-aggregate-burst-words
     slice-aggregate-burst-words-2

@@ -1,8 +1,8 @@
 use Prim.Native.Nat.{_≤_, _-_}
 use lib.ListN.{length}
 use borrow.Author.Needs.{needs}
-use Rattle.examples.proofs.script.before.Statement.{statement}
-use Rattle.examples.proofs.script.before.Tie as tie
+use Rattle.examples.proofs.hex.before.Statement.{statement}
+use Rattle.examples.proofs.hex.before.Tie as tie
 
 abbrev Inv-loop : tie.InvT-loop
 Inv-loop s b i₀ i = i ≤ length s
