@@ -9,8 +9,8 @@ mod work;
 use lines::text;
 use packet::bytes;
 
-// The rows of the table below.
-const ROWS: u8 = 28;
+// The rows of a table, at most.
+const ROWS: u8 = 64;
 
 fn on_lists(kind: u8, name: &[u8], data: &[u8], more: &[u8]) {
     match kind {
@@ -54,10 +54,10 @@ fn rows(table: &[u8]) {
 //     s  a show
 //     l  the long show
 //     m  the most elements
-//     2  two lists. Lamps are the registers from 0x1000 on, tilt those from 0x2000 on, the switches the one at 0x3000
+//     2  two lists
 //     j  a recording judged
 //     t  as c, with tighter packets beside the packing rule's
-fn main() {
+fn shows() {
     rows(
         b"~\
         #~Lists, packets and replies are hexadecimal, in the order of the wire.\n~~~\
@@ -81,6 +81,14 @@ fn main() {
         l~~~~\
         #~\nThe most elements\n~~~\
         m~~~~\
+        ",
+    );
+}
+
+// Lamps are the registers from 0x1000 on, tilt those from 0x2000 on, the switches the one at 0x3000.
+fn pairs() {
+    rows(
+        b"~\
         2~\nTwo lists: lamps and tilt apart\n~\
         WR\x00\x00\x00\x10\xFF\x00\x00\x00WR\x00\x00\x04\x10\x80\x00\x00\x00RD\x00\x00\x00\x10~\
         WR\x00\x00\x00\x20\x5A\x00\x00\x00WR\x02\x00\x20\x00\x07\x00\x00\x00RD\x00\x00\x00\x20~\
@@ -93,6 +101,13 @@ fn main() {
         2~\nTwo lists: the same address in two spaces\n~\
         WR\x00\x00\x20\x00\xFF\x00\x00\x00~RD\x02\x00\x20\x00~\
         2~\nTwo lists: both refused\n~RD\x00\x00\x01\x00~RD~\
+        ",
+    );
+}
+
+fn others() {
+    rows(
+        b"~\
         #~\nRecorded shows\n~~~\
         j~as the card replies: ~LB\x0C\x00\x82\xC2\x00\x10\x11\x22\x33\x44\x55\x66\x77\x88LB\x00\x00LB\x04\x00\x82\x42\x00\x10LB\x08\x00\x11\x22\x33\x44\x55\x66\x77\x88~~\
         j~one reply byte changed: ~LB\x0C\x00\x82\xC2\x00\x10\x11\x22\x33\x44\x55\x66\x77\x88LB\x00\x00LB\x04\x00\x82\x42\x00\x10LB\x08\x00\x11\x22\x33\x44\x55\x06\x77\x88~~\
@@ -112,4 +127,10 @@ fn main() {
         WR\x02\x00\x22\x00\xA8\xC0\x00\x00RD\x02\x00\x22\x00~\x01\x00\x00~\
         ",
     );
+}
+
+fn main() {
+    shows();
+    pairs();
+    others();
 }

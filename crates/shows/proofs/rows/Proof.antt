@@ -4,10 +4,10 @@ use Rattle.shows.proofs.rows.Statement.{statement}
 use Rattle.shows.proofs.rows.Tie as tie
 
 abbrev Inv-loop : tie.InvT-loop
-Inv-loop table i₀ i = i ≤ 28
+Inv-loop table i₀ i = i ≤ 64
 
 abbrev μ-loop : tie.MeasureT-loop
-μ-loop table i₀ i = 28 - i
+μ-loop table i₀ i = 64 - i
 
 loop-holds : tie.Need-loop-holds Inv-loop μ-loop
 loop-holds c = search needs
