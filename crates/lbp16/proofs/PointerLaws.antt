@@ -1,13 +1,17 @@
 -- Laws of the pointers.
 use Prim.Native.Nat.{ℕ, _+_, _≤_, _<_}
-use mathlib.Core.Path.{_≡_, refl}
+use mathlib.Core.Path.{_≡_, refl, sym, ap, _∙_}
 use mathlib.Core.Logic.{_≢_}
-use mathlib.Core.Bool.{Bool, true, false}
+use mathlib.Core.Bool.{Bool, true, false, cond}
+use mathlib.Core.List.{List, [], _∷_}
+use lib.Dec.{ltb}
+use lib.ListN.{length, getD, set}
 use native.Mathlib.Omega.{arith}
 use borrow.Author.Tests.{ltb-false, le-ltb}
 use Rattle.lbp16.proofs.BoolLaws.{or-false}
-use Rattle.lbp16.specs.Space.{Space, registers, eeprom, status, information, absent, areaRow}
+use Rattle.lbp16.specs.Space.{Space, registers, eeprom, status, information, absent, areaRow, isAbsent}
 use Rattle.lbp16.specs.Pointer.{advanced, ofSpace, withSpace, pointerOf, withPointer, over, someOver, aboveSize}
+use Rattle.lbp16.specs.Pointer.{spacesAt, pointersOf, spaceList, pointerList, spaceSlot, slotOf}
 use Rattle.lbp16.specs.declared.pointer.SpacePointers.{SpacePointers}
 use Rattle.lbp16.specs.declared.pointer.Pointers.{Pointers}
 
@@ -97,3 +101,71 @@ pub pointer-le : (p : Pointers) → aboveSize p ≡ false → (i : Bool) (s : Sp
 unfolding aboveSize pointerOf
 pointer-le p e false s = space-le (p .plain) false (or-false _ (someOver (p .info) true) e .0) s
 pointer-le p e true s = space-le (p .info) true (or-false (someOver (p .plain) false) _ e .1) s
+
+-- Eight numbers are the list of the pointers that they are, and pointers those of their list.
+pub list-back : (ps : List ℕ) → length ps ≡ 8 → pointerList (pointersOf ps) ≡ ps
+unfolding pointerList spaceList pointersOf spacesAt
+list-back (a ∷ b ∷ c ∷ d ∷ e ∷ f ∷ g ∷ h ∷ []) l = refl
+list-back [] l = absurd (omega arith)
+list-back (a ∷ []) l = absurd (omega arith)
+list-back (a ∷ b ∷ []) l = absurd (omega arith)
+list-back (a ∷ b ∷ c ∷ []) l = absurd (omega arith)
+list-back (a ∷ b ∷ c ∷ d ∷ []) l = absurd (omega arith)
+list-back (a ∷ b ∷ c ∷ d ∷ e ∷ []) l = absurd (omega arith)
+list-back (a ∷ b ∷ c ∷ d ∷ e ∷ f ∷ []) l = absurd (omega arith)
+list-back (a ∷ b ∷ c ∷ d ∷ e ∷ f ∷ g ∷ []) l = absurd (omega arith)
+list-back (a ∷ b ∷ c ∷ d ∷ e ∷ f ∷ g ∷ h ∷ i ∷ ps) l = absurd (omega arith)
+
+pub back-list : (p : Pointers) → pointersOf (pointerList p) ≡ p
+unfolding pointerList spaceList pointersOf spacesAt
+back-list p = refl
+
+pub list-length : (p : Pointers) → length (pointerList p) ≡ 8
+unfolding pointerList spaceList
+list-length p = refl
+
+-- What stands at a pointer's slot is that pointer;
+pub slot-read : (ps : List ℕ) (i : Bool) (s : Space) → cond (ltb (slotOf i s) 8) (getD ps (slotOf i s) 0) 0 ≡ pointerOf (pointersOf ps) i s
+unfolding slotOf spaceSlot pointerOf ofSpace pointersOf spacesAt
+slot-read ps false registers = refl
+slot-read ps false eeprom = refl
+slot-read ps false status = refl
+slot-read ps false information = refl
+slot-read ps false absent = refl
+slot-read ps true registers = refl
+slot-read ps true eeprom = refl
+slot-read ps true status = refl
+slot-read ps true information = refl
+slot-read ps true absent = refl
+
+-- those that the card has stand among the eight,
+pub slot-below : (i : Bool) (s : Space) → isAbsent s ≡ false → slotOf i s < 8
+unfolding slotOf spaceSlot isAbsent
+slot-below false registers e = omega arith
+slot-below false eeprom e = omega arith
+slot-below false status e = omega arith
+slot-below false information e = omega arith
+slot-below true registers e = omega arith
+slot-below true eeprom e = omega arith
+slot-below true status e = omega arith
+slot-below true information e = omega arith
+slot-below i absent e = let z : _≡_ {A = ℕ} 0 1 = cc in absurd (omega arith)
+
+-- and a number put there sets that pointer alone.
+pub slot-written : (ps : List ℕ) → length ps ≡ 8 → (i : Bool) (s : Space) (n : ℕ) → isAbsent s ≡ false
+    → pointersOf (set ps (slotOf i s) n) ≡ withPointer (pointersOf ps) i s n
+unfolding withPointer pointersOf withSpace spacesAt pointerList spaceList slotOf spaceSlot isAbsent
+slot-written ps l i s n e =
+    ap (λ (qs : List ℕ). pointersOf (set qs (slotOf i s) n)) (sym (list-back ps l)) ∙ go (pointersOf ps) i s e
+  where
+    go : (p : Pointers) (i : Bool) (s : Space) → isAbsent s ≡ false
+        → pointersOf (set (pointerList p) (slotOf i s) n) ≡ withPointer p i s n
+    go p false registers e = refl
+    go p false eeprom e = refl
+    go p false status e = refl
+    go p false information e = refl
+    go p true registers e = refl
+    go p true eeprom e = refl
+    go p true status e = refl
+    go p true information e = refl
+    go p i absent e = let z : _≡_ {A = ℕ} 0 1 = cc in absurd (omega arith)

@@ -1,7 +1,9 @@
 -- The address pointers, kept between packets: each space has one, and another for its info area.
 use Prim.Native.Nat.{ℕ, _+_, min}
-use mathlib.Core.Bool.{Bool, true, false, _||_}
+use mathlib.Core.Bool.{Bool, true, false, _||_, cond}
+use mathlib.Core.List.{List, [], _∷_, _++_}
 use lib.Dec.{ltb}
+use lib.ListN.{getD}
 use Rattle.lbp16.specs.Space.{Space, registers, eeprom, status, information, absent, areaRow}
 use Rattle.lbp16.specs.declared.pointer.Pointer.{Pointer}
 use Rattle.lbp16.specs.declared.pointer.SpacePointers.{SpacePointers}
@@ -57,3 +59,33 @@ someOver p info = over p info registers || over p info eeprom || over p info sta
 -- the part of refusal 1 that looks at pointers
 unfoldable pub aboveSize : Pointers → Bool
 aboveSize p = someOver (p .plain) false || someOver (p .info) true
+
+-- Eight pointers, and back: those of spaces 0, 2, 6 and 7, in this order, then those of their info areas.
+unfoldable pub spacesAt : List ℕ → ℕ → SpacePointers
+spacesAt ps i =
+    record {
+      registers = pointer (getD ps i 0);
+      eeprom = pointer (getD ps (i + 1) 0);
+      status = pointer (getD ps (i + 2) 0);
+      information = pointer (getD ps (i + 3) 0);
+    }
+
+unfoldable pub pointersOf : List ℕ → Pointers
+pointersOf ps = record { plain = spacesAt ps 0; info = spacesAt ps 4 }
+
+unfoldable pub spaceList : SpacePointers → List ℕ
+spaceList p = p .registers .at ∷ p .eeprom .at ∷ p .status .at ∷ p .information .at ∷ []
+
+unfoldable pub pointerList : Pointers → List ℕ
+pointerList p = spaceList (p .plain) ++ spaceList (p .info)
+
+-- where a pointer stands among the eight; that of a space that the card lacks is none of them
+unfoldable pub spaceSlot : Space → ℕ
+spaceSlot registers = 0
+spaceSlot eeprom = 1
+spaceSlot status = 2
+spaceSlot information = 3
+spaceSlot absent = 8
+
+unfoldable pub slotOf : Bool → Space → ℕ
+slotOf info s = cond info (spaceSlot s + 4) (spaceSlot s)

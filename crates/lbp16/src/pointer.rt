@@ -1,8 +1,13 @@
 // A space's address pointer, and those that a card keeps.
 use crate::space;
+ghost use mathlib.Core.Bool.{cond};
 ghost use mathlib.Core.Path.{_≡_};
+ghost use Prim.Native.Nat.{_≤_};
+ghost use lib.Dec.{ltb};
+ghost use lib.ListN.{getD};
 ghost use Rattle.lbp16.specs.Space.{spaceOf};
 ghost use Rattle.lbp16.specs.Pointer.{advanced, freshSpaces, fresh, ofSpace, withSpace, pointerOf, withPointer, aboveSize};
+ghost use Rattle.lbp16.specs.Pointer.{spacesAt, pointersOf, pointerList, spaceSlot, slotOf};
 
 // Wider than the sixteen bits of an address, since it may stand past the end of a space.
 pub struct Pointer {
@@ -49,6 +54,19 @@ pub struct SpacePointers {
 }
 
 impl SpacePointers {
+    // Those of spaces 0, 2, 6 and 7, from `at` on.
+    fn from_list(list: &[u32], at: usize) -> Self
+        requires { ⌜ at ≤ 4 ⌝ }
+        ensures { λ r. ⌜ r ≡ spacesAt (now (list .entry)) at ⌝ }
+    {
+        SpacePointers {
+            registers: Pointer::new(at_slot(list, at)),
+            eeprom: Pointer::new(at_slot(list, at + 1)),
+            status: Pointer::new(at_slot(list, at + 2)),
+            information: Pointer::new(at_slot(list, at + 3)),
+        }
+    }
+
     fn fresh() -> Self
         ensures { λ r. ⌜ r ≡ freshSpaces ⌝ }
     {
@@ -106,6 +124,33 @@ impl Pointers {
         }
     }
 
+    // Eight pointers that stand one after the other; one that is missing counts as 0.
+    pub fn from_list(list: &[u32]) -> Self
+        ensures { λ r. ⌜ r ≡ pointersOf (now (list .entry)) ⌝ }
+    {
+        Pointers {
+            plain: SpacePointers::from_list(list, 0),
+            info: SpacePointers::from_list(list, 4),
+        }
+    }
+
+    pub fn listed(self) -> [u32; 8]
+        ensures { λ r. ⌜ r ≡ pointerList self ⌝ }
+    {
+        let plain = self.plain;
+        let info = self.info;
+        [
+            plain.registers.at,
+            plain.eeprom.at,
+            plain.status.at,
+            plain.information.at,
+            info.registers.at,
+            info.eeprom.at,
+            info.status.at,
+            info.information.at,
+        ]
+    }
+
     // The pointer of a space or of its info area.
     pub fn of(self, info: bool, space: u8) -> Pointer
         ensures { λ r. ⌜ r .at ≡ pointerOf self info (spaceOf space) ⌝ }
@@ -145,4 +190,38 @@ impl Pointers {
                 | (Pointer::INFO < info.status.at)
                 | (Pointer::INFO < info.information.at))
     }
+}
+
+fn space_slot(space: u8) -> usize
+    ensures { λ r. ⌜ (r ≡ spaceSlot (spaceOf space)) × (r ≤ 8) ⌝ }
+{
+    match space {
+        0 => 0,
+        2 => 1,
+        6 => 2,
+        7 => 3,
+        _ => 8,
+    }
+}
+
+// Where the pointer of a space, or of its info area, stands among the eight.
+pub fn slot_of(info: bool, space: u8) -> usize
+    ensures { λ r. ⌜ r ≡ slotOf info (spaceOf space) ⌝ }
+{
+    let slot = space_slot(space);
+    if info { slot + 4 } else { slot }
+}
+
+// The number at a slot; 0 where the list ends before it.
+pub fn at_slot(list: &[u32], slot: usize) -> u32
+    ensures { λ r. ⌜ r ≡ getD (now (list .entry)) slot 0 ⌝ }
+{
+    if slot < list.len() { list[slot] } else { 0 }
+}
+
+// The pointer at such a slot; 0 at that of a space that the card lacks.
+pub fn pointer_in(list: &[u32], slot: usize) -> u32
+    ensures { λ r. ⌜ r ≡ cond (ltb slot 8) (getD (now (list .entry)) slot 0) 0 ⌝ }
+{
+    if slot < 8 { at_slot(list, slot) } else { 0 }
 }
