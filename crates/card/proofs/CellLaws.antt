@@ -109,47 +109,53 @@ zeros-next : (i : ℕ) → _++_ {A = ℕ} (replicate i 0) (0 ∷ []) ≡ replica
 zeros-next i = rw add-one at (replicate-append-replicate {A = ℕ} i 1 0)
 
 -- Before turn i of the loop that writes: the words before i are in their cells, and that much of the answer is 0.
-pub record Writing (words store₀ : List ℕ) (from stride : ℕ) (start store answer : List ℕ) (at i : ℕ) : Type 0 where
+pub record Writing (words store₀ : List ℕ) (from stride : ℕ) (store : List ℕ) (at i : ℕ) : Type 0 where
   pub high : i ≤ length words
-  pub same : length answer ≡ length start
-  pub room : length answer ≡ length words
   pub whole : length store ≡ storeBytes
   pub inside : Cells (length words - i) at stride
   pub done : filled (drop i words) at stride store ≡ filled (drop 1 words) from stride store₀
-  pub clear : take i answer ≡ replicate i 0
 
-pub writing-starts : (words store answer : List ℕ) (from stride : ℕ) → 1 ≤ length words → length answer ≡ length words
-    → length store ≡ storeBytes → Cells (length words - 1) from stride
-    → Writing words store from stride (set answer 0 0) store (set answer 0 0) from 1
-writing-starts words store [] from stride h l s w = absurd (omega arith)
-writing-starts words store (x ∷ xs) from stride h l s w =
-    record { high = h; same = refl; room = l; whole = s; inside = w; done = refl; clear = refl }
+pub writing-starts : (words store : List ℕ) (from stride : ℕ) → 1 ≤ length words → length store ≡ storeBytes
+    → Cells (length words - 1) from stride → Writing words store from stride store from 1
+writing-starts words store from stride h s w = record { high = h; whole = s; inside = w; done = refl }
 
-module _ {words store₀ : List ℕ} {from stride : ℕ} {start store answer : List ℕ} {at i : ℕ} where
-  pub writing-inside : Writing words store₀ from stride start store answer at i → i < length words → at + 4 ≤ 65536
+module _ {words store₀ : List ℕ} {from stride : ℕ} {store : List ℕ} {at i : ℕ} where
+  pub writing-inside : Writing words store₀ from stride store at i → i < length words → at + 4 ≤ 65536
   writing-inside r h = within-next (length words) i at stride h (r .inside) .0
 
-  pub writing-next : Writing words store₀ from stride start store answer at i → i < length words → (next : List ℕ)
-      → next ≡ sets store at (bytesOf 4 (getD words i 0))
-      → Writing words store₀ from stride start next (set answer i 0) (at + stride) (i + 1)
+  pub writing-next : Writing words store₀ from stride store at i → i < length words → (next : List ℕ)
+      → next ≡ sets store at (bytesOf 4 (getD words i 0)) → Writing words store₀ from stride next (at + stride) (i + 1)
   unfolding filled
   writing-next r h next e =
       record {
         high = omega arith;
-        same = rw length-set (r .same);
-        room = rw length-set (r .room);
         whole = rw (e, length-sets) (r .whole);
         inside = within-next (length words) i at stride h (r .inside) .1;
         done = rw (e, add-one) (rw (drop-cons words i 0 h) at (r .done));
-        clear = rw (add-one, take-suc-set answer i 0 (omega arith), r .clear) (zeros-next i);
       }
 
-  pub writing-ends : Writing words store₀ from stride start store answer at i → length words ≤ i
-      → (store ≡ filled (drop 1 words) from stride store₀) × (answer ≡ replicate (length start) 0)
+  pub writing-ends : Writing words store₀ from stride store at i → length words ≤ i → store ≡ filled (drop 1 words) from stride store₀
   unfolding filled
-  writing-ends r h =
-      let all : i ≡ length words = omega arith in
-      (rw (drop-of-length-le words h) at (r .done), go (rw all at (r .clear)))
-    where
-      go : take (length words) answer ≡ replicate (length words) 0 → answer ≡ replicate (length start) 0
-      go e = rw (← r .same, r .room) (sym (take-all (length words) answer (omega arith)) ∙ e)
+  writing-ends r h = rw (drop-of-length-le words h) at (r .done)
+
+-- The answer's words up to i are 0.
+pub record Clearing (start answer : List ℕ) (i : ℕ) : Type 0 where
+  pub same : length answer ≡ length start
+  pub high : i ≤ length answer
+  pub clear : take i answer ≡ replicate i 0
+
+pub clearing-starts : (answer : List ℕ) → Clearing answer answer 0
+clearing-starts answer = record { same = refl; high = omega arith; clear = refl }
+
+pub clearing-next : {start answer : List ℕ} {i : ℕ} → Clearing start answer i → i < length answer → Clearing start (set answer i 0) (i + 1)
+clearing-next {answer = answer} {i} r h =
+    record {
+      same = rw length-set (r .same);
+      high = rw length-set (omega arith);
+      clear = rw (add-one, take-suc-set answer i 0 h, r .clear) (zeros-next i);
+    }
+
+pub clearing-ends : {start answer : List ℕ} {i : ℕ} → Clearing start answer i → length answer ≤ i → answer ≡ replicate (length start) 0
+clearing-ends {answer = answer} {i} r h =
+    let all : i ≡ length answer = let q = r .high in omega arith in
+    rw (← r .same) (sym (take-all (length answer) answer (omega arith)) ∙ rw all at (r .clear))

@@ -5,10 +5,13 @@ use mathlib.Core.List.{List, [], _++_, append-nil}
 use mathlib.Core.Bool.{Bool, true, false, cond}
 use native.Mathlib.Omega.{arith}
 use native.Mathlib.Nat.{le-refl, le-trans}
-use lib.ListN.{length, take, drop, length-drop, drop-of-length-le, take-append-drop}
-use lib.Dec.{eqb}
+use lib.ListN.{length, take, drop, getD, length-drop, drop-of-length-le, take-append-drop}
+use lib.Dec.{eqb, ltb}
 use Rattle.lbp16.specs.Space.{spaceOf, areaRow, storeBytes}
-use Rattle.lbp16.specs.Pointer.{pointerOf}
+use Rattle.lbp16.specs.Pointer.{pointerOf, pointersOf, slotOf}
+use Rattle.lbp16.proofs.PointerLaws.{slot-read}
+use Rattle.packet.specs.Reach.{reachFrom, reachAt}
+use Rattle.packet.specs.declared.command.Reach.{Reach}
 use Rattle.lbp16.specs.declared.pointer.Pointers.{Pointers}
 use Rattle.lbp16.specs.declared.word.Fields.{Fields}
 use Rattle.lbp16.proofs.SpaceLaws.{row-end}
@@ -51,6 +54,18 @@ pub from-area : (p : Pointers) (f : Fields) (rest store area : List ℕ) (n : �
     → area ≡ source (kindOf f) (handed p f rest) store
 unfolding handed
 from-area p f rest store area n e q a = rw (← info-source (kindOf f) (handed p f rest) store e, e, a, q) refl
+
+-- the plain pointer of a space, from its slot
+pub plain-pointer : (ps : List ℕ) (n slot : ℕ) → slot ≡ slotOf false (spaceOf n)
+    → cond (ltb slot 8) (getD ps slot 0) 0 ≡ pointerOf (pointersOf ps) false (spaceOf n)
+plain-pointer ps n slot e = rw e (slot-read ps false (spaceOf n))
+
+-- where a command's elements stand, from its reach
+pub span-is : (f : Fields) (r : Reach) (step : ℕ) → step ≡ cond (f .increment) (r .element) 0 → (p : Pointers) (rest : List ℕ)
+    → r ≡ reachAt p f rest
+    → _≡_ {A = Span} (record { at = r .at; step = step; element = r .element; count = f .count }) (spanAt p f rest)
+unfolding reachFrom spanAt stride
+span-is f r step e p rest h = rw (e, h) refl
 
 -- the bytes that a command's elements are moved in
 abbrev pub wideOf : ℕ → ℕ

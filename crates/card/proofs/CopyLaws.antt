@@ -2,7 +2,7 @@
 use Prim.Native.Nat.{ℕ, zero, suc, _+_, _-_, _*_, _≤_, _<_}
 use mathlib.Core.Path.{_≡_, refl, sym, ap, _∙_}
 use mathlib.Core.List.{List, [], _∷_, _++_}
-use mathlib.Core.Bool.{Bool, true, false, cond, _&&_}
+use mathlib.Core.Bool.{Bool, true, false, not, cond, _&&_, _||_}
 use lib.Dec.{eqb}
 use borrow.Author.Tests.{eqb-true}
 use Rattle.lbp16.proofs.BoolLaws.{and-true}
@@ -17,6 +17,11 @@ use Rattle.card.specs.Inside.{Within, moved}
 pub wide-le : (wide : Bool) → 0 + cond wide 4 2 ≤ 4
 wide-le true = omega arith
 wide-le false = omega arith
+
+-- elements of two bytes in a row
+pub narrow : (wide : Bool) (step : ℕ) → (not wide && eqb step 2) ≡ true → (_≡_ {A = ℕ} (cond wide 4 2) 2) × (step ≡ 2)
+narrow true step e = let z : _≡_ {A = ℕ} 0 1 = cc in absurd (omega arith)
+narrow false step e = (refl, eqb-true step 2 e)
 
 -- where the last of the elements stands
 pub last-within : (n i d w bytes : ℕ) → Within (suc n) i d w bytes → i + n * d + w ≤ bytes
@@ -90,13 +95,22 @@ module _ (n w : ℕ) (src : List ℕ) (i d : ℕ) (dst : List ℕ) (j e : ℕ) (
   to-within = first n j e (length dst) some room
 
   pub last-is : (i + (n - 1) * d + w ≤ length src)
-      × (e ≡ 0 → sets dst j (take w (drop (i + (n - 1) * d) src)) ≡ moved n w src i d dst j e)
+      × ((eqb e 0 || eqb n 1) ≡ true → sets dst j (take w (drop (i + (n - 1) * d) src)) ≡ moved n w src i d dst j e)
+  unfolding moved
   last-is = go n some inside
     where
+      alone : (m : ℕ) → suc m ≡ 1 → sets dst j (take w (drop (i + m * d) src)) ≡ moved (suc m) w src i d dst j e
+      alone m q = let z : m ≡ 0 = omega arith in rw (z, zero-mul, add-zero) refl
+
+      test : (m : ℕ) → Within (suc m) i d w (length src) → (b : Bool) → eqb e 0 ≡ b → (b || eqb (suc m) 1) ≡ true
+          → sets dst j (take w (drop (i + m * d) src)) ≡ moved (suc m) w src i d dst j e
+      test m h true q t = rw (eqb-true e 0 q) (sym (moved-still m w src i d dst j h))
+      test m h false q t = alone m (eqb-true _ _ t)
+
       go : (m : ℕ) → (m ≡ 0 → ⊥) → Within m i d w (length src) → (i + (m - 1) * d + w ≤ length src)
-          × (e ≡ 0 → sets dst j (take w (drop (i + (m - 1) * d) src)) ≡ moved m w src i d dst j e)
+          × ((eqb e 0 || eqb m 1) ≡ true → sets dst j (take w (drop (i + (m - 1) * d) src)) ≡ moved m w src i d dst j e)
       go zero s h = absurd (s refl)
-      go (suc m) s h = rw sub-one (last-within m i d w (length src) h, λ z. rw z (sym (moved-still m w src i d dst j h)))
+      go (suc m) s h = rw sub-one (last-within m i d w (length src) h, test m h (eqb e 0) refl)
 
   pub filled-is : d ≡ 0 → moved n w src i 0 dst j e ≡ moved n w src i d dst j e
   filled-is z = rw z refl

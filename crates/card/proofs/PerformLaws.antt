@@ -1,39 +1,40 @@
 -- The run's loop: after each command the store and the reply are those of the steps so far.
 use Prim.Native.Nat.{ℕ, _+_, _-_, _*_, _≤_, _<_}
 use mathlib.Core.Path.{_≡_, refl, sym, ap, _∙_}
-use mathlib.Core.Bool.{Bool, false}
+use mathlib.Core.Bool.{false}
 use mathlib.Core.List.{List, [], _++_, append-assoc}
 use native.Mathlib.Omega.{arith}
-use lib.ListN.{length, take, drop, length-append, length-drop}
+use lib.ListN.{length, take, drop, set, length-append, length-drop, length-set}
 use lib.Seq.{take-at, drop-at, drop-drop}
 use Rattle.lbp16.specs.Space.{spaceOf, storeBytes}
 use Rattle.lbp16.specs.declared.pointer.Pointers.{Pointers}
-use Rattle.packet.specs.Step.{isInfo, answered, storeAfter, valuesRead, replyBytes, unlocked}
-use Rattle.packet.specs.Command.{limit, fieldsAt, kindOf, commandBytes, addressUsed, stride, stepsAt, numberOf, found, pointersAfter}
-use Rattle.packet.specs.Command.{commandAt}
+use Rattle.packet.specs.Step.{answered, storeAfter, valuesRead, replyBytes, unlocked}
+use Rattle.packet.specs.Command.{limit, fieldsAt, kindOf, commandBytes, stepsAt, numberOf, found, pointersAfter}
+use Rattle.packet.specs.Command.{Progress, Command, commandAt}
 use Rattle.packet.specs.Judge.{Carried, begin, carry, judge, Verdict, accepted, refused}
 use Rattle.packet.specs.Verdict.{start, progressOf}
-use Rattle.packet.specs.declared.command.Progress.{Progress}
-use Rattle.lbp16.specs.Pointer.{withPointer, advanced}
+use Rattle.lbp16.specs.Pointer.{pointersOf, pointerList}
 use Rattle.lbp16.specs.declared.word.Fields.{Fields}
-use Rattle.packet.specs.declared.command.Command.{Command}
 use Rattle.packet.proofs.StepLaws.{reply-append}
 use Rattle.packet.proofs.StoreLaws.{length-after, length-values, store-after-append, values-read-append}
 use Rattle.packet.proofs.CommandLaws.{Passed, advanced-used, reply-of-command}
 use Rattle.packet.proofs.InfoLaws.{command-whole}
 use Rattle.packet.proofs.LoopLaws.{At, Turn, at-begin, at-end, at-passed, at-accepted, at-step}
 use Rattle.packet.proofs.CountLaws.{command-elements, few, Paid, paid-start, paid-next}
-use Rattle.card.specs.Inside.{IsAccepted, LetPass, Performed, laid}
-use Rattle.card.specs.declared.run.Done.{Done}
+use Rattle.packet.specs.Reach.{reachFrom, reachAt}
+use Rattle.packet.specs.declared.command.Reach.{Reach}
+use Rattle.lbp16.proofs.PointerLaws.{list-back, slot-below, slot-written}
+use Rattle.card.specs.Inside.{IsAccepted, Ready, Performed, laid}
 
 -- Where the loop stands: the commands before `rest` are done.
-pub record Doing (p : Pointers) (packet store₀ reply₀ store reply : List ℕ) (pointers : Pointers) (filled elements : ℕ) (rest : List ℕ) : Type 0 where
+pub record Doing (list packet store₀ reply₀ store pointers reply : List ℕ) (filled elements : ℕ) (rest : List ℕ) : Type 0 where
   pub carried : Carried
-  pub here : At p packet carried (progressOf carried) (carried .place) rest
-  pub fine : IsAccepted (judge p packet)
+  pub here : At (pointersOf list) packet carried (progressOf carried) (carried .place) rest
+  pub fine : IsAccepted (judge (pointersOf list) packet)
   pub store-bytes : length store₀ ≡ storeBytes
   pub reply-bytes : length reply₀ ≡ limit
-  pub pointed : pointers ≡ carried .pointers
+  pub eight : length pointers ≡ 8
+  pub pointed : pointersOf pointers ≡ carried .pointers
   pub store-is : store ≡ storeAfter (carried .steps) store₀
   pub reply-is : reply
       ≡ valuesRead (carried .steps) store₀ ++ drop (length (valuesRead (carried .steps) store₀)) reply₀
@@ -43,16 +44,17 @@ pub record Doing (p : Pointers) (packet store₀ reply₀ store reply : List ℕ
   pub moved : elements ≡ length (carried .steps)
   pub paid : Paid carried
 
-pub doing-start : (p : Pointers) (packet store reply : List ℕ) → IsAccepted (judge p packet) → length store ≡ storeBytes
-    → length reply ≡ limit → Doing p packet store reply store reply p 0 0 packet
+pub doing-start : (list packet store reply : List ℕ) → IsAccepted (judge (pointersOf list) packet) → length store ≡ storeBytes
+    → length list ≡ 8 → length reply ≡ limit → Doing list packet store reply store list reply 0 0 packet
 unfolding begin storeAfter valuesRead start progressOf replyBytes unlocked
-doing-start p packet store reply a s r =
+doing-start list packet store reply a s l r =
     record {
-      carried = begin p;
-      here = at-begin p packet;
+      carried = begin (pointersOf list);
+      here = at-begin (pointersOf list) packet;
       fine = a;
       store-bytes = s;
       reply-bytes = r;
+      eight = l;
       pointed = refl;
       store-is = refl;
       reply-is = refl;
@@ -60,7 +62,7 @@ doing-start p packet store reply a s r =
       count = refl;
       within = omega arith;
       moved = refl;
-      paid = paid-start p;
+      paid = paid-start (pointersOf list);
     }
 
 -- where the check's loop stands, told by what is carried alone
@@ -82,21 +84,16 @@ values-behind us vs old reply n l e =
     let tail : drop n reply ≡ drop n old = ap (drop n) e ∙ drop-at us _ n l in
     rw (head, tail, length-append, l, drop-drop) (sym (append-assoc us vs _))
 
--- the pointers after a command, as the code finds them
-pointers-on : (p q r : Pointers) (open? : Bool) (reply : ℕ) (g f : Fields) (rest : List ℕ) → Passed p open? reply g rest → r ≡ p
-    → f ≡ g → (used : ℕ) → used ≡ addressUsed r f rest
-    → q ≡ withPointer r (isInfo (kindOf f)) (spaceOf (f .space)) (advanced used (f .count * stride f)) → q ≡ pointersAfter p g rest
-unfolding pointersAfter
-pointers-on p q r open? reply g f rest h e₁ e₂ used e₃ e₄ = e₄ ∙ rw (e₃, e₂, e₁, advanced-used _ _ _ g rest h) refl
-
 -- What doing the next command asks.
-pub record Ready (pointers : Pointers) (filled : ℕ) (f : Fields) (rest store reply : List ℕ) : Type 0 where
-  pub passed : LetPass pointers f rest
+pub record Next (pointers : List ℕ) (filled : ℕ) (f : Fields) (r : Reach) (rest store reply : List ℕ) : Type 0 where
+  pub ready : Ready pointers f rest r
   pub store-bytes : length store ≡ storeBytes
   pub room : filled + f .count * answered (kindOf f) (spaceOf (f .space)) ≤ length reply
+  pub slot : r .slot < length pointers
+  pub answers : filled + r .answered ≤ limit
 
-module _ {p : Pointers} {packet store₀ reply₀ store reply : List ℕ} {pointers : Pointers} {filled elements : ℕ} {rest : List ℕ}
-    (s : Doing p packet store₀ reply₀ store reply pointers filled elements rest) where
+module _ {list packet store₀ reply₀ store pointers reply : List ℕ} {filled elements : ℕ} {rest : List ℕ}
+    (s : Doing list packet store₀ reply₀ store pointers reply filled elements rest) where
   pub length-store : length store ≡ length store₀
   length-store = ap length (s .store-is) ∙ length-after _ store₀
 
@@ -107,19 +104,19 @@ module _ {p : Pointers} {packet store₀ reply₀ store reply : List ℕ} {point
       let r = s .reply-bytes in
       ap length (s .reply-is) ∙ rw (length-append, length-drop) (omega arith)
 
-  pub doing-end : length rest ≡ 0 → (q : Done) → q .pointers ≡ pointers → q .elements ≡ elements
-      → Performed packet store₀ reply₀ p store reply q
-  doing-end e q same moved =
+  pub doing-end : length rest ≡ 0 → Performed packet store₀ reply₀ list store reply pointers elements
+  doing-end e =
       record {
         carried = s .carried;
         judged = at-end rest (s .here) e;
         stored = s .store-is;
         replied = s .reply-is;
-        pointed = same ∙ s .pointed;
-        moved = moved ∙ s .moved;
+        pointed = sym (list-back pointers (s .eight)) ∙ ap pointerList (s .pointed);
+        moved = s .moved;
       }
 
-  module _ (some : 0 < length rest) (f : Fields) (e : f ≡ fieldsAt rest) where
+  module _ (some : 0 < length rest) (f : Fields) (r : Reach) (e : f ≡ fieldsAt rest)
+      (reach : r ≡ reachAt (pointersOf pointers) (fieldsAt rest) rest) where
     abbrev c : Carried
     c = s .carried
 
@@ -133,59 +130,77 @@ module _ {p : Pointers} {packet store₀ reply₀ store reply : List ℕ} {point
     unfolding progressOf
     pass = at-passed rest (s .here) some none
 
-    pub ready : Ready pointers filled f rest store reply
-    ready =
+    bytes : r .bytes ≡ commandBytes (fieldsAt rest)
+    unfolding reachFrom
+    bytes = ap (λ (t : Reach). t .bytes) reach
+
+    answers-is : r .answered ≡ f .count * answered (kindOf f) (spaceOf (f .space))
+    unfolding reachFrom
+    answers-is = rw e (ap (λ (t : Reach). t .answered) reach)
+
+    pub next : Next pointers filled f r rest store reply
+    unfolding reachFrom
+    next =
         let l = pass .answers in
-        let r = length-reply in
-        rw (e, s .pointed, s .filled-is)
-        (record {
-          passed = record { open? = _; reply = _; passed = pass };
+        let q = length-reply in
+        let n : filled + f .count * answered (kindOf f) (spaceOf (f .space)) ≤ limit = rw (e, s .filled-is) l in
+        let a = answers-is in
+        record {
+          ready = record {
+            passed = rw (e, s .pointed) (record { open? = _; reply = _; passed = pass });
+            reach = rw e reach;
+          };
           store-bytes = length-store ∙ s .store-bytes;
           room = omega arith;
-        })
+          slot = rw (s .eight, ap (λ (t : Reach). t .slot) reach) (slot-below _ _ (pass .present));
+          answers = omega arith;
+        }
 
-    pub turn : (k : ℕ) → k ≡ commandBytes f → Turn p packet c (x .next) (c .place) k rest
+    pub turn : Turn (pointersOf list) packet c (x .next) (c .place) (r .bytes) rest
     unfolding commandAt found
-    turn k b = at-step (s .here) some x 0 k refl (sym none) refl (b ∙ ap commandBytes e)
+    turn = at-step (s .here) some x 0 (r .bytes) refl (sym none) refl bytes
 
-    pub doing-next : (k : ℕ) → k ≡ commandBytes f → (store′ reply′ : List ℕ) (q : Pointers) (used more : ℕ)
-        → store′ ≡ storeAfter (stepsAt pointers f rest) store
-        → reply′ ≡ laid filled (valuesRead (stepsAt pointers f rest) store) reply
-        → used ≡ addressUsed pointers f rest
-        → q ≡ withPointer pointers (isInfo (kindOf f)) (spaceOf (f .space)) (advanced used (f .count * stride f))
-        → more ≡ f .count * answered (kindOf f) (spaceOf (f .space)) → (elements′ : ℕ) → elements′ ≡ elements + f .count
-        → Doing p packet store₀ reply₀ store′ reply′ q (filled + more) elements′ (take (length rest - k) (drop k rest))
-    unfolding commandAt found carry progressOf pointersAfter
-    doing-next k b store′ reply′ q used more e₁ e₂ e₃ e₄ e₅ elements′ e₆ =
+    -- the pointers after a command, as the code finds them
+    pointers-on : pointersOf (set pointers (r .slot) (r .next)) ≡ pointersAfter (c .pointers) (fieldsAt rest) rest
+    unfolding pointersAfter reachFrom
+    pointers-on =
+        rw (ap (λ (t : Reach). t .slot) reach, ap (λ (t : Reach). t .next) reach)
+        (slot-written pointers (s .eight) _ _ _ (pass .present) ∙ rw (s .pointed, advanced-used _ _ _ (fieldsAt rest) rest pass) refl)
+
+    pub doing-next : (store′ reply′ : List ℕ) → store′ ≡ storeAfter (stepsAt (pointersOf pointers) f rest) store
+        → reply′ ≡ laid filled (valuesRead (stepsAt (pointersOf pointers) f rest) store) reply
+        → (elements′ : ℕ) → elements′ ≡ elements + f .count
+        → Doing list packet store₀ reply₀ store′ (set pointers (r .slot) (r .next)) reply′ (filled + r .answered) elements′
+        (take (length rest - r .bytes) (drop (r .bytes) rest))
+    unfolding commandAt found carry progressOf
+    doing-next store′ reply′ e₁ e₂ elements′ e₆ =
         let steps = stepsAt (c .pointers) (fieldsAt rest) rest in
         let left : store′ ≡ storeAfter steps store = rw (e, s .pointed) at e₁ in
         let back : reply′ ≡ laid filled (valuesRead steps store) reply = rw (e, s .pointed) at e₂ in
-        let bytes : length (valuesRead steps store) ≡ replyBytes steps =
+        let seen-bytes : length (valuesRead steps store) ≡ replyBytes steps =
         length-values steps store (length-store ∙ s .store-bytes) (command-whole (c .pointers) (fieldsAt rest) rest)
         (pass .inside) in
         let seen : valuesRead (c .steps ++ steps) store₀ ≡ valuesRead (c .steps) store₀ ++ valuesRead steps store =
         values-read-append (c .steps) steps store₀
         ∙ ap (λ (t : List ℕ). valuesRead (c .steps) store₀ ++ valuesRead steps t) (sym (s .store-is)) in
-        let grown : filled + more ≡ replyBytes (c .steps ++ steps) =
-        rw (reply-append, reply-of-command (c .pointers) (fieldsAt rest) rest, s .filled-is, e₅, e) refl in
-        let more-is : more ≡ replyBytes steps = rw (reply-of-command (c .pointers) (fieldsAt rest) rest, ← e) e₅ in
-        let answers = pass .answers in
+        let more-is : r .answered ≡ replyBytes steps = rw (reply-of-command (c .pointers) (fieldsAt rest) rest, ← e) answers-is in
         record {
           carried = carry c rest;
-          here = settled (turn k b .again);
+          here = settled (turn .again);
           fine = s .fine;
           store-bytes = s .store-bytes;
           reply-bytes = s .reply-bytes;
-          pointed = pointers-on _ _ _ _ _ (fieldsAt rest) f rest pass (s .pointed) e used e₃ e₄;
+          eight = length-set pointers (r .slot) (r .next) ∙ s .eight;
+          pointed = pointers-on;
           store-is = left ∙ ap (storeAfter steps) (s .store-is) ∙ sym (store-after-append (c .steps) steps store₀);
           reply-is =
               rw seen
               (back
               ∙ values-behind (valuesRead (c .steps) store₀) (valuesRead steps store) reply₀ reply filled (s .count)
               (s .reply-is ∙ rw (s .count) refl));
-          filled-is = grown;
-          count = rw (seen, length-append, bytes, s .count, more-is) refl;
-          within = rw (e₅, e, s .filled-is) answers;
+          filled-is = let g = reply-append (c .steps) steps in let n = s .filled-is in omega arith;
+          count = rw (seen, length-append, seen-bytes, s .count, more-is) refl;
+          within = next .answers;
           moved =
               rw (e₆, e, length-append, command-elements (c .pointers) (fieldsAt rest) rest)
               (ap (λ (n : ℕ). n + fieldsAt rest .count) (s .moved));
@@ -200,7 +215,7 @@ module _ {p : Pointers} {packet store₀ reply₀ store reply : List ℕ} {point
         let m = s .moved in
         let w = s .within in
         let b = few rest in
-        let r = s .filled-is in
+        let n = s .filled-is in
         let a = s .here .at in
         let l = s .here .end in
         rw e (omega arith)

@@ -9,10 +9,12 @@ use Rattle.lbp16.specs.declared.pointer.Pointers.{Pointers}
 use Rattle.lbp16.specs.declared.word.Fields.{Fields}
 use Rattle.packet.specs.Step.{storeAfter, valuesRead}
 use Rattle.packet.specs.Command.{rowOf, addressUsed, stride}
+use Rattle.packet.specs.Reach.{reachAt}
+use Rattle.packet.specs.declared.command.Reach.{Reach}
 use Rattle.packet.proofs.CommandLaws.{Passed}
 use Rattle.packet.specs.Judge.{Carried, Verdict, refused, accepted, judge}
 use Rattle.card.specs.declared.run.Span.{Span}
-use Rattle.card.specs.declared.run.Done.{Done}
+use Rattle.lbp16.specs.Pointer.{pointersOf, pointerList}
 
 -- n elements of w bytes, d apart from place i on, stand within a list of the given length
 abbrev pub Within : ℕ → ℕ → ℕ → ℕ → ℕ → Type 0
@@ -38,18 +40,23 @@ pub record LetPass (p : Pointers) (f : Fields) (rest : List ℕ) : Type 0 where
   pub reply : ℕ
   pub passed : Passed p open? reply f rest
 
+-- a command that is read and passes, with its reach, on such pointers
+pub record Ready (list : List ℕ) (f : Fields) (rest : List ℕ) (r : Reach) : Type 0 where
+  pub passed : LetPass (pointersOf list) f rest
+  pub reach : r ≡ reachAt (pointersOf list) f rest
+
 -- where a command's elements stand
 unfoldable pub spanAt : Pointers → Fields → List ℕ → Span
 spanAt p f rest =
     let w = rowOf f in
     record { at = w .place + addressUsed p f rest; step = stride f; element = w .element; count = f .count }
 
--- doing all commands of an accepted packet
-pub record Performed (packet store reply : List ℕ) (p : Pointers) (store′ reply′ : List ℕ) (q : Done) : Type 0 where
+-- doing all commands of a packet that is accepted on these pointers
+pub record Performed (packet store reply list : List ℕ) (store′ reply′ list′ : List ℕ) (elements : ℕ) : Type 0 where
   pub carried : Carried
-  pub judged : judge p packet ≡ accepted carried
+  pub judged : judge (pointersOf list) packet ≡ accepted carried
   pub stored : store′ ≡ storeAfter (carried .steps) store
   pub replied : reply′
       ≡ valuesRead (carried .steps) store ++ drop (length (valuesRead (carried .steps) store)) reply
-  pub pointed : q .pointers ≡ carried .pointers
-  pub moved : q .elements ≡ length (carried .steps)
+  pub pointed : list′ ≡ pointerList (carried .pointers)
+  pub moved : elements ≡ length (carried .steps)

@@ -7,7 +7,7 @@ use lib.Seq.{sets}
 use lib.Dec.{eqb, ltb}
 use Rattle.lbp16.specs.Answer.{Answer}
 use Rattle.lbp16.specs.Space.{storeBytes}
-use Rattle.lbp16.specs.Pointer.{aboveSize}
+use Rattle.lbp16.specs.Pointer.{aboveSize, pointersOf, pointerList}
 use Rattle.lbp16.specs.declared.pointer.Pointers.{Pointers}
 use Rattle.packet.specs.Bytes.{number, bytesOf}
 use Rattle.packet.specs.Step.{storeAfter, valuesRead}
@@ -15,6 +15,7 @@ use Rattle.packet.specs.Command.{limit}
 use Rattle.packet.specs.Judge.{Verdict, refused, accepted, judge}
 use Rattle.packet.specs.Verdict.{answerTo, verdictListed}
 use Rattle.card.specs.declared.run.Ran.{Ran}
+use Rattle.card.specs.declared.run.RanList.{RanList}
 
 -- All that a run answers and leaves. `elements`: how many it moved.
 pub record Outcome : Type 0 where
@@ -73,6 +74,36 @@ runVerdict packet store p reply = cond (eqb (length reply) limit) (checked packe
 
 unfoldable pub runPacket : List ℕ → List ℕ → Pointers → List ℕ → Outcome
 runPacket packet store p reply = outcome (runVerdict packet store p reply) store p reply
+
+-- The same with pointers lent as a list; another count of them than eight is refused with 1.
+unfoldable pub checkedList : List ℕ → List ℕ → List ℕ → Verdict
+checkedList packet store list = cond (eqb (length list) 8) (checked packet store (pointersOf list)) (refused 1 0)
+
+pub record ListOutcome : Type 0 where
+  pub answer : Answer
+  pub elements : ℕ
+  pub store : List ℕ
+  pub reply : List ℕ
+  pub pointers : List ℕ
+
+unfoldable pub asList : Outcome → ListOutcome
+asList o =
+    record {
+      answer = o .answer;
+      elements = o .elements;
+      store = o .store;
+      reply = o .reply;
+      pointers = pointerList (o .pointers);
+    }
+
+unfoldable pub runList : List ℕ → List ℕ → List ℕ → List ℕ → ListOutcome
+runList packet store list reply =
+    cond (eqb (length list) 8) (asList (runPacket packet store (pointersOf list) reply))
+    (record { answer = Answer.refused 1 0; elements = 0; store = store; reply = reply; pointers = list })
+
+unfoldable pub ranList : RanList → List ℕ → List ℕ → List ℕ → ListOutcome
+ranList r store list reply =
+    record { answer = verdictListed (r .answer); elements = r .elements; store = store; reply = reply; pointers = list }
 
 -- what a run of the code answers and leaves
 unfoldable pub ran : Ran → List ℕ → List ℕ → Outcome

@@ -59,7 +59,11 @@ fn fill(
 {
     let mut one = [0u8; 4];
     element::move_element(src, from, &mut one, 0, wide);
-    move_each(&one, 0, 0, dst, to, to_step, count, wide);
+    if !wide & (to_step == 2) {
+        move_each(&one, 0, 0, dst, to, 2, count, false);
+    } else {
+        move_each(&one, 0, 0, dst, to, to_step, count, wide);
+    }
 }
 
 fn width_of(wide: bool) -> usize
@@ -69,7 +73,8 @@ fn width_of(wide: bool) -> usize
 }
 
 // `count` elements of 4 bytes, or of 2: from `src` at `from`, `from_step` apart, to `dst` at `to`, `to_step` apart. Elements
-// that stand one behind the other on both sides are one block; of those that go to one place only the last stays there.
+// that stand one behind the other on both sides are one block; of those that go to one place only the last stays there, and
+// one alone is the last.
 pub(crate) fn move_elements(
     src: &[u8],
     from: usize,
@@ -87,7 +92,7 @@ pub(crate) fn move_elements(
         return;
     }
     let width = width_of(wide);
-    if to_step == 0 {
+    if (to_step == 0) | (count == 1) {
         let last = from + (count - 1) * from_step;
         element::move_element(src, last, dst, to, wide);
     } else if from_step == 0 {

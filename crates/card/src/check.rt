@@ -7,7 +7,7 @@ use packet::judge::Verdict;
 ghost use mathlib.Core.Path.{_≡_};
 ghost use Rattle.lbp16.specs.Answer.{Answer};
 ghost use Rattle.packet.specs.Verdict.{answerTo, verdictListed};
-ghost use Rattle.card.specs.Run.{badState, checked};
+ghost use Rattle.card.specs.Run.{badState, checked, checkedList};
 
 pub const STORE_BYTES: usize = 65728;
 
@@ -25,15 +25,27 @@ pub(crate) fn refused(number: u32) -> Verdict
     Verdict::Refused(Refusal { number, place: 0 })
 }
 
-// The reply length that a run of the packet would answer, or its refusal.
-pub fn check(packet: &[u8], store: &[u8], p: Pointers) -> Verdict
-    ensures { λ r. ⌜ verdictListed r ≡ answerTo (checked (now (packet .entry)) (now (store .entry)) p) ⌝ }
+// The reply length that a run of the packet would answer, or its refusal, on pointers that are lent as a list: those of spaces 0, 2,
+// 6 and 7, then those of their info areas. Another count of them than eight is refused with 1.
+pub fn check_list(packet: &[u8], store: &[u8], list: &[u32]) -> Verdict
+    ensures { λ r. ⌜ verdictListed r ≡ answerTo (checkedList (now (packet .entry)) (now (store .entry)) (now (list .entry))) ⌝ }
 {
-    if bad_state(store, p) {
+    if list.len() != 8 {
+        return refused(1);
+    }
+    if bad_state(store, Pointers::from_list(list)) {
         return refused(1);
     }
     if command::LIMIT < packet.len() {
         return refused(2);
     }
-    judge::judge(packet, p)
+    judge::judge_list(packet, list)
+}
+
+// The same, on pointers by value.
+pub fn check(packet: &[u8], store: &[u8], p: Pointers) -> Verdict
+    ensures { λ r. ⌜ verdictListed r ≡ answerTo (checked (now (packet .entry)) (now (store .entry)) p) ⌝ }
+{
+    let list = p.listed();
+    check_list(packet, store, &list)
 }

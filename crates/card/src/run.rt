@@ -2,23 +2,27 @@
 use crate::block;
 use crate::check;
 use crate::element;
+use lbp16::pointer;
 use lbp16::pointer::Pointers;
 use lbp16::word::Fields;
 use packet::command;
+use packet::command::Reach;
 use packet::info;
 use packet::judge::Verdict;
 ghost use mathlib.Core.Path.{_≡_};
 ghost use mathlib.Core.Bool.{true, false, cond};
-ghost use mathlib.Core.List.{_++_};
-ghost use Prim.Native.Nat.{_+_, _*_, _^_, _≤_, _<_};
+ghost use mathlib.Core.List.{List, _++_};
+ghost use Prim.Native.Nat.{ℕ, _+_, _*_, _^_, _≤_, _<_};
 ghost use lib.Dec.{eqb};
 ghost use lib.ListN.{length, drop};
 ghost use Rattle.lbp16.specs.Space.{spaceOf, storeBytes};
 ghost use Rattle.packet.specs.Step.{answered, storeAfter, valuesRead};
 ghost use Rattle.packet.specs.Command.{limit, kindOf, stepsAt};
 ghost use Rattle.packet.specs.Judge.{judge};
-ghost use Rattle.card.specs.Run.{cleared, counted, runPacket, ran};
-ghost use Rattle.card.specs.Inside.{IsAccepted, LetPass, Performed, Within, moved, laid, spanAt};
+ghost use Rattle.packet.specs.Reach.{reachAt};
+ghost use Rattle.lbp16.specs.Pointer.{pointersOf};
+ghost use Rattle.card.specs.Run.{cleared, counted, runPacket, ran, runList, ranList};
+ghost use Rattle.card.specs.Inside.{IsAccepted, Ready, Performed, Within, moved, laid, spanAt};
 
 // A command's elements in the store or in the info area: the first one's place, from one to the next, their bytes, and
 // how many.
@@ -29,15 +33,21 @@ struct Span {
     count: usize,
 }
 
-fn span_of(rest: &[u8], p: Pointers, f: Fields) -> Span
-    ensures { λ r. ⌜ r ≡ spanAt p f (now (rest .entry)) ⌝ }
+// From one element to the next.
+fn step_of(increment: bool, element: usize) -> usize
+    ensures { λ r. ⌜ r ≡ cond increment element 0 ⌝ }
 {
-    let row = command::row_of(f);
-    let used = command::address_used(p, f, rest) as usize;
+    if increment { element } else { 0 }
+}
+
+fn span_of(f: Fields, r: Reach) -> Span
+    ensures { λ s. ⌜ ((p : Pointers) (rest : List ℕ) → r ≡ reachAt p f rest → s ≡ spanAt p f rest) ⌝ }
+{
+    let element = r.element;
     Span {
-        at: row.place as usize + used,
-        step: command::stride_of(f) as usize,
-        element: row.element as usize,
+        at: r.at,
+        step: step_of(f.increment, element),
+        element,
         count: f.count as usize,
     }
 }
@@ -52,14 +62,14 @@ fn read_span(s: Span, src: &[u8], tail: &mut [u8])
 }
 
 // The elements of a read, from the store or from the info area, which shows the pointer as it stands before the command.
-fn read_command(rest: &[u8], p: Pointers, f: Fields, store: &[u8], tail: &mut [u8])
-    requires { ⌜ LetPass p f (now rest) × (f .write ≡ false) × (length (now store) ≡ storeBytes) × (f .count * answered (kindOf f) (spaceOf (f .space)) ≤ length (now tail)) ⌝ }
-    ensures { λ r. ⌜ now (tail .exit) ≡ valuesRead (stepsAt p f (now (rest .entry))) (now (store .entry)) ++ drop (length (valuesRead (stepsAt p f (now (rest .entry))) (now (store .entry)))) (now (tail .entry)) ⌝ }
+fn read_command(rest: &[u8], pointers: &[u32], f: Fields, r: Reach, store: &[u8], tail: &mut [u8])
+    requires { ⌜ Ready (now pointers) f (now rest) r × (f .write ≡ false) × (length (now store) ≡ storeBytes) × (f .count * answered (kindOf f) (spaceOf (f .space)) ≤ length (now tail)) ⌝ }
+    ensures { λ q. ⌜ now (tail .exit) ≡ valuesRead (stepsAt (pointersOf (now (pointers .entry))) f (now (rest .entry))) (now (store .entry)) ++ drop (length (valuesRead (stepsAt (pointersOf (now (pointers .entry))) f (now (rest .entry))) (now (store .entry)))) (now (tail .entry)) ⌝ }
 {
-    let s = span_of(rest, p, f);
+    let s = span_of(f, r);
     if command::is_info(f) {
-        let pointer = p.of(false, f.space);
-        let area = info::area_bytes(f.space, pointer.at);
+        let slot = pointer::slot_of(false, f.space);
+        let area = info::area_bytes(f.space, pointer::pointer_in(pointers, slot));
         read_span(s, &area, tail);
     } else {
         read_span(s, store, tail);
@@ -67,11 +77,11 @@ fn read_command(rest: &[u8], p: Pointers, f: Fields, store: &[u8], tail: &mut [u
 }
 
 // The elements of a write, from the packet to the store.
-fn write_command(rest: &[u8], p: Pointers, f: Fields, store: &mut [u8])
-    requires { ⌜ LetPass p f (now rest) × (f .write ≡ true) × (length (now store) ≡ storeBytes) ⌝ }
-    ensures { λ r. ⌜ now (store .exit) ≡ storeAfter (stepsAt p f (now (rest .entry))) (now (store .entry)) ⌝ }
+fn write_command(rest: &[u8], pointers: &[u32], f: Fields, r: Reach, store: &mut [u8])
+    requires { ⌜ Ready (now pointers) f (now rest) r × (f .write ≡ true) × (length (now store) ≡ storeBytes) ⌝ }
+    ensures { λ q. ⌜ now (store .exit) ≡ storeAfter (stepsAt (pointersOf (now (pointers .entry))) f (now (rest .entry))) (now (store .entry)) ⌝ }
 {
-    let s = span_of(rest, p, f);
+    let s = span_of(f, r);
     let wide = s.element == 4;
     let header = command::header_bytes(f);
     block::move_elements(rest, header, s.element, store, s.at, s.step, s.count, wide);
@@ -80,27 +90,22 @@ fn write_command(rest: &[u8], p: Pointers, f: Fields, store: &mut [u8])
 // Does a command that the check let pass: a read fills the front of the reply's unused tail, a write goes to the store.
 fn do_command(
     rest: &[u8],
-    p: Pointers,
+    pointers: &[u32],
     f: Fields,
+    r: Reach,
     store: &mut [u8],
     reply: &mut [u8],
     filled: usize,
 )
-    requires { ⌜ LetPass p f (now rest) × (length (now store) ≡ storeBytes) × (filled + f .count * answered (kindOf f) (spaceOf (f .space)) ≤ length (now reply)) ⌝ }
-    ensures { λ r. ⌜ now (store .exit) ≡ storeAfter (stepsAt p f (now (rest .entry))) (now (store .entry)) ⌝ }
-    ensures { λ r. ⌜ now (reply .exit) ≡ laid filled (valuesRead (stepsAt p f (now (rest .entry))) (now (store .entry))) (now (reply .entry)) ⌝ }
+    requires { ⌜ Ready (now pointers) f (now rest) r × (length (now store) ≡ storeBytes) × (filled + f .count * answered (kindOf f) (spaceOf (f .space)) ≤ length (now reply)) ⌝ }
+    ensures { λ q. ⌜ now (store .exit) ≡ storeAfter (stepsAt (pointersOf (now (pointers .entry))) f (now (rest .entry))) (now (store .entry)) ⌝ }
+    ensures { λ q. ⌜ now (reply .exit) ≡ laid filled (valuesRead (stepsAt (pointersOf (now (pointers .entry))) f (now (rest .entry))) (now (store .entry))) (now (reply .entry)) ⌝ }
 {
     if f.write {
-        write_command(rest, p, f, store);
+        write_command(rest, pointers, f, r, store);
     } else {
-        read_command(rest, p, f, store, &mut reply[filled..]);
+        read_command(rest, pointers, f, r, store, &mut reply[filled..]);
     }
-}
-
-// What the commands leave beside store and reply: the pointers, and how many elements were moved.
-struct Done {
-    pointers: Pointers,
-    elements: u64,
 }
 
 // The elements moved so far, and those of one command more.
@@ -111,44 +116,27 @@ fn summed(before: u64, count: u8) -> u64
     before + count as u64
 }
 
-// Does all commands of a packet that the check accepted. No rule is asked a second time.
-fn perform(packet: &[u8], store: &mut [u8], p: Pointers, reply: &mut [u8]) -> Done
-    requires { ⌜ IsAccepted (judge p (now packet)) × (length (now store) ≡ storeBytes) × (length (now reply) ≡ limit) ⌝ }
-    ensures { λ r. ⌜ Performed (now (packet .entry)) (now (store .entry)) (now (reply .entry)) p (now (store .exit)) (now (reply .exit)) r ⌝ }
+// Does all commands of a packet that the check accepted, and gives how many elements were moved. No rule is asked a second time.
+fn perform(packet: &[u8], store: &mut [u8], pointers: &mut [u32], reply: &mut [u8]) -> u64
+    requires { ⌜ IsAccepted (judge (pointersOf (now pointers)) (now packet)) × (length (now store) ≡ storeBytes) × (length (now pointers) ≡ 8) × (length (now reply) ≡ limit) ⌝ }
+    ensures { λ r. ⌜ Performed (now (packet .entry)) (now (store .entry)) (now (reply .entry)) (now (pointers .entry)) (now (store .exit)) (now (reply .exit)) (now (pointers .exit)) r ⌝ }
 {
-    let mut pointers = p;
     let mut filled: usize = 0;
     let mut elements: u64 = 0;
     let mut rest = packet;
     while 0 < rest.len() {
-        let f = command::fields_at(rest);
-        do_command(rest, pointers, f, store, reply, filled);
-        let used = command::address_used(pointers, f, rest);
-        pointers = command::pointers_after(pointers, f, used);
-        filled += command::answered_bytes(f);
+        let c = command::next_command(rest, pointers);
+        let f = c.fields;
+        let r = c.reach;
+        do_command(rest, pointers, f, r, store, reply, filled);
+        let slot = r.slot;
+        pointers[slot] = r.next;
+        filled += r.answered;
         elements = summed(elements, f.count);
-        let k = command::command_bytes(f);
+        let k = r.bytes;
         rest = &rest[k..];
     }
-    Done { pointers, elements }
-}
-
-// The check's answer, how many elements were moved, and the pointers afterwards.
-pub struct Ran {
-    pub answer: Verdict,
-    pub elements: u64,
-    pub pointers: Pointers,
-}
-
-// A refusal: nothing is moved.
-fn unmoved(answer: Verdict, p: Pointers) -> Ran
-    ensures { λ r. ⌜ (r .answer ≡ answer) × (r .elements ≡ 0) × (r .pointers ≡ p) ⌝ }
-{
-    Ran {
-        answer,
-        elements: 0,
-        pointers: p,
-    }
+    elements
 }
 
 // Sets the unlock cell to 0.
@@ -169,23 +157,56 @@ fn count_packet(store: &mut [u8])
     element::store2(store, 65674, (next % 65536) as u16);
 }
 
-// Runs one packet: the whole of it is checked, on the state that the run finds, before anything is done.
+// The check's answer, and how many elements were moved.
+pub struct RanList {
+    pub answer: Verdict,
+    pub elements: u64,
+}
+
+// Runs one packet: the whole of it is checked, on the state that the run finds, before anything is done. The pointers are lent as a
+// list, as for a check.
+pub fn run_list(packet: &[u8], store: &mut [u8], list: &mut [u32], reply: &mut [u8]) -> RanList
+    ensures { λ r. ⌜ ranList r (now (store .exit)) (now (list .exit)) (now (reply .exit)) ≡ runList (now (packet .entry)) (now (store .entry)) (now (list .entry)) (now (reply .entry)) ⌝ }
+{
+    if reply.len() != command::LIMIT {
+        return RanList {
+            answer: check::refused(1),
+            elements: 0,
+        };
+    }
+    let answer = check::check_list(packet, store, list);
+    let Verdict::Accepted(length) = answer else {
+        return RanList {
+            answer,
+            elements: 0,
+        };
+    };
+    let elements = perform(packet, store, list, reply);
+    clear_unlock(store);
+    count_packet(store);
+    RanList {
+        answer: Verdict::Accepted(length),
+        elements,
+    }
+}
+
+// The check's answer, how many elements were moved, and the pointers afterwards.
+pub struct Ran {
+    pub answer: Verdict,
+    pub elements: u64,
+    pub pointers: Pointers,
+}
+
+// The same, on pointers by value.
 pub fn run(packet: &[u8], store: &mut [u8], p: Pointers, reply: &mut [u8]) -> Ran
     ensures { λ r. ⌜ ran r (now (store .exit)) (now (reply .exit)) ≡ runPacket (now (packet .entry)) (now (store .entry)) p (now (reply .entry)) ⌝ }
 {
-    if reply.len() != command::LIMIT {
-        return unmoved(check::refused(1), p);
-    }
-    let answer = check::check(packet, store, p);
-    let Verdict::Accepted(length) = answer else {
-        return unmoved(answer, p);
-    };
-    let done = perform(packet, store, p, reply);
-    clear_unlock(store);
-    count_packet(store);
-    let pointers = done.pointers;
+    let mut list = p.listed();
+    let done = run_list(packet, store, &mut list, reply);
+    let answer = done.answer;
+    let pointers = Pointers::from_list(&list);
     Ran {
-        answer: Verdict::Accepted(length),
+        answer,
         elements: done.elements,
         pointers,
     }

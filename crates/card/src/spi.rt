@@ -135,21 +135,43 @@ fn read_cells(store: &[u8], from: usize, stride: usize, answer: &mut [u32])
     }
 }
 
-// The words after the header go into the cells from `from` on; all words of the answer are 0.
-fn write_cells(words: &[u32], store: &mut [u8], from: usize, stride: usize, answer: &mut [u32])
-    requires { ⌜ (length (now store) ≡ storeBytes) × (1 ≤ length (now words)) × (length (now answer) ≡ length (now words)) × (stride ≤ 4) × Cells (length (now words) - 1) from stride ⌝ }
-    ensures { λ r. ⌜ now (store .exit) ≡ filled (drop 1 (now (words .entry))) from stride (now (store .entry)) ⌝ }
+fn clear(answer: &mut [u32])
     ensures { λ r. ⌜ now (answer .exit) ≡ replicate (length (now (answer .entry))) 0 ⌝ }
 {
-    answer[0] = 0;
+    let mut i: usize = 0;
+    while i < answer.len() {
+        answer[i] = 0;
+        i += 1;
+    }
+}
+
+// The words after the header go into the cells from `from` on.
+fn write_each(words: &[u32], store: &mut [u8], from: usize, stride: usize)
+    requires { ⌜ (length (now store) ≡ storeBytes) × (1 ≤ length (now words)) × (stride ≤ 4) × Cells (length (now words) - 1) from stride ⌝ }
+    ensures { λ r. ⌜ now (store .exit) ≡ filled (drop 1 (now (words .entry))) from stride (now (store .entry)) ⌝ }
+{
     let mut at = from;
     let mut i: usize = 1;
     while i < words.len() {
         let word = words[i];
         element::store4(store, at, word);
-        answer[i] = 0;
         at += stride;
         i += 1;
+    }
+}
+
+// The same, and all words of the answer are 0. Cells one behind the other have a call of their own, in which the compiler knows
+// the stride.
+fn write_cells(words: &[u32], store: &mut [u8], from: usize, stride: usize, answer: &mut [u32])
+    requires { ⌜ (length (now store) ≡ storeBytes) × (1 ≤ length (now words)) × (stride ≤ 4) × Cells (length (now words) - 1) from stride ⌝ }
+    ensures { λ r. ⌜ now (store .exit) ≡ filled (drop 1 (now (words .entry))) from stride (now (store .entry)) ⌝ }
+    ensures { λ r. ⌜ now (answer .exit) ≡ replicate (length (now (answer .entry))) 0 ⌝ }
+{
+    clear(answer);
+    if stride == 4 {
+        write_each(words, store, from, 4);
+    } else {
+        write_each(words, store, from, stride);
     }
 }
 

@@ -14,14 +14,14 @@ use Rattle.lbp16.specs.declared.word.Written.{Written}
 use Rattle.lbp16.specs.declared.pointer.Pointers.{Pointers}
 use Rattle.packet.specs.Verdict.{answerTo, verdictListed}
 use Rattle.packet.specs.declared.judge.Verdict.{Verdict}
-use Rattle.card.specs.Run.{checked, runPacket, ran}
-use Rattle.card.specs.declared.run.Ran.{Ran}
+use Rattle.card.specs.Run.{checkedList, ListOutcome, runList, ranList}
+use Rattle.card.specs.declared.run.RanList.{RanList}
 use Rattle.card.specs.Spi.{runBurst, burstListed, burstLeft}
 use Rattle.card.specs.declared.spi.BurstAnswer.{BurstAnswer}
 use Rattle.cue.specs.Compile.{compiled, compileListed, left}
 use Rattle.cue.specs.declared.CompileAnswer.{CompileAnswer}
 use Rattle.cue.proofs.CompileLaws.{RefusedList, refused-numbers}
-use Rattle.head.specs.Exports.{fieldsLeft, numberOf, valueOf, countOf, spiLeft, exportSpi, compileLeft, exportCompile, given, exportCheck, runLeft, pointerList, ofOutcome, pointersOf, exportRun, fieldBytes, fieldsFrom, exportFields, badFlags, exportWord}
+use Rattle.head.specs.Exports.{fieldsLeft, numberOf, valueOf, countOf, spiLeft, exportSpi, compileLeft, exportCompile, given, exportCheck, runLeft, exportRun, fieldBytes, fieldsFrom, exportFields, badFlags, exportWord}
 
 -- stores to every place of a list leave the values stored
 pub stored-whole : (vs l : List ℕ) → length l ≡ length vs → sets l 0 vs ≡ vs
@@ -39,44 +39,23 @@ four-stored l i a b c d =
     let three : i + 3 ≡ suc (suc (suc i)) = omega arith in
     rw (one, two, three) refl
 
-module _ (packet store pointers reply : List ℕ) where
-  pub eight : length pointers ≡ 8
-      → exportRun packet store pointers reply ≡ ofOutcome (runPacket packet store (pointersOf pointers) reply)
-  unfolding exportRun
-  eight h = rw (eq-eqb _ _ h)
+-- what a run's call leaves, from what the run answers and leaves
+pub ran-left : (packet store pointers reply : List ℕ) (r : RanList) (number value : ℕ) (store′ pointers′ reply′ : List ℕ)
+    → ranList r store′ pointers′ reply′ ≡ runList packet store pointers reply
+    → value ≡ valueOf (verdictListed (r .answer))
+    → number ≡ numberOf (verdictListed (r .answer))
+    → runLeft number value (r .elements) store′ pointers′ reply′ ≡ exportRun packet store pointers reply
+unfolding exportRun ranList
+ran-left packet store pointers reply r number value store′ pointers′ reply′ done v n =
+    rw (v, n)
+    (ap (λ (o : ListOutcome). runLeft (numberOf (o .answer)) (valueOf (o .answer)) (o .elements) (o .store) (o .pointers) (o .reply)) done)
 
-  pub not-eight : (length pointers ≡ 8 → ⊥)
-      → runLeft 1 0 0 store pointers reply ≡ exportRun packet store pointers reply
-  unfolding exportRun
-  not-eight h = rw (ne-eqb _ _ h)
-
-  -- what the call leaves where there are eight pointers, from what the run answers and leaves
-  pub ran-left : (p : Pointers) (r : Ran) (number value : ℕ) (store′ pointers′ reply′ : List ℕ)
-      → length pointers ≡ 8
-      → p ≡ pointersOf pointers
-      → ran r store′ reply′ ≡ runPacket packet store p reply
-      → pointers′ ≡ pointerList (r .pointers)
-      → value ≡ valueOf (verdictListed (r .answer))
-      → number ≡ numberOf (verdictListed (r .answer))
-      → runLeft number value (r .elements) store′ pointers′ reply′ ≡ exportRun packet store pointers reply
-  unfolding ofOutcome ran
-  ran-left p r number value store′ pointers′ reply′ count given done put v n =
-      let e : ofOutcome (ran r store′ reply′) ≡ exportRun packet store pointers reply =
-      ap ofOutcome done ∙ ap (λ q. ofOutcome (runPacket packet store q reply)) given ∙ sym (eight count)
-      in rw (put, v, n) e
-
-module _ (packet store pointers : List ℕ) where
-  pub check-eight : (p : Pointers) (r : Verdict) (number value : ℕ) → length pointers ≡ 8 → p ≡ pointersOf pointers
-      → verdictListed r ≡ answerTo (checked packet store p)
-      → value ≡ valueOf (verdictListed r)
-      → number ≡ numberOf (verdictListed r)
-      → given number value ≡ exportCheck packet store pointers
-  unfolding exportCheck
-  check-eight p r number value count is e v n = rw (eq-eqb _ _ count, ← is, ← e, v, n) refl
-
-  pub check-not-eight : (length pointers ≡ 8 → ⊥) → given 1 0 ≡ exportCheck packet store pointers
-  unfolding exportCheck numberOf valueOf
-  check-not-eight h = rw (ne-eqb _ _ h) refl
+-- the same of a check
+pub check-left : (packet store pointers : List ℕ) (r : Verdict) (number value : ℕ)
+    → verdictListed r ≡ answerTo (checkedList packet store pointers) → value ≡ valueOf (verdictListed r)
+    → number ≡ numberOf (verdictListed r) → given number value ≡ exportCheck packet store pointers
+unfolding exportCheck
+check-left packet store pointers r number value e v n = rw (v, n, e) refl
 
 -- what a burst's call leaves, from what the burst answers and leaves
 pub spi-left : (words store room : List ℕ) (a : BurstAnswer) (number value : ℕ) (store′ room′ : List ℕ)

@@ -8,7 +8,8 @@ use Rattle.lbp16.specs.declared.word.Fields.{Fields}
 use Rattle.lbp16.specs.declared.pointer.Pointers.{Pointers}
 use Rattle.reason.specs.Reason.{unnamed, explained}
 use Rattle.reason.specs.declared.Reason.{Reason}
-use Rattle.head.specs.Exports.{pointersOf, fieldBytes}
+use Rattle.head.specs.Exports.{fieldBytes}
+use Rattle.lbp16.specs.Pointer.{pointersOf}
 use Rattle.head.specs.Reasoned.{WhyExport, whyLeft, reasonFor, exportWhy}
 
 module _ (packet store pointers : List ℕ) where

@@ -7,7 +7,7 @@ use borrow.Author.Tests.{eq-eqb, ne-eqb}
 use Rattle.lbp16.specs.declared.pointer.Pointers.{Pointers}
 use Rattle.recording.specs.Recording.{verdictListed, saidBy, judged}
 use Rattle.recording.specs.declared.Judged.{Judged}
-use Rattle.head.specs.Exports.{pointersOf, pointerList}
+use Rattle.lbp16.specs.Pointer.{pointersOf, pointerList}
 use Rattle.head.specs.Recorded.{judgedNumber, judgedIndex, judgedPlace, judgeLeft, ofSaid, exportJudge}
 
 module _ (show store pointers : List ℕ) where

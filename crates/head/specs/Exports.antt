@@ -6,12 +6,9 @@ use lib.ListN.{length, getD}
 use lib.Dec.{eqb, ltb}
 use Rattle.lbp16.specs.Answer.{Answer, accepted, refused}
 use Rattle.lbp16.specs.Word.{fieldsOf, bit, written}
-use Rattle.lbp16.specs.Pointer.{pointer}
 use Rattle.lbp16.specs.declared.word.Fields.{Fields}
-use Rattle.lbp16.specs.declared.pointer.SpacePointers.{SpacePointers}
-use Rattle.lbp16.specs.declared.pointer.Pointers.{Pointers}
 use Rattle.packet.specs.Verdict.{answerTo}
-use Rattle.card.specs.Run.{checked, Outcome, runPacket}
+use Rattle.card.specs.Run.{checkedList, runList}
 use Rattle.card.specs.Spi.{runBurst}
 use Rattle.cue.specs.Compile.{compiled}
 
@@ -33,25 +30,6 @@ countOf (accepted (v ∷ [])) = 0
 countOf (accepted (v ∷ w ∷ ws)) = w
 countOf (refused number place) = 0
 
--- Eight pointers, and back: those of spaces 0, 2, 6 and 7, in this order, then those of their info areas.
-unfoldable pub spacesAt : List ℕ → ℕ → SpacePointers
-spacesAt ps i =
-    record {
-      registers = pointer (getD ps i 0);
-      eeprom = pointer (getD ps (i + 1) 0);
-      status = pointer (getD ps (i + 2) 0);
-      information = pointer (getD ps (i + 3) 0);
-    }
-
-unfoldable pub pointersOf : List ℕ → Pointers
-pointersOf ps = record { plain = spacesAt ps 0; info = spacesAt ps 4 }
-
-unfoldable pub spaceList : SpacePointers → List ℕ
-spaceList p = p .registers .at ∷ p .eeprom .at ∷ p .status .at ∷ p .information .at ∷ []
-
-unfoldable pub pointerList : Pointers → List ℕ
-pointerList p = spaceList (p .plain) ++ spaceList (p .info)
-
 -- All that head_check returns and writes.
 pub record Given : Type 0 where
   pub number : ℕ
@@ -60,11 +38,9 @@ pub record Given : Type 0 where
 abbrev pub given : ℕ → ℕ → Given
 given number value = record { number = number; value = value }
 
--- Refused with 1 where there are not eight pointers.
 unfoldable pub exportCheck : List ℕ → List ℕ → List ℕ → Given
 exportCheck packet store pointers =
-    let a =
-    cond (eqb (length pointers) 8) (answerTo (checked packet store (pointersOf pointers))) (refused 1 0) in
+    let a = answerTo (checkedList packet store pointers) in
     given (numberOf a) (valueOf a)
 
 -- All that head_compile returns and leaves.
@@ -110,15 +86,10 @@ abbrev pub runLeft : ℕ → ℕ → ℕ → List ℕ → List ℕ → List ℕ 
 runLeft number value elements store pointers reply =
     record { number = number; value = value; elements = elements; store = store; pointers = pointers; reply = reply }
 
-unfoldable pub ofOutcome : Outcome → RunExport
-ofOutcome o =
-    runLeft (numberOf (o .answer)) (valueOf (o .answer)) (o .elements) (o .store) (pointerList (o .pointers)) (o .reply)
-
--- Refused with 1 where there are not eight pointers.
 unfoldable pub exportRun : List ℕ → List ℕ → List ℕ → List ℕ → RunExport
 exportRun packet store pointers reply =
-    cond (eqb (length pointers) 8) (ofOutcome (runPacket packet store (pointersOf pointers) reply))
-    (runLeft 1 0 0 store pointers reply)
+    let o = runList packet store pointers reply in
+    runLeft (numberOf (o .answer)) (valueOf (o .answer)) (o .elements) (o .store) (o .pointers) (o .reply)
 
 -- A word's fields as seven bytes: write, address, info, space, size, increment, count. A flag is 0 or 1.
 unfoldable pub fieldBytes : Fields → List ℕ

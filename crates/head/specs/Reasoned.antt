@@ -6,7 +6,8 @@ use lib.ListN.{length}
 use lib.Dec.{eqb}
 use Rattle.reason.specs.Reason.{unnamed, explained}
 use Rattle.reason.specs.declared.Reason.{Reason}
-use Rattle.head.specs.Exports.{pointersOf, fieldBytes}
+use Rattle.head.specs.Exports.{fieldBytes}
+use Rattle.lbp16.specs.Pointer.{pointersOf}
 
 pub record WhyExport : Type 0 where
   pub number : ℕ

@@ -5,7 +5,7 @@ use mathlib.Core.Bool.{cond}
 use lib.ListN.{length}
 use lib.Dec.{eqb}
 use Rattle.recording.specs.Recording.{Verdict, yes, refused, badPacket, badLength, badByte, cut, unmarked, Said, judged}
-use Rattle.head.specs.Exports.{pointersOf, pointerList}
+use Rattle.lbp16.specs.Pointer.{pointersOf, pointerList}
 
 unfoldable pub judgedNumber : Verdict → ℕ
 judgedNumber (yes n) = 0

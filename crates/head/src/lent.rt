@@ -1,7 +1,6 @@
-// What C lends as plain numbers: pointers and fields, there and back; and an answer as its number and its value.
+// What C lends as plain numbers: pointers back, fields there and back; and an answer as its number and its value.
 use card::spi::BurstAnswer;
 use cue::CompileAnswer;
-use lbp16::pointer::Pointer;
 use lbp16::pointer::Pointers;
 use lbp16::pointer::SpacePointers;
 use lbp16::word::Fields;
@@ -10,24 +9,12 @@ ghost use mathlib.Core.Path.{_≡_};
 ghost use Prim.Native.Nat.{_+_, _≤_};
 ghost use lib.ListN.{length};
 ghost use lib.Seq.{sets};
+ghost use Rattle.lbp16.specs.Pointer.{spaceList, pointerList};
 ghost use Rattle.lbp16.specs.Word.{bit};
 ghost use Rattle.packet.specs.Verdict.{verdictListed};
 ghost use Rattle.card.specs.Spi.{burstListed};
 ghost use Rattle.cue.specs.Compile.{compileListed};
-ghost use Rattle.head.specs.Exports.{numberOf, valueOf, countOf, spacesAt, pointersOf, spaceList, pointerList, fieldBytes, fieldsFrom, badFlags};
-
-// Those of spaces 0, 2, 6 and 7, from `at` on.
-fn spaces_at(ps: &[u32], at: usize) -> SpacePointers
-    requires { ⌜ at + 4 ≤ length (now ps) ⌝ }
-    ensures { λ r. ⌜ r ≡ spacesAt (now (ps .entry)) at ⌝ }
-{
-    SpacePointers {
-        registers: Pointer::new(ps[at]),
-        eeprom: Pointer::new(ps[at + 1]),
-        status: Pointer::new(ps[at + 2]),
-        information: Pointer::new(ps[at + 3]),
-    }
-}
+ghost use Rattle.head.specs.Exports.{numberOf, valueOf, countOf, fieldBytes, fieldsFrom, badFlags};
 
 fn put_spaces(p: SpacePointers, ps: &mut [u32], at: usize)
     requires { ⌜ at + 4 ≤ length (now ps) ⌝ }
@@ -37,16 +24,6 @@ fn put_spaces(p: SpacePointers, ps: &mut [u32], at: usize)
     ps[at + 1] = p.eeprom.at;
     ps[at + 2] = p.status.at;
     ps[at + 3] = p.information.at;
-}
-
-pub(crate) fn pointers_of(ps: &[u32]) -> Pointers
-    requires { ⌜ length (now ps) ≡ 8 ⌝ }
-    ensures { λ r. ⌜ r ≡ pointersOf (now (ps .entry)) ⌝ }
-{
-    Pointers {
-        plain: spaces_at(ps, 0),
-        info: spaces_at(ps, 4),
-    }
 }
 
 pub(crate) fn put_pointers(p: Pointers, ps: &mut [u32])

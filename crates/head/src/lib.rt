@@ -24,12 +24,7 @@ ghost use Rattle.head.specs.Exports.{given, exportCheck, runLeft, export
 pub extern "C" fn head_check(packet: &[u8], store: &[u8], pointers: &[u32], value: &mut u64) -> u32
     ensures { λ r. ⌜ given r (now (value .exit)) ≡ exportCheck (now (packet .entry)) (now (store .entry)) (now (pointers .entry)) ⌝ }
 {
-    if pointers.len() != 8 {
-        *value = 0;
-        return 1;
-    }
-    let p = lent::pointers_of(pointers);
-    let answer = check::check(packet, store, p);
+    let answer = check::check_list(packet, store, pointers);
     *value = lent::verdict_value(answer);
     lent::verdict_number(answer)
 }
@@ -46,15 +41,7 @@ pub extern "C" fn head_run(
 ) -> u32
     ensures { λ r. ⌜ runLeft r (now (value .exit)) (now (elements .exit)) (now (store .exit)) (now (pointers .exit)) (now (reply .exit)) ≡ exportRun (now (packet .entry)) (now (store .entry)) (now (pointers .entry)) (now (reply .entry)) ⌝ }
 {
-    if pointers.len() != 8 {
-        *value = 0;
-        *elements = 0;
-        return 1;
-    }
-    let p = lent::pointers_of(pointers);
-    let ran = run::run(packet, store, p, reply);
-    let after = ran.pointers;
-    lent::put_pointers(after, pointers);
+    let ran = run::run_list(packet, store, pointers, reply);
     *elements = ran.elements;
     let answer = ran.answer;
     *value = lent::verdict_value(answer);

@@ -1,5 +1,6 @@
 // A recorded show judged, for C.
 use crate::lent;
+use lbp16::pointer::Pointers;
 use recording::Judgment;
 ghost use mathlib.Core.Path.{_≡_};
 ghost use Rattle.recording.specs.Recording.{verdictListed};
@@ -67,7 +68,7 @@ pub extern "C" fn head_judge(
         *place = 0;
         return 1;
     }
-    let p = lent::pointers_of(pointers);
+    let p = Pointers::from_list(pointers);
     let judged = recording::judge(show, store, p);
     let after = judged.pointers;
     lent::put_pointers(after, pointers);

@@ -1,5 +1,6 @@
 // Why a packet is refused, for C.
 use crate::lent;
+use lbp16::pointer::Pointers;
 use reason::Reason;
 ghost use mathlib.Core.Path.{_≡_};
 ghost use Rattle.head.specs.Reasoned.{reasonFor, whyLeft, exportWhy};
@@ -10,7 +11,7 @@ fn reason_for(packet: &[u8], store: &[u8], pointers: &[u32]) -> Reason
     if pointers.len() != 8 {
         return reason::no_command(1);
     }
-    let p = lent::pointers_of(pointers);
+    let p = Pointers::from_list(pointers);
     reason::explain(packet, store, p)
 }
 

@@ -14,7 +14,7 @@ use Rattle.packet.specs.Step.{Kind, read, write, infoRead, isInfo, isWri
 use Rattle.lbp16.proofs.SpaceLaws.{area-element-le, area-element-nonzero}
 use Rattle.packet.proofs.StepLaws.{carried-row, carried-none, answered-row}
 use Rattle.packet.specs.Rules.{pastEnd, barred, any}
-use Rattle.packet.specs.declared.command.Progress.{Progress}
+use Rattle.packet.specs.Command.{Progress}
 use Rattle.packet.specs.declared.command.Which.the-variants.{Read, Write, Refused}
 use Rattle.packet.specs.Command.{elements, kindOf, rowOf, whichOf, nextBy, stepsAt, addressUsed, stride, handed}
 
@@ -61,6 +61,10 @@ carried-read f e = carried-none _ _ (write-kind f ∙ e)
 pub answered-read : (f : Fields) → f .write ≡ false → answered (kindOf f) (spaceOf (f .space)) ≡ rowOf f .element
 unfolding rowOf
 answered-read f e = answered-row _ _ (write-kind f ∙ e)
+
+pub answered-write : (f : Fields) → f .write ≡ true → answered (kindOf f) (spaceOf (f .space)) ≡ 0
+unfolding answered kindOf
+answered-write f e = rw e refl
 
 -- a test that a larger number passes too
 or-ltb : (b x y : ℕ) → x ≤ y → (ltb b x || ltb b y) ≡ ltb b y

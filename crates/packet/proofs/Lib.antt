@@ -9,6 +9,7 @@ pub mod ElementLaws
 pub mod UnlockLaws
 pub mod CommandLaws
 pub mod ProgressLaws
+pub mod ReachLaws
 pub mod JudgeLaws
 pub mod LoopLaws
 pub mod RefusalLaws

@@ -1,24 +1,35 @@
 -- The check's loop: where it stands between two commands of a packet.
-use Prim.Native.Nat.{ℕ, zero, suc, _+_, _-_, _≤_, _<_}
+use Prim.Native.Nat.{ℕ, zero, suc, _+_, _-_, _*_, _≤_, _<_}
 use mathlib.Core.Path.{_≡_, refl, sym, ap, _∙_}
 use mathlib.Core.List.{List, [], _∷_}
 use mathlib.Core.Bool.{Bool, true, false, cond}
 use native.Mathlib.Omega.{arith}
 use native.Mathlib.Nat.{le-refl}
-use lib.ListN.{length, take, drop, length-drop}
+use lib.ListN.{length, take, drop, set, length-take, length-drop, length-set}
 use Rattle.lbp16.specs.Answer.{Answer}
+use Rattle.lbp16.specs.Space.{spaceOf}
+use Rattle.lbp16.specs.Pointer.{pointersOf, pointerList}
+use Rattle.lbp16.proofs.PointerLaws.{list-length, back-list, slot-below, slot-written}
+use lib.Dec.{eqb}
+use borrow.Author.Tests.{eq-eqb}
 use Rattle.lbp16.specs.declared.word.Fields.{Fields}
 use Rattle.lbp16.specs.declared.pointer.Pointers.{Pointers}
-use Rattle.packet.specs.Step.{unlocked, replyBytes}
+use Rattle.packet.specs.Step.{unlocked, replyBytes, answered}
 use Rattle.packet.specs.Rules.{first}
-use Rattle.packet.specs.Command.{fieldsAt, headerBytes, commandBytes, refusals, whichOf, numberOf, found}
+use Rattle.packet.specs.Command.{limit, fieldsAt, kindOf, headerBytes, commandBytes, addressUsed, stride, elements, refusals, whichOf, numberOf, found}
+use Rattle.packet.specs.Reach.{reachFrom, reachAt}
+use Rattle.packet.specs.declared.command.Reach.{Reach}
+use Rattle.packet.specs.declared.command.Found.{Found}
+use Rattle.packet.specs.declared.command.Which.{Which}
+use Rattle.packet.specs.declared.command.Which.the-variants.{Read, Write, Refused}
+use Rattle.packet.proofs.ProgressLaws.{progress-is}
 use Rattle.packet.specs.Command.{progressAfter, commandAt}
 use Rattle.packet.specs.Judge.{Carried, begin, carry, judgeFrom, judge, foundNext, verdictAt, accepted, refused}
 use Rattle.packet.specs.Judge
 use Rattle.packet.specs.Step.{Kind, read, write, infoRead}
 use Rattle.packet.specs.Verdict.{answerTo, start, progressOf}
-use Rattle.packet.specs.declared.command.Progress.{Progress}
-use Rattle.packet.specs.declared.command.Command.{Command}
+use Rattle.packet.specs.Command.{Progress}
+use Rattle.packet.specs.Command.{Command}
 use Rattle.packet.proofs.SliceLaws.{tail-whole}
 use Rattle.packet.proofs.ElementLaws.{which-none}
 use Rattle.packet.proofs.StepLaws.{unlocked-append, reply-append}
@@ -162,3 +173,114 @@ at-step {rest = rest} s some x n k e₁ e₂ e₃ e₄ =
     let two = two-bytes (fieldsAt rest) in
     let whole = at-passed rest s some z .whole in
     record { some = omega arith; whole = omega arith; again = rw (f, tail-whole, e₁) (at-next rest s some z) }
+
+-- The loop as the code has it: the pointers as eight numbers, and the place told by what is left.
+pub record Checking (list packet pointers : List ℕ) (open? : Bool) (reply : ℕ) (rest : List ℕ) : Type 0 where
+  pub carried : Carried
+  pub eight : length pointers ≡ 8
+  pub within : reply ≤ limit
+  pub left : length rest ≤ length packet
+  pub here : At (pointersOf list) packet carried (record { pointers = pointersOf pointers; unlocked = open?; reply = reply })
+      (length packet - length rest)
+      rest
+
+pub checking-start : (list packet : List ℕ) → length list ≡ 8 → Checking list packet list false 0 packet
+unfolding start
+checking-start list packet e =
+    let z : length packet - length packet ≡ 0 = omega arith in
+    record {
+      carried = begin (pointersOf list);
+      eight = e;
+      within = omega arith;
+      left = le-refl _;
+      here = rw z (at-begin (pointersOf list) packet);
+    }
+
+which-number : (n m : ℕ) (k : Kind) → whichOf m k ≡ Refused n → (n ≡ m) × (m ≡ 0 → ⊥)
+unfolding whichOf
+which-number n zero read e = let z : _≡_ {A = ℕ} 0 1 = cc in absurd (omega arith)
+which-number n zero write e = let z : _≡_ {A = ℕ} 0 1 = cc in absurd (omega arith)
+which-number n zero infoRead e = let z : _≡_ {A = ℕ} 0 1 = cc in absurd (omega arith)
+which-number n (suc m) k e = (cc, λ z. omega arith)
+
+-- What a turn leaves.
+pub record Checked (list packet pointers : List ℕ) (open? : Bool) (reply : ℕ) (rest : List ℕ) (r : Reach) : Type 0 where
+  pub some : 2 ≤ r .bytes
+  pub whole : r .bytes ≤ length rest
+  pub slot : r .slot < 8
+  pub answers : reply + r .answered ≤ limit
+  pub again : Checking list packet (set pointers (r .slot) (r .next)) open? (reply + r .answered)
+      (take (length rest - r .bytes) (drop (r .bytes) rest))
+
+module _ {list packet pointers : List ℕ} {open? : Bool} {reply : ℕ} {rest : List ℕ}
+    (s : Checking list packet pointers open? reply rest) where
+  pub checking-end : length rest ≡ 0 → Answer.accepted (reply ∷ []) ≡ answerTo (judge (pointersOf list) packet)
+  checking-end e = verdict-end rest (s .here) e
+
+  module _ (some : 0 < length rest) (x : Found)
+      (e : x ≡ found (pointersOf pointers) open? reply (length packet - length rest) rest) where
+    pub checking-refused : (n : ℕ) → x .which ≡ Refused n
+        → Answer.refused n (length packet - length rest) ≡ answerTo (judge (pointersOf list) packet)
+    unfolding commandAt found
+    checking-refused n w =
+        let q = which-number n _ _ (sym (ap (λ (y : Found). y .which) e) ∙ w) in
+        at-refused rest (s .here) some n (q .0 ∙ sym (number-found _ _)) (λ z. q .1 (sym (q .0) ∙ z))
+
+    pub checking-passed : numberOf (x .which) ≡ 0
+        → Passed (pointersOf pointers) open? reply (fieldsAt rest) rest
+    unfolding found
+    checking-passed z =
+        passed _ _ _ _ _ (sym (number-found _ _) ∙ sym (ap (λ (y : Found). numberOf (y .which)) e) ∙ z)
+
+  module _ (some : 0 < length rest) (pass : Passed (pointersOf pointers) open? reply (fieldsAt rest) rest) (r : Reach)
+      (e : r ≡ reachAt (pointersOf pointers) (fieldsAt rest) rest) where
+    abbrev g : Progress
+    g = record { pointers = pointersOf pointers; unlocked = open?; reply = reply }
+
+    none : numberOf (commandAt g (length packet - length rest) rest .found .which) ≡ 0
+    none = number-at rest (s .here) some ∙ passes _ _ _ _ _ pass
+
+    next : (o : Bool)
+        → o ≡ unlocked open? (elements (kindOf (fieldsAt rest)) (spaceOf (fieldsAt rest .space)) (fieldsAt rest .count) (r .used) (stride (fieldsAt rest)) (drop (headerBytes (fieldsAt rest)) rest))
+        → commandAt g (length packet - length rest) rest .next
+        ≡ record { pointers = pointersOf (set pointers (r .slot) (r .next)); unlocked = o; reply = reply + r .answered }
+    unfolding reachFrom
+    next o h =
+        next-is rest (s .here) some none
+        ∙ sym (progress-is g (fieldsAt rest) rest pass (r .used) (r .answered) _ o (ap (λ (t : Reach). t .used) e)
+        (rw (ap (λ (t : Reach). t .slot) e, ap (λ (t : Reach). t .next) e, ap (λ (t : Reach). t .used) e) (slot-written pointers (s .eight) _ _ _ (pass .present)))
+        h
+        (ap (λ (t : Reach). t .answered) e))
+
+    pub checking-next : (o : Bool)
+        → o ≡ unlocked open? (elements (kindOf (fieldsAt rest)) (spaceOf (fieldsAt rest .space)) (fieldsAt rest .count) (r .used) (stride (fieldsAt rest)) (drop (headerBytes (fieldsAt rest)) rest))
+        → Checked list packet pointers o reply rest r
+    unfolding reachFrom commandAt found
+    checking-next o h =
+        let k : r .bytes ≡ commandBytes (fieldsAt rest) = ap (λ (t : Reach). t .bytes) e in
+        let a : r .answered ≡ fieldsAt rest .count * answered (kindOf (fieldsAt rest)) (spaceOf (fieldsAt rest .space)) = ap (λ (t : Reach). t .answered) e in
+        let two = two-bytes (fieldsAt rest) in
+        let whole = pass .whole in
+        let answers = pass .answers in
+        let l = s .left in
+        let turn = at-step (s .here) some (commandAt g (length packet - length rest) rest) 0 (r .bytes) refl (sym none) refl k in
+        let fewer : length (take (length rest - r .bytes) (drop (r .bytes) rest)) ≡ length rest - r .bytes = rw (length-take, length-drop) (omega arith) in
+        let place : length packet - length (take (length rest - r .bytes) (drop (r .bytes) rest)) ≡ length packet - length rest + r .bytes = omega arith in
+        record {
+          some = omega arith;
+          whole = omega arith;
+          slot = rw (ap (λ (t : Reach). t .slot) e) (slot-below _ _ (pass .present));
+          answers = omega arith;
+          again = record {
+            carried = carry (s .carried) rest;
+            eight = length-set pointers (r .slot) (r .next) ∙ s .eight;
+            within = omega arith;
+            left = omega arith;
+            here = rw (place, ← next o h) (turn .again);
+          };
+        }
+
+-- pointers by value, judged as their list
+pub judge-listed : (p : Pointers) (packet list : List ℕ) (a : Answer) → list ≡ pointerList p
+    → a ≡ answerTo (cond (eqb (length list) 8) (judge (pointersOf list) packet) (refused 1 0)) → a ≡ answerTo (judge p packet)
+judge-listed p packet list a e h = h ∙ rw (e, eq-eqb _ _ (list-length p), back-list p) refl

@@ -16,8 +16,6 @@ use Rattle.packet.specs.Step.{Kind, read, write, infoRead, Step, isInfo,
 use Rattle.packet.specs.Step.{unlocked, replyBytes}
 use Rattle.packet.specs.Rules.{Rule, first, misaligned, pastEnd, barred, any}
 use Rattle.packet.specs.declared.command.Found.{Found}
-use Rattle.packet.specs.declared.command.Progress.{Progress}
-use Rattle.packet.specs.declared.command.Command.{Command}
 use Rattle.packet.specs.declared.command.Which.{Which}
 use Rattle.packet.specs.declared.command.Which.the-variants.{Read, Write, Refused}
 
@@ -128,7 +126,17 @@ numberOf Read = 0
 numberOf Write = 0
 numberOf (Refused n) = n
 
+-- What the commands before this one leave: the pointers, whether the unlock is open, the reply's bytes so far.
+pub record Progress : Type 0 where
+  pub pointers : Pointers
+  pub unlocked : Bool
+  pub reply : ℕ
+
 -- A command with what is found at it, and the progress after it; a refusal leaves the progress.
+pub record Command : Type 0 where
+  pub found : Found
+  pub next : Progress
+
 abbrev pub nextBy : Which → Progress → Progress → Progress
 nextBy Read next g = next
 nextBy Write next g = next

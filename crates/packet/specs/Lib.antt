@@ -4,3 +4,4 @@ pub mod Rules
 pub mod Command
 pub mod Judge
 pub mod Verdict
+pub mod Reach

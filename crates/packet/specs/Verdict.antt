@@ -7,7 +7,7 @@ use Rattle.lbp16.specs.declared.pointer.Pointers.{Pointers}
 use Rattle.packet.specs.Step.{unlocked, replyBytes}
 use Rattle.packet.specs.Judge.{Carried, refused, accepted}
 use Rattle.packet.specs.Judge
-use Rattle.packet.specs.declared.command.Progress.{Progress}
+use Rattle.packet.specs.Command.{Progress}
 use Rattle.packet.specs.declared.judge.Verdict.{Verdict}
 use Rattle.packet.specs.declared.judge.Verdict.the-variants.{Accepted, Refused}
 

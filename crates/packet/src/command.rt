@@ -1,6 +1,6 @@
 // What is found at one command of a packet. Every function here gets the packet's bytes from that command on.
 use crate::bytes;
-use crate::rule;
+use lbp16::pointer;
 use lbp16::pointer::Pointer;
 use lbp16::pointer::Pointers;
 use lbp16::space;
@@ -9,15 +9,16 @@ use lbp16::word;
 use lbp16::word::Fields;
 ghost use mathlib.Core.Bool.{cond};
 ghost use mathlib.Core.Path.{_≡_};
-ghost use Prim.Native.Nat.{_*_, _+_, _≤_, _<_};
+ghost use Prim.Native.Nat.{_*_, _/_, _%_, _≤_};
 ghost use lib.ListN.{length, take, drop};
-ghost use lib.Dec.{ltb};
+ghost use lib.Dec.{eqb};
 ghost use Rattle.lbp16.specs.Space.{spaceOf, status};
-ghost use Rattle.lbp16.specs.Pointer.{advanced, withPointer};
+ghost use Rattle.lbp16.specs.Word.{fieldsOf};
+ghost use Rattle.lbp16.specs.Pointer.{advanced, withPointer, pointersOf, slotOf};
 ghost use Rattle.packet.specs.Bytes.{number};
-ghost use Rattle.packet.specs.Step.{Kind, isInfo, carried, answered, statusWrite, turned, unlocked};
-ghost use Rattle.packet.specs.Rules.{first, any, barred};
-ghost use Rattle.packet.specs.Command.{fieldsAt, kindOf, rowOf, outOfPlace, headerBytes, commandBytes, addressUsed, stride, elements, stepsAt, refusals, whichOf, numberOf, found, progressAfter, commandAt, limit};
+ghost use Rattle.packet.specs.Step.{Kind, isInfo, carried, statusWrite, turned, unlocked};
+ghost use Rattle.packet.specs.Command.{fieldsAt, kindOf, rowOf, headerBytes, commandBytes, addressUsed, stride, elements};
+ghost use Rattle.packet.specs.Reach.{reachFrom, reachAt};
 
 // The most bytes that a packet or its reply may have: 1,500 less 28 of IP and UDP headers.
 pub const LIMIT: usize = 1472;
@@ -35,27 +36,40 @@ pub struct Found {
     pub which: Which,
 }
 
-// What the commands before this one leave: the pointers, whether the unlock is open, the reply's bytes so far.
-pub struct Progress {
-    pub pointers: Pointers,
-    pub unlocked: bool,
-    pub reply: usize,
+// How far a command reaches: the slot of its pointer among the eight, the address used, where its first element stands in the
+// store or the info area, an element's bytes, those of the whole command and of its reply, and where it leaves the pointer.
+pub struct Reach {
+    pub slot: usize,
+    pub used: u32,
+    pub at: usize,
+    pub element: usize,
+    pub bytes: usize,
+    pub answered: usize,
+    pub next: u32,
 }
 
+// A command's fields and its reach.
 pub struct Command {
-    pub found: Found,
-    pub next: Progress,
+    pub fields: Fields,
+    pub reach: Reach,
+}
+
+// The word at the front, 0 where it is cut off.
+pub(crate) fn word_at(rest: &[u8]) -> u16
+    ensures { λ r. ⌜ fieldsOf r ≡ fieldsAt (now (rest .entry)) ⌝ }
+{
+    if rest.len() < 2 {
+        0
+    } else {
+        bytes::pair(rest, 0)
+    }
 }
 
 // The fields of the word at the front, all 0 where it is cut off.
 pub fn fields_at(rest: &[u8]) -> Fields
     ensures { λ r. ⌜ r ≡ fieldsAt (now (rest .entry)) ⌝ }
 {
-    if rest.len() < 2 {
-        word::fields_of(0)
-    } else {
-        word::fields_of(bytes::pair_at(rest, 0))
-    }
+    word::fields_of(word_at(rest))
 }
 
 // The bytes of the command word and its address.
@@ -87,17 +101,11 @@ fn element_bytes(f: Fields) -> usize
     (f.count as usize) * (row.element as usize)
 }
 
-// The bytes that a write carries in its packet, and those that a read adds to the reply.
+// The bytes that a write carries in its packet.
 fn carried_bytes(f: Fields) -> usize
     ensures { λ r. ⌜ (r ≡ f .count * carried (kindOf f) (spaceOf (f .space))) × (r ≤ 1020) ⌝ }
 {
     if f.write { element_bytes(f) } else { 0 }
-}
-
-pub fn answered_bytes(f: Fields) -> usize
-    ensures { λ r. ⌜ (r ≡ f .count * answered (kindOf f) (spaceOf (f .space))) × (r ≤ 1020) ⌝ }
-{
-    if f.write { 0 } else { element_bytes(f) }
 }
 
 // The bytes of the whole command.
@@ -107,15 +115,22 @@ pub fn command_bytes(f: Fields) -> usize
     header_bytes(f) + carried_bytes(f)
 }
 
-// The address that the command uses: the one given, or the pointer's.
-pub fn address_used(p: Pointers, f: Fields, rest: &[u8]) -> u32
-    ensures { λ r. ⌜ r ≡ addressUsed p f (now (rest .entry)) ⌝ }
+// The address used: the one given, or the pointer's.
+fn address_by(rest: &[u8], f: Fields, pointer: u32) -> u32
+    ensures { λ r. ⌜ r ≡ cond (f .address) (number (take 2 (drop 2 (now (rest .entry))))) pointer ⌝ }
 {
     if f.address {
         bytes::pair_at(rest, 2) as u32
     } else {
-        p.of(is_info(f), f.space).at
+        pointer
     }
+}
+
+pub fn address_used(p: Pointers, f: Fields, rest: &[u8]) -> u32
+    ensures { λ r. ⌜ r ≡ addressUsed p f (now (rest .entry)) ⌝ }
+{
+    let pointer = p.of(is_info(f), f.space);
+    address_by(rest, f, pointer.at)
 }
 
 // From one element to the next.
@@ -124,73 +139,6 @@ pub fn stride_of(f: Fields) -> u32
 {
     let step = row_of(f).element;
     if f.increment { step } else { 0 }
-}
-
-// The bytes from the address used to the end of the furthest element.
-fn span_of(f: Fields) -> usize
-    ensures { λ r. ⌜ (r ≡ cond (f .increment) (f .count * rowOf f .element) (rowOf f .element)) × (r ≤ 1020) ⌝ }
-{
-    if f.increment {
-        element_bytes(f)
-    } else {
-        row_of(f).element as usize
-    }
-}
-
-fn passes_limit(reply: usize, more: usize) -> bool
-    ensures { λ r. ⌜ r ≡ ltb limit (reply + more) ⌝ }
-{
-    if LIMIT < reply {
-        return true;
-    }
-    LIMIT - reply < more
-}
-
-// Refusal 8. Elements rise from the address used, so the last is the furthest.
-fn out_of_place(rest: &[u8], p: Pointers, f: Fields) -> bool
-    ensures { λ r. ⌜ r ≡ outOfPlace p f (now (rest .entry)) ⌝ }
-{
-    let row = row_of(f);
-    let used = address_used(p, f, rest) as usize;
-    let element = row.element as usize;
-    let bytes = row.bytes as usize;
-    (used % element != 0) | ((f.count != 0) & (bytes < used + span_of(f)))
-}
-
-// Refusal 9. The first element is the lowest.
-fn read_only(rest: &[u8], p: Pointers, f: Fields) -> bool
-    ensures { λ r. ⌜ r ≡ any barred (stepsAt p f (now (rest .entry))) ⌝ }
-{
-    let row = row_of(f);
-    let used = address_used(p, f, rest);
-    (f.count != 0) & ((used < row.read_only) & f.write)
-}
-
-// The lowest number of refusals 3 to 12 whose condition holds, 0 if none does.
-fn refusal_of(rest: &[u8], at: Progress, f: Fields) -> u32
-    ensures { λ r. ⌜ r ≡ first (refusals (at .pointers) (at .unlocked) (at .reply) f (now (rest .entry))) ⌝ }
-{
-    let pointers = at.pointers;
-    let row = row_of(f);
-    let r = rule::first_of(passes_limit(at.reply, answered_bytes(f)), 12, 0);
-    let r = rule::first_of(rest.len() < command_bytes(f), 11, r);
-    let r = rule::first_of(f.write & row.locked & !at.unlocked, 10, r);
-    let r = rule::first_of(read_only(rest, pointers, f), 9, r);
-    let r = rule::first_of(out_of_place(rest, pointers, f), 8, r);
-    let r = rule::first_of(f.count == 0, 7, r);
-    let r = rule::first_of(f.size != row.size, 6, r);
-    let r = rule::first_of(space::is_absent(f.space), 5, r);
-    let r = rule::first_of(f.info & f.write, 4, r);
-    rule::first_of(rest.len() < header_bytes(f), 3, r)
-}
-
-fn which_of(number: u32, f: Fields) -> Which
-    ensures { λ r. ⌜ r ≡ whichOf number (kindOf f) ⌝ }
-{
-    if number != 0 {
-        return Which::Refused(number);
-    }
-    if f.write { Which::Write } else { Which::Read }
 }
 
 // Whether the unlock is open after one element, at `at` in `data`, is written to an address of space 6.
@@ -223,7 +171,7 @@ fn unlock_after(open: bool, count: u8, used: u32, stride: u32, data: &[u8]) -> b
 }
 
 // Whether it is open after the command.
-fn unlocked_next(rest: &[u8], open: bool, f: Fields, used: u32) -> bool
+pub(crate) fn unlocked_next(rest: &[u8], open: bool, f: Fields, used: u32) -> bool
     requires { ⌜ headerBytes f ≤ length (now rest) ⌝ }
     ensures { λ r. ⌜ r ≡ unlocked «open» (elements (kindOf f) (spaceOf (f .space)) (f .count) used (stride f) (drop (headerBytes f) (now (rest .entry)))) ⌝ }
 {
@@ -250,48 +198,54 @@ pub fn pointers_after(p: Pointers, f: Fields, used: u32) -> Pointers
     p.with(is_info(f), f.space, pointer)
 }
 
-// The progress after a command that no rule refuses.
-fn progress_after(rest: &[u8], at: Progress, f: Fields) -> Progress
-    requires { ⌜ first (refusals (at .pointers) (at .unlocked) (at .reply) f (now rest)) ≡ 0 ⌝ }
-    ensures { λ r. ⌜ r ≡ progressAfter at f (now (rest .entry)) ⌝ }
+// Whether the word is that of a plain command to space 0, with its size code.
+pub(crate) fn for_registers(word: u16) -> bool
+    ensures { λ r. ⌜ r ≡ eqb (word / 256 % 64) 2 ⌝ }
 {
-    let pointers = at.pointers;
-    let used = address_used(pointers, f, rest);
-    Progress {
-        pointers: pointers_after(pointers, f, used),
-        unlocked: unlocked_next(rest, at.unlocked, f, used),
-        reply: at.reply + answered_bytes(f),
+    word / 256 % 64 == 2
+}
+
+// The bytes where the test holds, otherwise none.
+fn bytes_if(test: bool, bytes: u32) -> u32
+    ensures { λ r. ⌜ r ≡ cond test bytes 0 ⌝ }
+{
+    if test { bytes } else { 0 }
+}
+
+// The reach of a command that uses the address `used`.
+pub(crate) fn reach_by(f: Fields, row: Row, slot: usize, used: u32) -> Reach
+    requires { ⌜ (row ≡ rowOf f) × (slot ≡ slotOf (isInfo (kindOf f)) (spaceOf (f .space))) ⌝ }
+    ensures { λ r. ⌜ r ≡ reachFrom f used ⌝ }
+{
+    let elements = (f.count as u32) * row.element;
+    let carried = bytes_if(f.write, elements);
+    let answered = bytes_if(!f.write, elements);
+    let moved = bytes_if(f.increment, elements);
+    let next = Pointer::new(used).advance(moved);
+    Reach {
+        slot,
+        used,
+        at: row.place as usize + used as usize,
+        element: row.element as usize,
+        bytes: header_bytes(f) + carried as usize,
+        answered: answered as usize,
+        next: next.at,
     }
 }
 
-// What is found at a command, and the progress after it; a refusal leaves the progress as it was.
-pub fn command_at(rest: &[u8], at: Progress, place: usize) -> Command
-    ensures { λ r. ⌜ r ≡ commandAt at place (now (rest .entry)) ⌝ }
+// The command at the front, on eight pointers that stand one after the other.
+pub fn next_command(rest: &[u8], pointers: &[u32]) -> Command
+    ensures { λ r. ⌜ (r .fields ≡ fieldsAt (now (rest .entry))) × (r .reach ≡ reachAt (pointersOf (now (pointers .entry))) (fieldsAt (now (rest .entry))) (now (rest .entry))) ⌝ }
 {
-    let fields = fields_at(rest);
-    let number = refusal_of(rest, at, fields);
-    let which = which_of(number, fields);
-    let found = Found {
-        fields,
-        place,
-        which,
-    };
-    if number != 0 {
-        return Command { found, next: at };
+    let word = word_at(rest);
+    let fields = word::fields_of(word);
+    if for_registers(word) {
+        let used = address_by(rest, fields, pointer::pointer_in(pointers, 0));
+        let reach = reach_by(fields, space::row_of(0), 0, used);
+        return Command { fields, reach };
     }
-    Command {
-        found,
-        next: progress_after(rest, at, fields),
-    }
-}
-
-// The number of what is found, 0 where it is no refusal.
-pub fn number_of(which: Which) -> u32
-    ensures { λ r. ⌜ r ≡ numberOf which ⌝ }
-{
-    match which {
-        Which::Read => 0,
-        Which::Write => 0,
-        Which::Refused(n) => n,
-    }
+    let slot = pointer::slot_of(is_info(fields), fields.space);
+    let used = address_by(rest, fields, pointer::pointer_in(pointers, slot));
+    let reach = reach_by(fields, row_of(fields), slot, used);
+    Command { fields, reach }
 }

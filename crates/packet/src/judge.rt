@@ -1,11 +1,16 @@
 // The check of a whole packet, command by command.
 use crate::command;
-use crate::command::Progress;
+use crate::command::Which;
+use crate::refusal;
 use lbp16::Refusal;
 use lbp16::pointer::Pointers;
 ghost use mathlib.Core.Path.{_≡_};
-ghost use Rattle.packet.specs.Judge.{judge};
-ghost use Rattle.packet.specs.Verdict.{answerTo, verdictListed, start};
+ghost use mathlib.Core.Bool.{cond};
+ghost use lib.Dec.{eqb};
+ghost use lib.ListN.{length};
+ghost use Rattle.lbp16.specs.Pointer.{pointersOf};
+ghost use Rattle.packet.specs.Judge.{judge, refused};
+ghost use Rattle.packet.specs.Verdict.{answerTo, verdictListed};
 
 // The reply length, or the refusal.
 pub enum Verdict {
@@ -13,40 +18,70 @@ pub enum Verdict {
     Refused(Refusal),
 }
 
-// The unlock is closed when a packet begins.
-pub fn begin(p: Pointers) -> Progress
-    ensures { λ r. ⌜ r ≡ start p ⌝ }
+fn copied(list: &[u32]) -> [u32; 8]
+    requires { ⌜ length (now list) ≡ 8 ⌝ }
+    ensures { λ r. ⌜ r ≡ now (list .entry) ⌝ }
 {
-    Progress {
-        pointers: p,
-        unlocked: false,
-        reply: 0,
-    }
+    [
+        list[0],
+        list[1],
+        list[2],
+        list[3],
+        list[4],
+        list[5],
+        list[6],
+        list[7],
+    ]
 }
 
-// The reply length, or the refusal of the earliest command that is refused.
+// The reply length, or the refusal of the earliest command that is refused, on pointers that are lent as a list. Another count of
+// them than eight is refused with 1.
+pub fn judge_list(packet: &[u8], list: &[u32]) -> Verdict
+    ensures { λ r. ⌜ verdictListed r ≡ answerTo (cond (eqb (length (now (list .entry))) 8) (judge (pointersOf (now (list .entry))) (now (packet .entry))) (refused 1 0)) ⌝ }
+{
+    if list.len() != 8 {
+        let refusal = Refusal {
+            number: 1,
+            place: 0,
+        };
+        return Verdict::Refused(refusal);
+    }
+    let mut pointers = copied(list);
+    let mut unlocked = false;
+    let mut reply: usize = 0;
+    let mut rest = packet;
+    while 0 < rest.len() {
+        let place = packet.len() - rest.len();
+        let c = refusal::command_at(rest, &pointers, unlocked, reply, place);
+        let found = c.found;
+        let which = found.which;
+        match which {
+            Which::Refused(number) => {
+                let refusal = Refusal {
+                    number,
+                    place: place as u64,
+                };
+                return Verdict::Refused(refusal);
+            }
+            Which::Read => {}
+            Which::Write => {}
+        }
+        let r = c.reach;
+        let fields = found.fields;
+        unlocked = command::unlocked_next(rest, unlocked, fields, r.used);
+        reply += r.answered;
+        let slot = r.slot;
+        pointers[slot] = r.next;
+        let k = r.bytes;
+        rest = &rest[k..];
+    }
+    Verdict::Accepted(reply as u64)
+}
+
+// The same, on pointers by value.
 pub fn judge(packet: &[u8], p: Pointers) -> Verdict
     ensures { λ r. ⌜ verdictListed r ≡ answerTo (judge p (now (packet .entry))) ⌝ }
 {
-    let mut at = begin(p);
-    let mut place: usize = 0;
-    let mut rest = packet;
-    while 0 < rest.len() {
-        let c = command::command_at(rest, at, place);
-        let found = c.found;
-        let which = found.which;
-        let number = command::number_of(which);
-        if number != 0 {
-            let refusal = Refusal {
-                number,
-                place: place as u64,
-            };
-            return Verdict::Refused(refusal);
-        }
-        let k = command::command_bytes(found.fields);
-        at = c.next;
-        place += k;
-        rest = &rest[k..];
-    }
-    Verdict::Accepted(at.reply as u64)
+    let list = p.listed();
+    judge_list(packet, &list)
 }

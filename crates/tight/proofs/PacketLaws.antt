@@ -15,7 +15,7 @@ use Rattle.packet.specs.Command.{limit, fieldsAt, kindOf, commandBytes, address
 use Rattle.packet.specs.Command.{pointersAfter}
 use Rattle.packet.specs.Judge.{Carried, Verdict, accepted, refused, begin, carry, foundNext, verdictAt, judgeFrom, judge}
 use Rattle.packet.specs.Verdict.{answerTo, start, progressOf}
-use Rattle.packet.specs.declared.command.Progress.{Progress}
+use Rattle.packet.specs.Command.{Progress}
 use Rattle.packet.specs.declared.command.Which.{Which}
 use Rattle.packet.specs.declared.command.Which.the-variants.{Read, Write, Refused}
 use Rattle.packet.proofs.SliceLaws.{tail-whole}

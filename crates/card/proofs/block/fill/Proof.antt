@@ -1,42 +1,56 @@
-use borrow.Author.Needs.{needs}
-use Rattle.card.proofs.CopyLaws.{wide-le, one-within, one-same, moved-copy}
-use mathlib.Core.Path.{_∙_}
 use native.Mathlib.Omega.{arith}
+use mathlib.Core.Path.{_∙_}
+use Rattle.card.proofs.CopyLaws.{wide-le, narrow, one-within, one-same, moved-copy}
+use borrow.Author.Needs.{needs}
 use Rattle.card.proofs.block.fill.Statement.{statement}
 use Rattle.card.proofs.block.fill.Tie as tie
-use Rattle.card.proofs.block.fill.Reads as reads
-use Rattle.card.proofs.block.fill.Lts as lts
-use Rattle.card.proofs.block.move_each.Reads as move-each-reads
-use Rattle.card.proofs.element.move_element.Reads as move-element-reads
 
--- src/block.rt:61:38
 slice-aggregate-move-element : tie.Need-slice-aggregate-move-element
 slice-aggregate-move-element c = search needs
 
--- src/block.rt:61:5
 move-element-requires : tie.Need-move-element-requires
 move-element-requires c κs = (c .before .before .before .pre .1, wide-le (c .before .before .before .args .wide))
 
--- src/block.rt:62:15
 slice-aggregate-move-each : tie.Need-slice-aggregate-move-each
 slice-aggregate-move-each c = search needs
 
--- src/block.rt:62:5
 move-each-requires : tie.Need-move-each-requires
 move-each-requires c κs =
-    let b = c .before .before .before .before .before .before .before in
-    (omega arith, b .pre .0, one-within _ _ (b .args .wide) (b .pre .1) _ (c .before .before .before .move-element .ensures) (b .args .count), b .pre .2)
+    let a = c .before .before .before .before .before .before .before .before in
+    let q = narrow (a .args .wide) (a .args .to-step) (c .before .before .if1 .taken) in (
+      omega arith,
+      omega arith,
+      rw (q .0) at (one-within _ _ (a .args .wide) (a .pre .1) _ (c .before .before .before .before .move-element .ensures) (a .args .count)),
+      rw (q .0, q .1) at (a .pre .2),
+    )
 
--- src/block.rt:48:1
+slice-aggregate-move-each-2 : tie.Need-slice-aggregate-move-each-2
+slice-aggregate-move-each-2 c = search needs
+
+move-each-requires-2 : tie.Need-move-each-requires-2
+move-each-requires-2 c κs =
+    let a = c .before .before .before .before .before .before .before .before in
+    (omega arith, a .pre .0, one-within _ _ (a .args .wide) (a .pre .1) _ (c .before .before .before .before .move-element .ensures) (a .args .count), a .pre .2)
+
 same-length : tie.Need-same-length
 same-length c = search needs
 
--- src/block.rt:48:1
 returns : tie.Need-returns
 returns c =
-    let b = c .before .before .before .before .before .before .before .before .before .before in
-    c .before .before .move-each .ensures
-    ∙ moved-copy _ _ _ _ _ _ _ _ _ (one-same _ _ (b .args .wide) (b .pre .1) _ (c .before .before .before .before .before .before .move-element .ensures))
+    let a = c .before .before .before .before .before .before .before .before .before .before .before in
+    let q = narrow (a .args .wide) (a .args .to-step) (c .before .before .before .before .before .if1 .taken) in
+    rw (q .0, q .1)
+    (c .before .before .move-each .ensures
+    ∙ moved-copy _ _ _ _ _ _ _ _ _ (rw (q .0) at (one-same _ _ (a .args .wide) (a .pre .1) _ (c .before .before .before .before .before .before .before .move-element .ensures))))
+
+same-length-2 : tie.Need-same-length-2
+same-length-2 c = search needs
+
+returns-2 : tie.Need-returns-2
+returns-2 c =
+    let a = c .before .before .before .before .before .before .before .before .before .before .before in
+    c .before .before .move-each2 .ensures
+    ∙ moved-copy _ _ _ _ _ _ _ _ _ (one-same _ _ (a .args .wide) (a .pre .1) _ (c .before .before .before .before .before .before .before .move-element .ensures))
 
 pub fill-spec : {M : Type 1} → statement M
 fill-spec =
@@ -46,5 +60,9 @@ fill-spec =
     move-element-requires
     slice-aggregate-move-each
     move-each-requires
+    slice-aggregate-move-each-2
+    move-each-requires-2
     same-length
-    returns)
+    returns
+    same-length-2
+    returns-2)

@@ -1,6 +1,6 @@
-use borrow.Author.Needs.{needs}
 use mathlib.Core.Path.{sym}
 use Rattle.card.proofs.CommandRunLaws.{read-keeps, write-reads, laid-back, laid-none}
+use borrow.Author.Needs.{needs}
 use Rattle.card.proofs.run.do_command.Statement.{statement}
 use Rattle.card.proofs.run.do_command.Tie as tie
 

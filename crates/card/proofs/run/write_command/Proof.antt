@@ -1,7 +1,7 @@
+use Rattle.card.proofs.CommandRunLaws.{write-asked, write-done}
 use borrow.Author.Needs.{needs}
 use Rattle.card.proofs.run.write_command.Statement.{statement}
 use Rattle.card.proofs.run.write_command.Tie as tie
-use Rattle.card.proofs.CommandRunLaws.{write-asked, write-done}
 
 span-of-requires : tie.Need-span-of-requires
 span-of-requires c κs = search needs
@@ -10,13 +10,18 @@ header-bytes-requires : tie.Need-header-bytes-requires
 header-bytes-requires c κs = search needs
 
 move-elements-requires : tie.Need-move-elements-requires
-move-elements-requires c κs = let p = c .before .before .before .before .before .before .pre in let s = c .before .before .before .span-of .ensures in let q = write-asked _ _ _ (p .0) _ s _ (p .1) (c .before .header-bytes .ensures .0) _ (p .2) in (q .width, q .step, q .lined, q .spread)
+move-elements-requires c κs =
+    let p = c .before .before .before .before .before .before .before .pre in
+    let q = write-asked _ _ _ (p .0 .passed) _ (c .before .before .before .span-of .ensures _ _ (p .0 .reach)) _ (p .1) (c .before .header-bytes .ensures .0) _ (p .2) in
+    (q .width, q .step, q .lined, q .spread)
 
 same-length : tie.Need-same-length
 same-length c = search needs
 
 returns : tie.Need-returns
-returns c = let p = c .before .before .before .before .before .before .before .before .before .pre in write-done _ _ _ (p .0) _ (c .before .before .before .before .before .before .span-of .ensures) _ (p .1) (c .before .before .before .before .header-bytes .ensures .0) _ _ (c .before .before .move-elements .ensures)
+returns c =
+    let p = c .before .before .before .before .before .before .before .before .before .before .pre in
+    write-done _ _ _ (p .0 .passed) _ (c .before .before .before .before .before .before .span-of .ensures _ _ (p .0 .reach)) _ (p .1) (c .before .before .before .before .header-bytes .ensures .0) _ _ (c .before .before .move-elements .ensures)
 
 pub write-command-spec : {M : Type 1} → statement M
 write-command-spec =

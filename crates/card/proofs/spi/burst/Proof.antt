@@ -46,7 +46,7 @@ sub-came : tie.Need-sub-came
 sub-came c = ready-lengths _ _ _ _ _ (ready c) .1
 
 write-cells-requires : tie.Need-write-cells-requires
-write-cells-requires c κs = let r = ready (c .before .before .before .before) in let l = ready-lengths _ _ _ _ _ r in (l .0, l .1, l .2, c .before .before .before .before .stride-of .ensures .1, ready-within _ _ _ _ _ r)
+write-cells-requires c κs = let r = ready (c .before .before .before .before) in let l = ready-lengths _ _ _ _ _ r in (l .0, l .1, c .before .before .before .before .stride-of .ensures .1, ready-within _ _ _ _ _ r)
 
 read-cells-requires : tie.Need-read-cells-requires
 read-cells-requires c κs = let r = ready (c .before .before .before .before) in let l = ready-lengths _ _ _ _ _ r in (l .0, omega (arith, l .1, l .2), c .before .before .before .before .stride-of .ensures .1, rw (← l .2) at (ready-within _ _ _ _ _ r))

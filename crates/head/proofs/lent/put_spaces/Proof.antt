@@ -3,7 +3,7 @@ use Rattle.head.proofs.lent.put_spaces.Statement.{statement}
 use Rattle.head.proofs.lent.put_spaces.Tie as tie
 use lib.ListN.{length-set}
 use native.Mathlib.Omega.{arith}
-use Rattle.head.specs.Exports.{spaceList}
+use Rattle.lbp16.specs.Pointer.{spaceList}
 use Rattle.head.proofs.ExportLaws.{four-stored}
 
 mul-ps : tie.Need-mul-ps

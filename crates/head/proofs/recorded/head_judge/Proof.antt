@@ -6,8 +6,8 @@ use Rattle.head.proofs.recorded.head_judge.Tie as tie
 returns : tie.Need-returns
 returns c = judge-not-eight _ _ _ (c .if1 .taken)
 
-pointers-of-requires : tie.Need-pointers-of-requires
-pointers-of-requires c κs = search needs
+from-list-requires : tie.Need-from-list-requires
+from-list-requires c κs = search needs
 
 judge-requires : tie.Need-judge-requires
 judge-requires c κs = search needs
@@ -31,14 +31,14 @@ same-length-2 : tie.Need-same-length-2
 same-length-2 c = search needs
 
 returns-2 : tie.Need-returns-2
-returns-2 c = let b = c .before .before .before .before .before .before .before .before .before .before in judge-left _ _ _ _ _ _ _ _ _ _ (b .before .before .before .before .if1 .left) (b .before .before .pointers-of .ensures) (b .judge .ensures) (c .before .before .before .before .before .put-pointers .ensures) (c .before .before .judged-index .ensures) (c .before .judged-place .ensures) (c .judged-number .ensures)
+returns-2 c = let b = c .before .before .before .before .before .before .before .before .before .before in judge-left _ _ _ _ _ _ _ _ _ _ (b .before .before .before .before .if1 .left) (b .before .before .from-list .ensures) (b .judge .ensures) (c .before .before .before .before .before .put-pointers .ensures) (c .before .before .judged-index .ensures) (c .before .judged-place .ensures) (c .judged-number .ensures)
 
 pub head-judge-spec : {M : Type 1} → statement M
 head-judge-spec =
     tie.close
     (tie.spec
     returns
-    pointers-of-requires
+    from-list-requires
     judge-requires
     put-pointers-requires
     judged-index-requires

@@ -1,0 +1,82 @@
+use mathlib.Core.Path.{refl, sym, ap, _∙_}
+use Rattle.packet.specs.Verdict.{verdictListed}
+use Rattle.card.specs.Run.{counted}
+use Rattle.card.proofs.AnswerLaws.{may-run-list, other-room, run-refused, run-done}
+use borrow.Author.Needs.{needs}
+use Rattle.card.proofs.run.run_list.Statement.{statement}
+use Rattle.card.proofs.run.run_list.Tie as tie
+
+refused-requires : tie.Need-refused-requires
+refused-requires c κs = search needs
+
+returns : tie.Need-returns
+returns c = other-room _ _ _ _ (c .before .if1 .taken) _ (c .refused .ensures) refl
+
+check-list-requires : tie.Need-check-list-requires
+check-list-requires c κs = search needs
+
+enum-known-answer : tie.Need-enum-known-answer
+enum-known-answer c = search needs
+
+enum-told : tie.Need-enum-told
+enum-told c = search needs
+
+same-length : tie.Need-same-length
+same-length c = search needs
+
+same-length-2 : tie.Need-same-length-2
+same-length-2 c = search needs
+
+returns-2 : tie.Need-returns-2
+unfolding verdictListed
+returns-2 c = run-refused _ _ _ _ (c .before .before .before .before .before .if1 .left) _ _ _ (ap verdictListed (c .enum-told .given .1)) (ap verdictListed (sym (c .enum-told .given .1)) ∙ c .before .before .check-list .ensures) refl
+
+perform-requires : tie.Need-perform-requires
+unfolding verdictListed
+perform-requires c κs = let m = may-run-list _ _ _ (c .before .before .before .before .answer .given .0 .0) (ap verdictListed (sym (c .before .before .before .before .answer .given .1)) ∙ c .before .before .before .before .before .before .check-list .ensures) in (m .1, m .2, m .0, c .before .before .before .before .before .before .before .before .before .if1 .left)
+
+clear-unlock-requires : tie.Need-clear-unlock-requires
+unfolding verdictListed
+clear-unlock-requires c κs = c .before .before .before .before .before .before .before .perform .kept .1 .0 ∙ may-run-list _ _ _ (c .before .before .before .before .before .before .before .before .before .before .before .before .answer .given .0 .0) (ap verdictListed (sym (c .before .before .before .before .before .before .before .before .before .before .before .before .answer .given .1)) ∙ c .before .before .before .before .before .before .before .before .before .before .before .before .before .before .check-list .ensures) .2
+
+count-packet-requires : tie.Need-count-packet-requires
+unfolding verdictListed
+count-packet-requires c κs = c .before .before .before .clear-unlock .kept .0 ∙ c .before .before .before .before .before .before .before .before .before .before .before .perform .kept .1 .0 ∙ may-run-list _ _ _ (c .before .before .before .before .before .before .before .before .before .before .before .before .before .before .before .before .answer .given .0 .0) (ap verdictListed (sym (c .before .before .before .before .before .before .before .before .before .before .before .before .before .before .before .before .answer .given .1)) ∙ c .before .before .before .before .before .before .before .before .before .before .before .before .before .before .before .before .before .before .check-list .ensures) .2
+
+same-length-3 : tie.Need-same-length-3
+same-length-3 c = search needs
+
+same-length-4 : tie.Need-same-length-4
+same-length-4 c = search needs
+
+same-length-5 : tie.Need-same-length-5
+same-length-5 c = search needs
+
+returns-3 : tie.Need-returns-3
+unfolding verdictListed
+returns-3 c =
+    run-done _ _ _ _ (c .before .before .before .before .before .before .before .before .before .before .before .before .before .before .before .before .before .before .before .before .before .before .before .before .if1 .left) (c .before .before .before .before .before .before .before .before .before .before .before .before .before .before .before .before .before .before .before .answer .given .0 .0) _ _ _ _ refl
+    (ap verdictListed (sym (c .before .before .before .before .before .before .before .before .before .before .before .before .before .before .before .before .before .before .before .answer .given .1)) ∙ c .before .before .before .before .before .before .before .before .before .before .before .before .before .before .before .before .before .before .before .before .before .check-list .ensures)
+    (c .before .before .before .before .before .before .before .before .before .before .before .before .before .before .perform .ensures)
+    _
+    (c .before .before .count-packet .ensures ∙ ap counted (c .before .before .before .before .before .before .clear-unlock .ensures))
+
+pub run-list-spec : {M : Type 1} → statement M
+run-list-spec =
+    tie.close
+    (tie.spec
+    refused-requires
+    returns
+    check-list-requires
+    enum-known-answer
+    enum-told
+    same-length
+    same-length-2
+    returns-2
+    perform-requires
+    clear-unlock-requires
+    count-packet-requires
+    same-length-3
+    same-length-4
+    same-length-5
+    returns-3)

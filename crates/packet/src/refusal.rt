@@ -1,0 +1,224 @@
+// Refusals 3 to 12: what is found at one command of a packet. Every function here gets the packet's bytes from that command on.
+use crate::bytes;
+use crate::command;
+use crate::command::Found;
+use crate::command::LIMIT;
+use crate::command::Reach;
+use crate::command::Which;
+use crate::rule;
+use lbp16::pointer;
+use lbp16::space;
+use lbp16::space::Row;
+use lbp16::word;
+use lbp16::word::Fields;
+ghost use mathlib.Core.Bool.{Bool, not, _&&_, cond};
+ghost use mathlib.Core.List.{List};
+ghost use mathlib.Core.Path.{_≡_};
+ghost use Prim.Native.Nat.{ℕ, _*_, _+_, _%_, _≤_};
+ghost use lib.ListN.{length, take, drop};
+ghost use lib.Dec.{eqb, ltb};
+ghost use Rattle.lbp16.specs.Word.{fieldsOf};
+ghost use Rattle.lbp16.specs.Pointer.{pointersOf};
+ghost use Rattle.lbp16.specs.declared.pointer.Pointers.{Pointers};
+ghost use Rattle.packet.specs.Bytes.{number};
+ghost use Rattle.packet.specs.Rules.{first, any, barred};
+ghost use Rattle.packet.specs.Command.{limit, fieldsAt, kindOf, rowOf, headerBytes, addressUsed, stepsAt, outOfPlace, refusals, whichOf, found};
+ghost use Rattle.packet.specs.Reach.{reachAt, ForRegisters, Ruled};
+
+// A command's number, 0 if no rule refuses it, and then its reach.
+pub(crate) struct Ruling {
+    pub(crate) number: u32,
+    pub(crate) reach: Reach,
+}
+
+// What is found at a command, and its reach if it is not refused.
+pub(crate) struct Judged {
+    pub(crate) found: Found,
+    pub(crate) reach: Reach,
+}
+
+// The bytes from the address used to the end of the furthest element.
+fn span_by(f: Fields, row: Row) -> usize
+    requires { ⌜ row ≡ rowOf f ⌝ }
+    ensures { λ r. ⌜ (r ≡ cond (f .increment) (f .count * rowOf f .element) (rowOf f .element)) × (r ≤ 1020) ⌝ }
+{
+    let element = row.element as usize;
+    if f.increment {
+        f.count as usize * element
+    } else {
+        element
+    }
+}
+
+// Whether an address is no multiple of an element's 4 or 2 bytes.
+fn misaligned_by(used: u32, element: u32) -> bool
+    ensures { λ r. ⌜ r ≡ cond (eqb element 4) (not (eqb (used % 4) 0)) (eqb element 2 && not (eqb (used % 2) 0)) ⌝ }
+{
+    if element == 4 {
+        used % 4 != 0
+    } else {
+        (element == 2) & (used % 2 != 0)
+    }
+}
+
+// Refusal 8. Elements rise from the address used, so the last is the furthest.
+fn out_of_place(f: Fields, row: Row, used: u32) -> bool
+    requires { ⌜ row ≡ rowOf f ⌝ }
+    ensures { λ r. ⌜ ((p : Pointers) (rest : List ℕ) → used ≡ addressUsed p f rest → r ≡ outOfPlace p f rest) ⌝ }
+{
+    let bytes = row.bytes as usize;
+    misaligned_by(used, row.element) | ((f.count != 0) & (bytes < used as usize + span_by(f, row)))
+}
+
+// Refusal 9. The first element is the lowest.
+fn read_only(f: Fields, row: Row, used: u32) -> bool
+    requires { ⌜ row ≡ rowOf f ⌝ }
+    ensures { λ r. ⌜ ((p : Pointers) (rest : List ℕ) → used ≡ addressUsed p f rest → r ≡ any barred (stepsAt p f rest)) ⌝ }
+{
+    (f.count != 0) & ((used < row.read_only) & f.write)
+}
+
+// Refusal 12.
+fn passes_limit(reply: usize, more: usize) -> bool
+    requires { ⌜ reply ≤ limit ⌝ }
+    ensures { λ r. ⌜ r ≡ ltb limit (reply + more) ⌝ }
+{
+    LIMIT - reply < more
+}
+
+// The lowest number of refusals 3 to 12 whose condition holds, 0 if none does, of a plain command to space 0 with its size code
+// and its whole header: 3, 4, 5, 6, 9 and 10 are never its.
+fn register_number(rest: &[u8], f: Fields, row: Row, r: Reach, reply: usize) -> u32
+    requires { ⌜ (row ≡ rowOf f) × (reply ≤ limit) × ForRegisters f × (headerBytes f ≤ length (now rest)) ⌝ }
+    ensures { λ n. ⌜ ((p : Pointers) (unlocked : Bool) → r ≡ reachAt p f (now (rest .entry)) → n ≡ first (refusals p unlocked reply f (now (rest .entry)))) ⌝ }
+{
+    let n = rule::first_of(passes_limit(reply, r.answered), 12, 0);
+    let n = rule::first_of(rest.len() < r.bytes, 11, n);
+    let n = rule::first_of(out_of_place(f, row, r.used), 8, n);
+    rule::first_of(f.count == 0, 7, n)
+}
+
+// The same of any other command with its whole header.
+fn area_number(rest: &[u8], f: Fields, row: Row, r: Reach, unlocked: bool, reply: usize) -> u32
+    requires { ⌜ (row ≡ rowOf f) × (reply ≤ limit) × (headerBytes f ≤ length (now rest)) ⌝ }
+    ensures { λ n. ⌜ ((p : Pointers) → r ≡ reachAt p f (now (rest .entry)) → n ≡ first (refusals p unlocked reply f (now (rest .entry)))) ⌝ }
+{
+    let n = rule::first_of(passes_limit(reply, r.answered), 12, 0);
+    let n = rule::first_of(rest.len() < r.bytes, 11, n);
+    let n = rule::first_of(f.write & row.locked & !unlocked, 10, n);
+    let n = rule::first_of(read_only(f, row, r.used), 9, n);
+    let n = rule::first_of(out_of_place(f, row, r.used), 8, n);
+    let n = rule::first_of(f.count == 0, 7, n);
+    let n = rule::first_of(f.size != row.size, 6, n);
+    let n = rule::first_of(space::is_absent(f.space), 5, n);
+    rule::first_of(f.info & f.write, 4, n)
+}
+
+// The address used by a command whose header is whole.
+fn address_in(rest: &[u8], f: Fields, pointer: u32) -> u32
+    requires { ⌜ headerBytes f ≤ length (now rest) ⌝ }
+    ensures { λ r. ⌜ r ≡ cond (f .address) (number (take 2 (drop 2 (now (rest .entry))))) pointer ⌝ }
+{
+    if f.address {
+        bytes::pair(rest, 2) as u32
+    } else {
+        pointer
+    }
+}
+
+// Refusal 3.
+fn cut_off() -> Ruling
+    ensures { λ r. ⌜ r .number ≡ 3 ⌝ }
+{
+    Ruling {
+        number: 3,
+        reach: Reach {
+            slot: 0,
+            used: 0,
+            at: 0,
+            element: 0,
+            bytes: 0,
+            answered: 0,
+            next: 0,
+        },
+    }
+}
+
+fn register_ruling(rest: &[u8], f: Fields, pointers: &[u32], reply: usize) -> Ruling
+    requires { ⌜ (reply ≤ limit) × ForRegisters f × (headerBytes f ≤ length (now rest)) ⌝ }
+    ensures { λ r. ⌜ ((unlocked : Bool) → Ruled (pointersOf (now (pointers .entry))) unlocked reply f (now (rest .entry)) r) ⌝ }
+{
+    let row = space::row_of(0);
+    let used = address_in(rest, f, pointer::pointer_in(pointers, 0));
+    let reach = command::reach_by(f, row, 0, used);
+    let number = register_number(rest, f, row, reach, reply);
+    Ruling { number, reach }
+}
+
+fn area_ruling(rest: &[u8], f: Fields, pointers: &[u32], unlocked: bool, reply: usize) -> Ruling
+    requires { ⌜ (reply ≤ limit) × (headerBytes f ≤ length (now rest)) ⌝ }
+    ensures { λ r. ⌜ Ruled (pointersOf (now (pointers .entry))) unlocked reply f (now (rest .entry)) r ⌝ }
+{
+    let row = command::row_of(f);
+    let slot = pointer::slot_of(command::is_info(f), f.space);
+    let used = address_in(rest, f, pointer::pointer_in(pointers, slot));
+    let reach = command::reach_by(f, row, slot, used);
+    let number = area_number(rest, f, row, reach, unlocked, reply);
+    Ruling { number, reach }
+}
+
+// The lowest number of refusals 3 to 12 whose condition holds. Plain commands to space 0 have a way of their own, on which the
+// compiler knows the table's line.
+fn ruling_of(
+    rest: &[u8],
+    word: u16,
+    f: Fields,
+    pointers: &[u32],
+    unlocked: bool,
+    reply: usize,
+) -> Ruling
+    requires { ⌜ (f ≡ fieldsOf word) × (reply ≤ limit) ⌝ }
+    ensures { λ r. ⌜ Ruled (pointersOf (now (pointers .entry))) unlocked reply f (now (rest .entry)) r ⌝ }
+{
+    if rest.len() < command::header_bytes(f) {
+        return cut_off();
+    }
+    if command::for_registers(word) {
+        return register_ruling(rest, f, pointers, reply);
+    }
+    area_ruling(rest, f, pointers, unlocked, reply)
+}
+
+fn which_of(number: u32, f: Fields) -> Which
+    ensures { λ r. ⌜ r ≡ whichOf number (kindOf f) ⌝ }
+{
+    if number != 0 {
+        return Which::Refused(number);
+    }
+    if f.write { Which::Write } else { Which::Read }
+}
+
+// What is found at a command: on these pointers, with the unlock so, and after so many bytes of reply.
+pub(crate) fn command_at(
+    rest: &[u8],
+    pointers: &[u32],
+    unlocked: bool,
+    reply: usize,
+    place: usize,
+) -> Judged
+    requires { ⌜ reply ≤ limit ⌝ }
+    ensures { λ r. ⌜ r .found ≡ found (pointersOf (now (pointers .entry))) unlocked reply place (now (rest .entry)) ⌝ }
+    ensures { λ r. ⌜ (first (refusals (pointersOf (now (pointers .entry))) unlocked reply (fieldsAt (now (rest .entry))) (now (rest .entry))) ≡ 0 → r .reach ≡ reachAt (pointersOf (now (pointers .entry))) (fieldsAt (now (rest .entry))) (now (rest .entry))) ⌝ }
+{
+    let word = command::word_at(rest);
+    let fields = word::fields_of(word);
+    let ruling = ruling_of(rest, word, fields, pointers, unlocked, reply);
+    let reach = ruling.reach;
+    let which = which_of(ruling.number, fields);
+    let found = Found {
+        fields,
+        place,
+        which,
+    };
+    Judged { found, reach }
+}
