@@ -105,6 +105,7 @@ pub struct Compiled {
 ///
 /// `store` must have [`STORE_BYTES`]. `pointers` are the card's [`POINTERS`], none above the size
 /// of its space, or above 16 for an info area; a fresh card's are 0. Nothing is changed.
+#[inline]
 pub fn check(packet: &[u8], store: &[u8], pointers: &[u32]) -> Result<usize, Refusal> {
     let (number, value) = exports::check(packet, store, pointers);
     accepted(number, value)?;
@@ -118,6 +119,7 @@ pub fn check(packet: &[u8], store: &[u8], pointers: &[u32]) -> Result<usize, Ref
 /// `reply` must have [`PACKET_BYTES`]; beyond the answered length it is left as it was. An accepted
 /// packet clears the unlock cell at its end and then raises the packet count, the cell at 0x0A of
 /// space 6, by one, from 65,535 to 0.
+#[inline]
 pub fn run(
     packet: &[u8],
     store: &mut [u8],
@@ -137,6 +139,7 @@ pub fn run(
 ///
 /// `words` are the header and as many words as its count says; of a burst that was cut short, those
 /// that came. `store` must have [`STORE_BYTES`], and `answer` as many words as `words`.
+#[inline]
 pub fn spi(words: &[u32], store: &mut [u8], answer: &mut [u32]) -> Result<u64, Refusal> {
     let (number, value) = exports::spi(words, store, answer);
     accepted(number, value)?;
@@ -157,6 +160,7 @@ pub fn spi(words: &[u32], store: &mut [u8], answer: &mut [u32]) -> Result<u64, R
 /// assert_eq!(out[..compiled.bytes], [b'L', b'B', 4, 0, 0x81, 0x42, 4, 0]);
 /// # Ok::<(), head::Refusal>(())
 /// ```
+#[inline]
 pub fn compile(list: &[u8], out: &mut [u8]) -> Result<Compiled, Refusal> {
     let (number, bytes, packets) = exports::compile(list, out);
     accepted(number, bytes)?;
@@ -211,6 +215,7 @@ pub fn word(fields: &Fields) -> Result<u16, Refusal> {
     Ok(word)
 }
 
+#[inline]
 fn accepted(number: u32, place: u64) -> Result<(), Refusal> {
     match number {
         0 => Ok(()),
@@ -228,6 +233,7 @@ pub mod exports {
     pub(crate) const UNWRITTEN: u64 = u64::MAX;
 
     /// Answers the refusal number, and the reply's length or the place.
+    #[inline]
     pub fn check(packet: &[u8], store: &[u8], pointers: &[u32]) -> (u32, u64) {
         let mut value = UNWRITTEN;
         // SAFETY: each pointer and length is a slice's, and the library uses no byte beyond.
@@ -247,6 +253,7 @@ pub mod exports {
 
     /// Answers the refusal number, the reply's length or the place, and the elements moved, 0 if
     /// refused.
+    #[inline]
     pub fn run(
         packet: &[u8],
         store: &mut [u8],
@@ -274,6 +281,7 @@ pub mod exports {
     }
 
     /// Answers the refusal number, and the elements moved or the place.
+    #[inline]
     pub fn spi(words: &[u32], store: &mut [u8], answer: &mut [u32]) -> (u32, u64) {
         let mut value = UNWRITTEN;
         // SAFETY: as in `check`.
@@ -292,6 +300,7 @@ pub mod exports {
     }
 
     /// Answers the refusal number, the output's bytes or the place, and the packets, 0 if refused.
+    #[inline]
     pub fn compile(list: &[u8], out: &mut [u8]) -> (u32, u64, u64) {
         let mut bytes = UNWRITTEN;
         let mut packets = UNWRITTEN;
