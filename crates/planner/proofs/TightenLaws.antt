@@ -4,7 +4,7 @@ use mathlib.Core.Path.{_≡_, refl, sym, ap, _∙_}
 use mathlib.Core.List.{List, [], _∷_}
 use mathlib.Core.Bool.{Bool, true, false, not}
 use native.Mathlib.Omega.{arith}
-use lib.ListN.{length, take, replicate, length-take}
+use lib.ListN.{length, take, replicate}
 use Rattle.lbp16.specs.Answer.{Answer}
 use Rattle.packet.specs.Step.{Step}
 use Rattle.cue.specs.Records.{Listed, refused, records, recordsOf}
@@ -14,10 +14,9 @@ use Rattle.cue.specs.declared.CompileAnswer.{CompileAnswer}
 use Rattle.cue.proofs.CompileLaws.{accepted-exactly, output-at-front, room-beyond, room-length, refusal-changes-nothing, whole}
 use Rattle.cue.proofs.AnswerLaws.{turned-away, too-small}
 use Rattle.lbp16.specs.declared.Refusal.{Refusal}
-use Rattle.tight.specs.Tight.{Checked, checked, checkListed}
+use Rattle.tight.specs.Tight.{Checked, checked}
 use Rattle.tight.specs.Tight
 use Rattle.tight.specs.Demand3.{TightDemand3}
-use Rattle.tight.specs.declared.TightAnswer.{TightAnswer}
 use Rattle.tight.proofs.OwnLaws.{own-accepted}
 use Rattle.tight.proofs.Demand3Laws.{tight-demand3}
 use Rattle.planner.specs.Planner.{Tighter, TightenedBy, Tightened, OneCell, EightBytes}
@@ -114,14 +113,6 @@ module _ (list room : List ℕ) (most : ℕ) (p : Packs list most) (fits : most 
         → EightBytes list room (l .answer)
     unfolding EightBytes
     own-eight s never m x o f = absurd (never 1 (still-front mid n s m x o .1))
-
--- what the checker said of a proposal at the front of the room
-pub judged-front : {list : List ℕ} {most : ℕ} (p : Packs list most) (after : List ℕ) (n : ℕ) → n ≤ most → (t : TightAnswer)
-    → ((xs : List Step) → recordsOf list ≡ records xs → length (take n after) ≤ length (output xs)
-    → checkListed t ≡ checked list (take n after))
-    → checkListed t ≡ checked list (take n after)
-judged-front p after n h t g =
-    g (p .xs) (p .list-records) (let e = p .size in rw length-take (omega arith))
 
 -- what the checker said, by the two questions that the code asks
 pub taken : (v : Checked) (b : Bool) (n : ℕ) → b ≡ isAccepted v → not b ≡ false → n ≡ packetsOf v → v ≡ Tight.accepted n

@@ -49,7 +49,7 @@ fn improved(list: &[u8], out: &mut [u8], most: usize) -> CompileAnswer
     ensures eight { λ r. ⌜ EightBytes (now (list .entry)) (now (out .entry)) (compileListed r) ⌝ }
 {
     let n = propose::propose_within(list, out, most);
-    let judged = tight::check_planned(list, &out[..n]);
+    let judged = tight::check(list, &out[..n]);
     if !is_accepted(judged) {
         return cue::compile(list, out);
     }

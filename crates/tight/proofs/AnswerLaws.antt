@@ -36,13 +36,6 @@ unfolding planAnswer planned onward outputBytes output packed
 compiles (Records.refused m j) bytes count e = let z : _≡_ {A = ℕ} 0 1 = cc in absurd (omega arith)
 compiles (Records.records xs) bytes count e = record { xs = xs; same = refl; size = cc }
 
--- all of a good list is gone through, for a proposal that is no longer than its output
-pub planned-checked : (list proposal : List ℕ) (t : TightAnswer)
-    → ((xs : List Step) → recordsOf list ≡ records xs → checkListed t ≡ partsChecked (apart proposal) xs) → (xs : List Step)
-    → recordsOf list ≡ records xs → length proposal ≤ length (output xs) → checkListed t ≡ checked list proposal
-unfolding checked proposalChecked
-planned-checked list proposal t g xs e h = g xs e ∙ rw (e, le-ltb (length (output xs)) (length proposal) h) refl
-
 module _ (list proposal : List ℕ) (a : CompileAnswer)
     (e : compileListed a ≡ planAnswer (planned Progress.none (recordsOf list))) where
   pub list-refused : (r : Refusal) → a ≡ CompileAnswer.Refused r → refused (r .number) (r .place) ≡ checked list proposal
@@ -61,7 +54,9 @@ module _ (list proposal : List ℕ) (a : CompileAnswer)
         rw (c .same, lt-ltb (length (output (c .xs))) (length proposal) (rw (c .size) at h)) refl
 
     pub gone-through : length proposal ≤ bytes → (t : TightAnswer)
-        → ((xs : List Step) → recordsOf list ≡ records xs → length proposal ≤ length (output xs)
-        → checkListed t ≡ checked list proposal)
+        → ((xs : List Step) → recordsOf list ≡ records xs → checkListed t ≡ partsChecked (apart proposal) xs)
         → checkListed t ≡ checked list proposal
-    gone-through h t g = let c = compiled in g (c .xs) (c .same) (rw (c .size) at h)
+    unfolding checked proposalChecked
+    gone-through h t g =
+        let c = compiled in
+        g (c .xs) (c .same) ∙ rw (c .same, le-ltb (length (output (c .xs))) (length proposal) (rw (c .size) at h)) refl

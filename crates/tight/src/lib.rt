@@ -6,12 +6,7 @@ use lbp16::Refusal;
 mod walk;
 
 ghost use mathlib.Core.Path.{_≡_};
-ghost use mathlib.Core.List.{List};
-ghost use Prim.Native.Nat.{ℕ, _≤_};
-ghost use lib.ListN.{length};
-ghost use Rattle.packet.specs.Step.{Step};
-ghost use Rattle.cue.specs.Records.{records, recordsOf};
-ghost use Rattle.cue.specs.Compile.{output};
+ghost use Prim.Native.Nat.{ℕ};
 ghost use Rattle.tight.specs.Tight.{checked, checkListed};
 ghost use Rattle.tight.specs.Tight;
 ghost use Rattle.tight.specs.Demand3.{TightDemand3};
@@ -21,14 +16,6 @@ pub enum TightAnswer {
     Accepted(u64),
     Rejected,
     Refused(Refusal),
-}
-
-// For a caller that has planned the list, so that it is good and the proposal no longer than its output. Of others nothing is
-// promised.
-pub fn check_planned(list: &[u8], proposal: &[u8]) -> TightAnswer
-    ensures { λ r. ⌜ ((xs : List Step) → recordsOf (now (list .entry)) ≡ records xs → length (now (proposal .entry)) ≤ length (output xs) → checkListed r ≡ checked (now (list .entry)) (now (proposal .entry))) ⌝ }
-{
-    walk::packets_checked(list, proposal)
 }
 
 // A bad list gets its own refusal first.
@@ -43,7 +30,7 @@ pub fn check(list: &[u8], proposal: &[u8]) -> TightAnswer
             if bytes < proposal.len() {
                 return TightAnswer::Rejected;
             }
-            check_planned(list, proposal)
+            walk::packets_checked(list, proposal)
         }
     }
 }

@@ -31,8 +31,8 @@ returns c =
     let b = c .before .before .before .before in
     both _ _ TightAnswer.Rejected (too-long _ _ _ (b .plan .ensures) _ _ (c .before .before .answer2 .given .1) (c .if1 .taken))
 
-check-planned-requires : tie.Need-check-planned-requires
-check-planned-requires c κs = search needs
+packets-checked-requires : tie.Need-packets-checked-requires
+packets-checked-requires c κs = search needs
 
 returns-2 : tie.Need-returns-2
 unfolding checkListed
@@ -45,7 +45,7 @@ returns-3 c =
     let b = c .before .before .before .before .before in
     both _ _ _
     (gone-through _ _ _ (b .plan .ensures) _ _ (c .before .before .before .answer2 .given .1) (c .before .if1 .left) _
-    (c .check-planned .ensures))
+    (c .packets-checked .ensures))
 
 pub check-spec : {M : Type 1} → statement M
 check-spec =
@@ -55,6 +55,6 @@ check-spec =
     enum-known-answer
     enum-known-answer-2
     returns
-    check-planned-requires
+    packets-checked-requires
     returns-2
     returns-3)
