@@ -14,7 +14,6 @@ use Rattle.lbp16.specs.declared.pointer.Pointers.{Pointers}
 use Rattle.packet.specs.Command.{limit}
 use Rattle.packet.specs.Judge.{Verdict, judge, accepted, refused}
 use Rattle.packet.specs.Verdict.{answerTo, verdictListed}
-use Rattle.packet.specs.declared.judge.Verdict as code
 use Rattle.card.specs.Run.{Outcome, cleared, counted, badState, checked, outcome, runVerdict, runPacket, ran}
 use Rattle.card.specs.Run.{checkedList, ListOutcome, asList, runList, ranList}
 use Rattle.lbp16.specs.Pointer.{pointersOf, pointerList}

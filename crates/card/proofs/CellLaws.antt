@@ -9,7 +9,7 @@ use native.Mathlib.Nat.{zero-add}
 use native.Mathlib.Numerals.{add-one}
 use lib.ListN.{length, take, drop, getD, set, replicate, length-set, replicate-append-replicate, drop-of-length-le}
 use lib.Seq.{sets, drop-cons, take-suc-set, take-all, take-at, drop-at, length-sets}
-use Rattle.lbp16.specs.Space.{Space, registers, row, areaRow, storeBytes}
+use Rattle.lbp16.specs.Space.{registers, row, areaRow, storeBytes}
 use Rattle.packet.specs.Bytes.{number, bytesOf}
 use Rattle.packet.specs.Step.{Kind, read, write, isInfo, rowBy, at, carried, answered, source, stored, after, seen}
 use Rattle.packet.specs.Step.{storeAfter, valuesRead}

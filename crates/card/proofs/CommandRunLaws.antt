@@ -1,8 +1,8 @@
 -- A command that the check let pass, done: what moving its elements asks, and that it does the command's steps.
 use Prim.Native.Nat.{ℕ, _+_, _-_, _*_, _≤_}
-use mathlib.Core.Path.{_≡_, refl, sym, ap, _∙_}
+use mathlib.Core.Path.{_≡_, refl, sym, _∙_}
 use mathlib.Core.List.{List, [], _++_, append-nil}
-use mathlib.Core.Bool.{Bool, true, false, cond}
+use mathlib.Core.Bool.{true, false, cond}
 use native.Mathlib.Omega.{arith}
 use native.Mathlib.Nat.{le-refl, le-trans}
 use lib.ListN.{length, take, drop, getD, length-drop, drop-of-length-le, take-append-drop}
@@ -16,11 +16,11 @@ use Rattle.lbp16.specs.declared.pointer.Pointers.{Pointers}
 use Rattle.lbp16.specs.declared.word.Fields.{Fields}
 use Rattle.lbp16.proofs.SpaceLaws.{row-end}
 use Rattle.packet.proofs.SliceLaws.{tail-whole}
-use Rattle.packet.specs.Step.{Kind, read, write, infoRead, isInfo, isWrite, rowBy, carried, answered, source, storeAfter}
+use Rattle.packet.specs.Step.{Kind, read, write, infoRead, isInfo, rowBy, answered, source, storeAfter}
 use Rattle.packet.specs.Step.{valuesRead}
 use Rattle.packet.proofs.ElementLaws.{write-kind, row-le, carried-write, answered-read}
 use Rattle.packet.proofs.InfoLaws.{source-whole}
-use Rattle.packet.specs.Command.{kindOf, rowOf, headerBytes, commandBytes, addressUsed, stride, elements, areaBytes}
+use Rattle.packet.specs.Command.{kindOf, rowOf, headerBytes, commandBytes, stride, elements, areaBytes}
 use Rattle.packet.specs.Command.{handed, stepsAt}
 use Rattle.packet.proofs.CommandLaws.{Passed, stride-le}
 use Rattle.card.specs.Inside.{LetPass, Within, moved, laid, spanAt}

@@ -1,5 +1,5 @@
 -- Elements that stand one behind the other are a block, and those that stand still are one element.
-use Prim.Native.Nat.{ℕ, zero, suc, _+_, _-_, _*_, _≤_, _<_}
+use Prim.Native.Nat.{ℕ, zero, suc, _+_, _-_, _*_, _≤_}
 use mathlib.Core.Path.{_≡_, refl, sym, ap, _∙_}
 use mathlib.Core.List.{List, [], _∷_, _++_}
 use mathlib.Core.Bool.{Bool, true, false, not, cond, _&&_, _||_}
@@ -8,9 +8,9 @@ use borrow.Author.Tests.{eqb-true}
 use Rattle.lbp16.proofs.BoolLaws.{and-true}
 use native.Mathlib.Omega.{arith}
 use native.Mathlib.Numerals.{sub-one}
-use native.Mathlib.Nat.{add-zero, add-assoc, add-comm, suc-mul, zero-mul}
-use lib.ListN.{length, take, drop, getD, set, length-drop}
-use lib.Seq.{sets, drop-cons, drop-drop, length-take-le, take-add, take-at, sets-eq, length-sets}
+use native.Mathlib.Nat.{add-zero, add-comm, suc-mul, zero-mul}
+use lib.ListN.{length, take, drop, length-drop}
+use lib.Seq.{sets, drop-drop, length-take-le, take-add, take-at, sets-eq, length-sets}
 use Rattle.packet.proofs.StoreLaws.{sets-append, sets-twice}
 use Rattle.card.specs.Inside.{Within, moved}
 

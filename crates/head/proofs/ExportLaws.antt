@@ -11,7 +11,6 @@ use Rattle.lbp16.specs.Answer.{Answer, refused}
 use Rattle.lbp16.specs.Word.{fieldsOf, written, listed}
 use Rattle.lbp16.specs.declared.word.Fields.{Fields}
 use Rattle.lbp16.specs.declared.word.Written.{Written}
-use Rattle.lbp16.specs.declared.pointer.Pointers.{Pointers}
 use Rattle.packet.specs.Verdict.{answerTo, verdictListed}
 use Rattle.packet.specs.declared.judge.Verdict.{Verdict}
 use Rattle.card.specs.Run.{checkedList, ListOutcome, runList, ranList}

@@ -4,13 +4,12 @@ use mathlib.Core.Path.{_≡_, refl}
 use mathlib.Core.List.{List}
 use lib.ListN.{length}
 use borrow.Author.Tests.{eq-eqb, ne-eqb}
-use Rattle.lbp16.specs.declared.word.Fields.{Fields}
 use Rattle.lbp16.specs.declared.pointer.Pointers.{Pointers}
 use Rattle.reason.specs.Reason.{unnamed, explained}
 use Rattle.reason.specs.declared.Reason.{Reason}
 use Rattle.head.specs.Exports.{fieldBytes}
 use Rattle.lbp16.specs.Pointer.{pointersOf}
-use Rattle.head.specs.Reasoned.{WhyExport, whyLeft, reasonFor, exportWhy}
+use Rattle.head.specs.Reasoned.{whyLeft, reasonFor, exportWhy}
 
 module _ (packet store pointers : List ℕ) where
   pub why-not-eight : (length pointers ≡ 8 → ⊥) → (r : Reason) → r ≡ unnamed 1 0 → r ≡ reasonFor packet store pointers

@@ -1,6 +1,6 @@
 -- What the C exports return and leave. The answers themselves are those of a packet, a burst and a command word.
-use Prim.Native.Nat.{ℕ, _+_}
-use mathlib.Core.List.{List, [], _∷_, _++_}
+use Prim.Native.Nat.{ℕ}
+use mathlib.Core.List.{List, [], _∷_}
 use mathlib.Core.Bool.{Bool, not, _||_, cond}
 use lib.ListN.{length, getD}
 use lib.Dec.{eqb, ltb}

@@ -16,12 +16,11 @@ use Rattle.lbp16.specs.declared.word.Fields.{Fields}
 use Rattle.lbp16.specs.declared.pointer.Pointers.{Pointers}
 use Rattle.packet.specs.Step.{unlocked, replyBytes, answered}
 use Rattle.packet.specs.Rules.{first}
-use Rattle.packet.specs.Command.{limit, fieldsAt, kindOf, headerBytes, commandBytes, addressUsed, stride, elements, refusals, whichOf, numberOf, found}
+use Rattle.packet.specs.Command.{limit, fieldsAt, kindOf, headerBytes, commandBytes, stride, elements, refusals, whichOf, numberOf, found}
 use Rattle.packet.specs.Reach.{reachFrom, reachAt}
 use Rattle.packet.specs.declared.command.Reach.{Reach}
 use Rattle.packet.specs.declared.command.Found.{Found}
-use Rattle.packet.specs.declared.command.Which.{Which}
-use Rattle.packet.specs.declared.command.Which.the-variants.{Read, Write, Refused}
+use Rattle.packet.specs.declared.command.Which.the-variants.{Refused}
 use Rattle.packet.proofs.ProgressLaws.{progress-is}
 use Rattle.packet.specs.Command.{progressAfter, commandAt}
 use Rattle.packet.specs.Judge.{Carried, begin, carry, judgeFrom, judge, foundNext, verdictAt, accepted, refused}

@@ -1,7 +1,7 @@
 -- One command of a packet: what is found at it, from the packet's bytes from that command on.
 use Prim.Native.Nat.{ℕ, zero, suc, _+_, _*_}
 use mathlib.Core.List.{List, [], _∷_}
-use mathlib.Core.Bool.{Bool, true, false, not, _||_, _&&_, cond}
+use mathlib.Core.Bool.{Bool, false, not, _||_, _&&_, cond}
 use lib.ListN.{length, take, drop}
 use lib.Dec.{eqb, ltb}
 use Rattle.lbp16.specs.Space.{Space, spaceOf, isAbsent}

@@ -1,6 +1,5 @@
 -- The verdict as the papers list it, and what a command is found in.
-use Prim.Native.Nat.{ℕ}
-use mathlib.Core.List.{List, [], _∷_}
+use mathlib.Core.List.{[], _∷_}
 use mathlib.Core.Bool.{false}
 use Rattle.lbp16.specs.Answer.{Answer, refusal}
 use Rattle.lbp16.specs.declared.pointer.Pointers.{Pointers}

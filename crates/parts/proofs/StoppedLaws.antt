@@ -2,10 +2,10 @@
 use Prim.Native.Nat.{ℕ, _+_, _≤_}
 use mathlib.Core.Path.{_≡_, refl, sym, ap, _∙_}
 use mathlib.Core.List.{List, [], _∷_, _++_}
-use mathlib.Core.Bool.{Bool, true, false, cond}
+use mathlib.Core.Bool.{Bool, false, cond}
 use native.Mathlib.Omega.{arith}
 use lib.ListN.{length, drop}
-use Rattle.lbp16.specs.Answer.{Answer, accepted, refused}
+use Rattle.lbp16.specs.Answer.{accepted, refused}
 use Rattle.parts.specs.Taking.{State, Standing, going, ended, faulted, Taken, isGoing, called, answerBy, answered}
 use Rattle.parts.specs.State.{frameRoom, heldPacking, stateOf, badState, bytesOfState}
 use Rattle.parts.specs.Rule.{Opened, packingRule}

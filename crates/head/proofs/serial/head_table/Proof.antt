@@ -1,10 +1,6 @@
 use borrow.Author.Needs.{needs}
 use Rattle.head.proofs.serial.head_table.Statement.{statement}
 use Rattle.head.proofs.serial.head_table.Tie as tie
-use Rattle.head.proofs.serial.table_inputs.Reads as table-inputs-reads
-use Rattle.head.proofs.serial.table_number.Reads as table-number-reads
-use Rattle.head.proofs.serial.table_outputs.Reads as table-outputs-reads
-use Rattle.sserial.proofs.count.count_fields.Reads as count-fields-reads
 use Rattle.head.proofs.SerialLaws.{table-exported}
 
 count-fields-requires : tie.Need-count-fields-requires

@@ -1,7 +1,6 @@
 use borrow.Author.Needs.{needs}
 use Rattle.head.proofs.serial.table_or_40.Statement.{statement}
 use Rattle.head.proofs.serial.table_or_40.Tie as tie
-use Rattle.sserial.proofs.count.count_fields.Reads as count-fields-reads
 use Rattle.sserial.specs.Calls.{tableListed}
 use Rattle.head.proofs.SerialLaws.{or-40, or-refused}
 

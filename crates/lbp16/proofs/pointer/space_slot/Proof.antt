@@ -1,4 +1,3 @@
-use mathlib.Core.Path.{_∙_}
 use native.Mathlib.Omega.{arith}
 use Rattle.lbp16.specs.Pointer.{spaceSlot}
 use Rattle.lbp16.proofs.CaseLaws.{at-registers, at-eeprom, at-status, at-information, at-absent}

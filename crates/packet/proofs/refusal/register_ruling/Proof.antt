@@ -1,6 +1,5 @@
 use borrow.Author.Needs.{needs}
 use mathlib.Core.Path.{_∙_}
-use Rattle.lbp16.specs.Space.{spaceOf}
 use Rattle.packet.proofs.ReachLaws.{registers-row, registers-slot, reach-found, ruled}
 use Rattle.packet.proofs.refusal.register_ruling.Statement.{statement}
 use Rattle.packet.proofs.refusal.register_ruling.Tie as tie
