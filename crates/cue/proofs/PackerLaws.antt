@@ -2,7 +2,7 @@
 use Prim.Native.Nat.{ℕ, _+_, _*_, _≤_, _<_}
 use mathlib.Core.Path.{_≡_, refl, sym, ap, _∙_}
 use mathlib.Core.List.{List, [], _∷_, _++_, append-assoc, append-nil}
-use mathlib.Core.Bool.{Bool, Bool·beq, true, false, _||_, _&&_, cond}
+use mathlib.Core.Bool.{Bool, Bool·beq, true, false, not, _||_, _&&_, cond}
 use native.Mathlib.Omega.{arith}
 use lib.Dec.{eqb, ltb, leb}
 use lib.ListN.{length, length-append}
@@ -13,7 +13,7 @@ use Rattle.packet.specs.Step.{Kind, Step, isInfo, carried, answered, isWrite, i
 use Rattle.packet.specs.Step.{turned, unlocked}
 use Rattle.packet.specs.Bytes.{number}
 use Rattle.packet.specs.Rules.{misaligned, pastEnd, barred}
-use Rattle.packet.specs.Command.{limit}
+use Rattle.packet.specs.Command.{limit, pickKind}
 use Rattle.packet.proofs.StepLaws.{unlocked-append, reply-append, carried-le, answered-le, pick-again}
 use Rattle.cue.specs.Records.{reserved, badElement}
 use Rattle.cue.specs.Packing.{Command, joinAll, packetBytes, elementSteps, commandSteps, packetSteps}
@@ -21,7 +21,8 @@ use Rattle.cue.specs.Packing.{unlockCommand, keepsLimits, Open, commands
 use Rattle.cue.specs.Packing.{started, turnBy, turn}
 use Rattle.cue.specs.Output.{outputOf}
 use Rattle.cue.specs.Inside.{brief, carriedBy, answeredBy, Progress, none, some, advance, outputBytes, summary, agrees, fits}
-use Rattle.cue.specs.Inside.{joinedBy, unlockFor, startedBy, closedBy, turnedBy}
+use Rattle.cue.specs.Inside.{joinedWith, joinedBy, unlockFor, startedWith, startedBy, closedBy, turnedBy, Roomy}
+use Rattle.lbp16.specs.declared.space.Row.{Row}
 use Rattle.cue.specs.declared.records.Record.{Record}
 use Rattle.cue.specs.declared.packer.Packer.{Packer}
 use Rattle.cue.proofs.PacketLaws.{packet-bytes-append, packet-steps-append, command-length}
@@ -52,6 +53,91 @@ module _ (p : Packer) (r : Record) where
       let z : (agrees p r && fits (joinedBy p r)) ≡ false = rw (← e, ← g, ← h) t in
       let y : fits (startedBy p r) ≡ false = rw (← d) k in
       rw (z, y) l
+
+  -- where both name one space, the record's element is the last command's
+  pub agrees-at : (e : ℕ) → e ≡ row (spaceOf (r .space)) .element
+      → (Bool·beq (p .write) (r .write) && eqb (p .space) (r .space) && eqb (r .address) (p .address + p .count * e)
+      && ltb (p .count) 127)
+      ≡ agrees p r
+  unfolding agrees
+  agrees-at e h =
+      ap (λ (n : ℕ). both && eqb (r .address) (p .address + p .count * n) && ltb (p .count) 127) h
+      ∙ go (Bool·beq (p .write) (r .write)) (eqb (p .space) (r .space)) refl
+    where
+      both : Bool
+      both = Bool·beq (p .write) (r .write) && eqb (p .space) (r .space)
+
+      next : ℕ → Bool
+      next n = eqb (r .address) (p .address + p .count * row (spaceOf n) .element)
+
+      go : (b s : Bool) → eqb (p .space) (r .space) ≡ s
+          → (b && s && next (r .space) && ltb (p .count) 127) ≡ (b && s && next (p .space) && ltb (p .count) 127)
+      go true true d = ap (λ (n : ℕ). next n && ltb (p .count) 127) (sym (eqb-true _ _ d))
+      go true false d = refl
+      go false s d = refl
+
+-- the bytes of a record's element, by its kind
+pub carried-counted : (r : Record) → cond (r .write) (row (spaceOf (r .space)) .element) 0 ≡ carriedBy r
+unfolding carriedBy carried
+carried-counted r = go (r .write)
+  where
+    go : (w : Bool) → cond w (row (spaceOf (r .space)) .element) 0 ≡ carried (pickKind w) (spaceOf (r .space))
+    go true = refl
+    go false = refl
+
+pub answered-counted : (r : Record) → cond (not (r .write)) (row (spaceOf (r .space)) .element) 0 ≡ answeredBy r
+unfolding answeredBy answered
+answered-counted r = go (r .write)
+  where
+    go : (w : Bool) → cond (not w) (row (spaceOf (r .space)) .element) 0 ≡ answered (pickKind w) (spaceOf (r .space))
+    go true = refl
+    go false = refl
+
+-- a record's element as the packer is told of it
+pub record Sized (p : Packer) (r : Record) (line : Row) (bytes answer : ℕ) : Type 0 where
+  pub roomy : Roomy p
+  pub listed : line ≡ row (spaceOf (r .space))
+  pub carried : bytes ≡ carriedBy r
+  pub answered : answer ≡ answeredBy r
+  pub small : bytes ≤ 4
+  pub short : answer ≤ 4
+
+module _ {p : Packer} {r : Record} {line : Row} {bytes answer : ℕ} where
+  pub sized : Roomy p → line ≡ row (spaceOf (r .space)) → bytes ≡ cond (r .write) (line .element) 0
+      → answer ≡ cond (not (r .write)) (line .element) 0 → Sized p r line bytes answer
+  unfolding carriedBy answeredBy
+  sized g l b a =
+      let c : bytes ≡ carriedBy r = b ∙ ap (λ (s : Row). cond (r .write) (s .element) 0) l ∙ carried-counted r in
+      let d : answer ≡ answeredBy r = a ∙ ap (λ (s : Row). cond (not (r .write)) (s .element) 0) l ∙ answered-counted r in
+      record {
+        roomy = g;
+        listed = l;
+        carried = c;
+        answered = d;
+        small = rw c (carried-le _ _);
+        short = rw d (answered-le _ _);
+      }
+
+  module _ (z : Sized p r line bytes answer) where
+    pub joined-is : (q : Packer) → q ≡ joinedWith p bytes answer → q ≡ joinedBy p r
+    unfolding joinedBy
+    joined-is q e = rw (← z .carried, ← z .answered) e
+
+    pub started-is : (q : Packer) → q ≡ startedWith p r bytes answer (r .write && line .locked && not (p .unlocked))
+        → q ≡ startedBy p r
+    unfolding startedBy unlockFor
+    started-is q e = rw (← z .carried, ← z .answered, ← z .listed) e
+
+    pub opened-is : (q s : Packer) → s ≡ closedBy p → q ≡ startedWith s r bytes answer (r .write && line .locked)
+        → q ≡ startedBy (closedBy p) r
+    unfolding startedBy unlockFor closedBy
+    opened-is q s d e =
+        rw (← z .carried, ← z .answered, ← z .listed, also (r .write && line .locked))
+        (e ∙ ap (λ (x : Packer). startedWith x r bytes answer (r .write && line .locked)) d)
+      where
+        also : (b : Bool) → (b && true) ≡ b
+        also true = refl
+        also false = refl
 
 -- a record's bytes by its summary
 pub carried-brief : (x : Step) → isInfo (x .kind) ≡ false → carriedBy (brief x) ≡ carried (x .kind) (x .space)

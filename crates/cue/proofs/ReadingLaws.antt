@@ -1,5 +1,5 @@
 -- Laws of a record as the code reads it.
-use Prim.Native.Nat.{ℕ, _+_, _%_, _≤_}
+use Prim.Native.Nat.{ℕ, _+_, _%_, _≤_, _<_}
 use mathlib.Core.Path.{_≡_, refl, sym, ap}
 use mathlib.Core.List.{List, [], _∷_}
 use mathlib.Core.Bool.{Bool, true, false, not, _||_, _&&_, cond}
@@ -7,7 +7,7 @@ use native.Mathlib.Omega.{arith}
 use lib.Dec.{eqb, ltb}
 use lib.ListN.{length, take, drop, getD, drop-of-length-le, length-take}
 use lib.Seq.{drop-drop}
-use borrow.Author.Tests.{eqb-true, eqb-false}
+use borrow.Author.Tests.{eqb-true, eqb-false, le-ltb}
 use Rattle.lbp16.specs.Space.{Space, registers, eeprom, status, information, absent, spaceOf, spaceNumber, isAbsent, row}
 use Rattle.lbp16.proofs.BoolLaws.{or-false}
 use Rattle.packet.specs.Bytes.{number}
@@ -127,6 +127,40 @@ chain-is index rest w h =
         → cond b 23 (test (not (eqb (upperHalf rest) 0))) ≡ cond b 23 (test w)
     go true e = refl
     go false e = ap test (sym (h (present rest e)))
+
+-- A whole record of a register that stands where an element may: only 21 can refuse it.
+pub register-good : (rest : List ℕ) → 10 ≤ length rest → (eqb (markAt rest) readMark || eqb (markAt rest) writeMark) ≡ true
+    → getD rest 2 0 ≡ 0 → getD rest 3 0 ≡ 0 → number (take 2 (drop 4 rest)) % 4 ≡ 0 → number (take 2 (drop 4 rest)) < 65536
+    → (index : ℕ) → eqb index mostRecords ≡ false → first (recordRefusals index rest) ≡ 0
+unfolding recordBytes isWrite recordAt isAbsent spaceOf row
+register-good rest l m s z a b index i =
+    rw (chain-is index rest w (too-wide-is rest), i, known (eqb (markAt rest) readMark) (eqb (markAt rest) writeMark) m, z, narrow (eqb (markAt rest) writeMark), good) refl
+  where
+    w : Bool
+    w = not (eqb (getD rest 2 0) 0) && not (eqb (number (take 2 (drop 8 rest))) 0)
+
+    enough : (v : Bool) → ltb (length rest) (recordBytes (pickKind v)) ≡ false
+    enough true = le-ltb (length rest) 10 l
+    enough false = le-ltb (length rest) 6 (omega arith)
+
+    known : (x y : Bool) → (x || y) ≡ true → ((not x && not y) || ltb (length rest) (recordBytes (pickKind y))) ≡ false
+    known true y e = enough y
+    known false true e = enough true
+    known false false e = sym e
+
+    narrow : (v : Bool) → (v && w) ≡ false
+    narrow true = rw s refl
+    narrow false = refl
+
+    none : (v : Bool) → (v && false) ≡ false
+    none true = refl
+    none false = refl
+
+    good : badElement (recordStep rest) ≡ false
+    good =
+        let n = number (take 2 (drop 4 rest)) in
+        rw (bad-element-is rest, s, a, le-ltb 65536 (n + 4) (omega arith), le-ltb n 0 (omega arith))
+        (none (eqb n 0x1A || eqb n 0x0A))
 
 -- A record that no rule refuses: it is whole, and is what the code reads.
 pub record Passing (index : ℕ) (rest : List ℕ) : Type 0 where

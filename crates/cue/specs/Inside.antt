@@ -119,45 +119,51 @@ agrees p r =
 unfoldable pub fits : Packer → Bool
 fits p = leb (p .packet) limit && leb (p .reply) limit
 
-unfoldable pub joinedBy : Packer → Record → Packer
-joinedBy p r =
+-- (a), for an element of so many bytes in its packet and in the reply
+abbrev pub joinedWith : Packer → ℕ → ℕ → Packer
+joinedWith p bytes answer =
     record {
       write = p .write;
       space = p .space;
       address = p .address;
       count = p .count + 1;
-      packet = p .packet + carriedBy r;
-      reply = p .reply + answeredBy r;
+      packet = p .packet + bytes;
+      reply = p .reply + answer;
       unlocked = p .unlocked;
       unlock = false;
       frame = p .frame;
       word = p .word;
-      end = p .end + carriedBy r;
+      end = p .end + bytes;
       packets = p .packets;
     }
+
+unfoldable pub joinedBy : Packer → Record → Packer
+joinedBy p r = joinedWith p (carriedBy r) (answeredBy r)
 
 unfoldable pub unlockFor : Packer → Record → Bool
 unlockFor p r = r .write && row (spaceOf (r .space)) .locked && not (p .unlocked)
 
--- (b)
-unfoldable pub startedBy : Packer → Record → Packer
-startedBy p r =
-    let need = unlockFor p r in
+-- (b), where `need` says whether an unlock command comes first
+abbrev pub startedWith : Packer → Record → ℕ → ℕ → Bool → Packer
+startedWith p r bytes answer need =
     let unlock : ℕ = cond need 6 0 in
     record {
       write = r .write;
       space = r .space;
       address = r .address;
       count = 1;
-      packet = p .packet + unlock + 4 + carriedBy r;
-      reply = p .reply + answeredBy r;
+      packet = p .packet + unlock + 4 + bytes;
+      reply = p .reply + answer;
       unlocked = p .unlocked || need;
       unlock = need;
       frame = p .frame;
       word = p .end + unlock;
-      end = p .end + unlock + 4 + carriedBy r;
+      end = p .end + unlock + 4 + bytes;
       packets = p .packets;
     }
+
+unfoldable pub startedBy : Packer → Record → Packer
+startedBy p r = startedWith p r (carriedBy r) (answeredBy r) (unlockFor p r)
 
 -- (c): behind this packet an empty one
 unfoldable pub closedBy : Packer → Packer

@@ -115,7 +115,7 @@ pub(crate) fn emit(list: &[u8], out: &mut [u8])
     let mut packer = Packer::empty();
     while rest.len() != 0 {
         let r = records::record_at(rest);
-        packer = packer::turned(packer, r);
+        packer = packer::turned(packer, r, space::row_of(r.space));
         put_record(out, packer, rest, packer::carried(r));
         let n = records::record_bytes(r.write);
         rest = &rest[n..];

@@ -4,6 +4,7 @@ use crate::emit;
 use crate::packer;
 use crate::packer::Packer;
 use crate::records;
+use lbp16::space;
 use crate::records::Record;
 ghost use mathlib.Core.Path.{_≡_};
 ghost use Prim.Native.Nat.{_≤_};
@@ -23,7 +24,7 @@ pub fn turned(p: Packer, r: Record) -> Packer
     if loose(p) {
         return p;
     }
-    packer::turned(p, r)
+    packer::turned(p, r, space::row_of(r.space))
 }
 
 // `n`: the bytes of the record's element; `rest` and `room`: how many bytes there are.

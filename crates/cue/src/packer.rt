@@ -1,11 +1,13 @@
 // The packing rule, on what is known of the packet that is open.
 use crate::records::Record;
 use lbp16::space;
+use lbp16::space::Row;
 use packet::command::LIMIT;
 ghost use mathlib.Core.Path.{_≡_};
 ghost use mathlib.Core.Bool.{false, cond};
 ghost use Prim.Native.Nat.{_≤_};
-ghost use Rattle.cue.specs.Inside.{Progress, summary, carriedBy, answeredBy, agrees, fits, joinedBy, startedBy, closedBy, turnedBy, Roomy};
+ghost use Rattle.lbp16.specs.Space.{spaceOf, row};
+ghost use Rattle.cue.specs.Inside.{Progress, summary, carriedBy, agrees, fits, joinedWith, startedWith, closedBy, turnedBy, Roomy};
 
 // The unlock where a packet begins.
 const CLOSED: bool = false;
@@ -50,33 +52,25 @@ impl Packer {
     }
 }
 
-// The bytes of a record's element, in its packet and in the reply.
+// A count where it applies.
+fn counted(applies: bool, n: usize) -> usize
+    ensures { λ k. ⌜ (k ≡ cond applies n 0) × (k ≤ n) ⌝ }
+{
+    if applies { n } else { 0 }
+}
+
+// The bytes of a record's element in its packet.
 pub fn carried(r: Record) -> usize
     ensures { λ n. ⌜ (n ≡ carriedBy r) × (n ≤ 4) ⌝ }
 {
-    if r.write {
-        space::row_of(r.space).element as usize
-    } else {
-        0
-    }
-}
-
-fn answered(r: Record) -> usize
-    ensures { λ n. ⌜ (n ≡ answeredBy r) × (n ≤ 4) ⌝ }
-{
-    if r.write {
-        0
-    } else {
-        space::row_of(r.space).element as usize
-    }
+    counted(r.write, space::row_of(r.space).element as usize)
 }
 
 // (a) of the packing rule, apart from the limits.
-fn agrees(p: Packer, r: Record) -> bool
-    requires { ⌜ Roomy p ⌝ }
+fn agrees(p: Packer, r: Record, element: u32) -> bool
+    requires { ⌜ Roomy p × (element ≡ row (spaceOf (r .space)) .element) ⌝ }
     ensures { λ b. ⌜ b ≡ agrees p r ⌝ }
 {
-    let element = space::row_of(p.space).element;
     let next = p.address as u32 + p.count as u32 * element;
     (p.write == r.write) & (p.space == r.space) & (r.address as u32 == next) & (p.count < 127)
 }
@@ -87,18 +81,17 @@ fn fits(p: Packer) -> bool
     (p.packet <= LIMIT) & (p.reply <= LIMIT)
 }
 
-fn joined(p: Packer, r: Record) -> Packer
-    requires { ⌜ Roomy p ⌝ }
-    ensures { λ q. ⌜ q ≡ joinedBy p r ⌝ }
+fn joined(p: Packer, bytes: usize, answer: usize) -> Packer
+    requires { ⌜ Roomy p × (bytes ≤ 4) × (answer ≤ 4) ⌝ }
+    ensures { λ q. ⌜ q ≡ joinedWith p bytes answer ⌝ }
 {
-    let bytes = carried(r);
     Packer {
         write: p.write,
         space: p.space,
         address: p.address,
         count: p.count + 1,
         packet: p.packet + bytes,
-        reply: p.reply + answered(r),
+        reply: p.reply + answer,
         unlocked: p.unlocked,
         unlock: false,
         frame: p.frame,
@@ -108,27 +101,19 @@ fn joined(p: Packer, r: Record) -> Packer
     }
 }
 
-fn unlock_bytes(need: bool) -> usize
-    ensures { λ n. ⌜ (n ≡ cond need 6 0) × (n ≤ 6) ⌝ }
-{
-    if need { 6 } else { 0 }
-}
-
 // (b): a new command in the packet, where needed behind the unlock.
-fn started(p: Packer, r: Record) -> Packer
-    requires { ⌜ (p .packet ≤ 1473) × (p .reply ≤ 1472) × (p .end ≤ 1800004) ⌝ }
-    ensures { λ q. ⌜ q ≡ startedBy p r ⌝ }
+fn started(p: Packer, r: Record, bytes: usize, answer: usize, need: bool) -> Packer
+    requires { ⌜ (p .packet ≤ 1473) × (p .reply ≤ 1472) × (p .end ≤ 1800004) × (bytes ≤ 4) × (answer ≤ 4) ⌝ }
+    ensures { λ q. ⌜ q ≡ startedWith p r bytes answer need ⌝ }
 {
-    let need = r.write & space::row_of(r.space).locked & !p.unlocked;
-    let unlock = unlock_bytes(need);
-    let bytes = carried(r);
+    let unlock = counted(need, 6);
     Packer {
         write: r.write,
         space: r.space,
         address: r.address,
         count: 1,
         packet: p.packet + unlock + 4 + bytes,
-        reply: p.reply + answered(r),
+        reply: p.reply + answer,
         unlocked: p.unlocked | need,
         unlock: need,
         frame: p.frame,
@@ -159,18 +144,22 @@ fn closed(p: Packer) -> Packer
     }
 }
 
-// One record more.
-pub(crate) fn turned(p: Packer, r: Record) -> Packer
-    requires { ⌜ Roomy p ⌝ }
+// One record more; `line` is its space's line of the table.
+pub(crate) fn turned(p: Packer, r: Record, line: Row) -> Packer
+    requires { ⌜ Roomy p × (line ≡ row (spaceOf (r .space))) ⌝ }
     ensures { λ q. ⌜ q ≡ turnedBy p r ⌝ }
 {
-    let join = joined(p, r);
-    if agrees(p, r) & fits(join) {
+    let element = line.element as usize;
+    let bytes = counted(r.write, element);
+    let answer = counted(!r.write, element);
+    let join = joined(p, bytes, answer);
+    if agrees(p, r, line.element) & fits(join) {
         return join;
     }
-    let start = started(p, r);
+    let locked = r.write & line.locked;
+    let start = started(p, r, bytes, answer, locked & !p.unlocked);
     if fits(start) {
         return start;
     }
-    started(closed(p), r)
+    started(closed(p), r, bytes, answer, locked)
 }

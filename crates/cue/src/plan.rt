@@ -3,6 +3,7 @@ use crate::CompileAnswer;
 use crate::packer;
 use crate::packer::Packer;
 use crate::records;
+use lbp16::space;
 use lbp16::Refusal;
 ghost use mathlib.Core.Path.{_≡_};
 ghost use Rattle.cue.specs.Records.{recordsOf};
@@ -25,7 +26,7 @@ pub fn plan(list: &[u8]) -> CompileAnswer
             });
         }
         let r = records::record_at(rest);
-        packer = packer::turned(packer, r);
+        packer = packer::turned(packer, r, space::row_of(r.space));
         let n = records::record_bytes(r.write);
         rest = &rest[n..];
         index += 1;

@@ -3,14 +3,14 @@ use lbp16::space;
 use packet::bytes;
 use packet::rule;
 ghost use mathlib.Core.Path.{_≡_};
-ghost use mathlib.Core.Bool.{not, false};
-ghost use Prim.Native.Nat.{_<_, _≤_};
+ghost use mathlib.Core.Bool.{not, true, false};
+ghost use Prim.Native.Nat.{ℕ, _<_, _≤_};
 ghost use lib.ListN.{getD};
 ghost use lib.Dec.{eqb};
 ghost use Rattle.lbp16.specs.Space.{isAbsent};
 ghost use Rattle.packet.specs.Command.{pickKind};
 ghost use Rattle.packet.specs.Rules.{first};
-ghost use Rattle.cue.specs.Records.{recordStep, recordSpace, recordBytes, badElement, upperHalf, recordRefusals};
+ghost use Rattle.cue.specs.Records.{recordStep, recordSpace, recordBytes, badElement, upperHalf, recordRefusals, mostRecords};
 ghost use Rattle.cue.specs.Inside.{recordAt};
 
 // The most records that a list may have.
@@ -76,7 +76,7 @@ fn too_wide(rest: &[u8]) -> bool
 }
 
 // The lowest number of refusals 21 to 24 whose condition holds, 0 if none does.
-pub fn record_refusal(rest: &[u8], index: usize) -> u32
+fn lowest_refusal(rest: &[u8], index: usize) -> u32
     ensures { λ r. ⌜ r ≡ first (recordRefusals index (now (rest .entry))) ⌝ }
 {
     let mark = bytes::pair_at(rest, 0);
@@ -86,4 +86,29 @@ pub fn record_refusal(rest: &[u8], index: usize) -> u32
     let r = rule::first_of(bad_element(rest), 23, r);
     let r = rule::first_of(unknown | (rest.len() < record_bytes(write)), 22, r);
     rule::first_of(index == MOST, 21, r)
+}
+
+// Whether this is surely a good record: of a register, with as many bytes as a write has. Most records are, and need no
+// look into the table of spaces.
+fn plain_register(rest: &[u8]) -> bool
+    ensures { λ b. ⌜ (b ≡ true → (index : ℕ) → eqb index mostRecords ≡ false → first (recordRefusals index (now (rest .entry))) ≡ 0) ⌝ }
+{
+    if rest.len() < 10 {
+        return false;
+    }
+    let mark = bytes::pair_at(rest, 0);
+    let address = bytes::pair_at(rest, 4);
+    ((mark == READ_MARK) | (mark == WRITE_MARK))
+        & (byte_at(rest, 2) == 0)
+        & (byte_at(rest, 3) == 0)
+        & (address % 4 == 0)
+}
+
+pub fn record_refusal(rest: &[u8], index: usize) -> u32
+    ensures { λ r. ⌜ r ≡ first (recordRefusals index (now (rest .entry))) ⌝ }
+{
+    if plain_register(rest) & (index != MOST) {
+        return 0;
+    }
+    lowest_refusal(rest, index)
 }

@@ -1,25 +1,22 @@
 use borrow.Author.Needs.{needs}
 use Rattle.cue.proofs.packer.carried.Statement.{statement}
 use Rattle.cue.proofs.packer.carried.Tie as tie
-use mathlib.Core.Path.{refl}
 use native.Mathlib.Omega.{arith}
+use Prim.Native.Nat.{_≤_}
 use Rattle.lbp16.proofs.SpaceLaws.{element-le}
-use Rattle.cue.specs.Inside.{carriedBy}
-use Rattle.packet.specs.Step.{carried}
+use Rattle.cue.proofs.PackerLaws.{carried-counted}
 
 row-of-requires : tie.Need-row-of-requires
 row-of-requires c κs = search needs
 
-cast-result : tie.Need-cast-result
-cast-result c = search needs
+cast-counted : tie.Need-cast-counted
+cast-counted c = search needs
+
+counted-requires : tie.Need-counted-requires
+counted-requires c κs = search needs
 
 returns : tie.Need-returns
-unfolding carriedBy carried
-returns c = rw (c .before .before .if1 .taken, c .before .row-of .ensures) (refl, element-le _)
-
-returns-2 : tie.Need-returns-2
-unfolding carriedBy carried
-returns-2 c = rw (c .if1 .left) (refl, omega arith)
+returns c = let s = c .before .before .row-of .ensures in let h = c .counted .ensures .1 in let k : c .before .before .row-of .result .element ≤ 4 = rw s (element-le _) in (rw (c .counted .ensures .0, s) (carried-counted _), omega arith)
 
 pub carried-spec : {M : Type 1} → statement M
-carried-spec = tie.close (tie.spec row-of-requires cast-result returns returns-2)
+carried-spec = tie.close (tie.spec row-of-requires cast-counted counted-requires returns)

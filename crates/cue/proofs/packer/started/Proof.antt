@@ -1,16 +1,15 @@
 use borrow.Author.Needs.{needs}
 use Rattle.cue.proofs.packer.started.Statement.{statement}
 use Rattle.cue.proofs.packer.started.Tie as tie
-use Rattle.cue.specs.Inside.{startedBy, unlockFor}
 
-row-of-requires : tie.Need-row-of-requires
-row-of-requires c κs = search needs
+counted-requires : tie.Need-counted-requires
+counted-requires c κs = search needs
 
-unlock-bytes-requires : tie.Need-unlock-bytes-requires
-unlock-bytes-requires c κs = search needs
+add-t7 : tie.Need-add-t7
+add-t7 c = search needs
 
-carried-requires : tie.Need-carried-requires
-carried-requires c κs = search needs
+add-t8 : tie.Need-add-t8
+add-t8 c = search needs
 
 add-t9 : tie.Need-add-t9
 add-t9 c = search needs
@@ -18,11 +17,8 @@ add-t9 c = search needs
 add-t10 : tie.Need-add-t10
 add-t10 c = search needs
 
-add-t11 : tie.Need-add-t11
-add-t11 c = search needs
-
-answered-requires : tie.Need-answered-requires
-answered-requires c κs = search needs
+add-t12 : tie.Need-add-t12
+add-t12 c = search needs
 
 add-t13 : tie.Need-add-t13
 add-t13 c = search needs
@@ -33,30 +29,20 @@ add-t14 c = search needs
 add-t15 : tie.Need-add-t15
 add-t15 c = search needs
 
-add-t16 : tie.Need-add-t16
-add-t16 c = search needs
-
-add-t17 : tie.Need-add-t17
-add-t17 c = search needs
-
 returns : tie.Need-returns
-unfolding startedBy unlockFor
-returns c = let b = c .before .before .before .before in simp (b .answered .ensures .0, b .before .before .carried .ensures .0, b .before .before .before .unlock-bytes .ensures .0, b .before .before .before .before .before .before .before .row-of .ensures)
+returns c = simp (c .before .before .before .before .before .counted .ensures .0)
 
 pub started-spec : {M : Type 1} → statement M
 started-spec =
     tie.close
     (tie.spec
-    row-of-requires
-    unlock-bytes-requires
-    carried-requires
+    counted-requires
+    add-t7
+    add-t8
     add-t9
     add-t10
-    add-t11
-    answered-requires
+    add-t12
     add-t13
     add-t14
     add-t15
-    add-t16
-    add-t17
     returns)

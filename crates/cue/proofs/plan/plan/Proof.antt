@@ -32,16 +32,19 @@ returns c = plan-refused _ _ _ _ _ (c .before .before .before .loop .inv .held) 
 record-at-requires : tie.Need-record-at-requires Inv-loop μ-loop
 record-at-requires c κs = search needs
 
+row-of-requires : tie.Need-row-of-requires Inv-loop μ-loop
+row-of-requires c κs = search needs
+
 turned-requires : tie.Need-turned-requires Inv-loop μ-loop
-turned-requires c κs = roomy (c .before .before .before .before .loop .inv .held)
+turned-requires c κs = (roomy (c .before .before .before .before .before .loop .inv .held), c .row-of .ensures)
 
 record-bytes-requires : tie.Need-record-bytes-requires Inv-loop μ-loop
 record-bytes-requires c κs = search needs
 
-whole : (c : tie.After-record-bytes Inv-loop μ-loop) → c .record-bytes .result ≤ length (c .before .before .before .before .before .before .loop .rest .now)
+whole : (c : tie.After-record-bytes Inv-loop μ-loop) → c .record-bytes .result ≤ length (c .before .before .before .before .before .before .before .loop .rest .now)
 whole c =
-    let b = c .before .before .before in
-    bytes-whole _ _ _ _ _ _ _ _ (b .before .before .before .loop .inv .held) (b .before .before .loop-test .taken) (b .before .record-refusal .ensures) (b .if1 .left) (c .before .before .record-at .ensures) (c .record-bytes .ensures .0)
+    let b = c .before .before .before .before in
+    bytes-whole _ _ _ _ _ _ _ _ (b .before .before .before .loop .inv .held) (b .before .before .loop-test .taken) (b .before .record-refusal .ensures) (b .if1 .left) (c .before .before .before .record-at .ensures) (c .record-bytes .ensures .0)
 
 sub-rest : tie.Need-sub-rest Inv-loop μ-loop
 sub-rest c = whole c
@@ -53,13 +56,13 @@ part-rest-end : tie.Need-part-rest-end Inv-loop μ-loop
 part-rest-end c = let h = whole c in search needs
 
 add-index : tie.Need-add-index Inv-loop μ-loop
-add-index c = let h = c .before .before .before .before .before .before .before .loop .inv .held .few in omega arith
+add-index c = let h = c .before .before .before .before .before .before .before .before .loop .inv .held .few in omega arith
 
 loop-less : tie.Need-loop-less Inv-loop μ-loop
-loop-less c = let b = c .before in let d = b .before .before .before .before .before in shorter _ _ _ _ _ _ _ _ (d .before .loop .inv .held) (d .loop-test .taken) (b .before .before .before .before .record-refusal .ensures) (b .before .before .before .if1 .left) (b .before .before .record-at .ensures) (b .record-bytes .ensures .0)
+loop-less c = let b = c .before in let d = b .before .before .before .before .before .before in shorter _ _ _ _ _ _ _ _ (d .before .loop .inv .held) (d .loop-test .taken) (b .before .before .before .before .before .record-refusal .ensures) (b .before .before .before .before .if1 .left) (b .before .before .before .record-at .ensures) (b .record-bytes .ensures .0)
 
 loop-again : tie.Need-loop-again Inv-loop μ-loop
-loop-again c = let b = c .before in let d = b .before .before .before .before .before in record { s = _; held = held-again _ _ _ _ _ _ _ _ (d .before .loop .inv .held) (d .loop-test .taken) (b .before .before .before .before .record-refusal .ensures) (b .before .before .before .if1 .left) (b .before .before .record-at .ensures) (b .record-bytes .ensures .0) _ (b .before .turned .ensures) }
+loop-again c = let b = c .before in let d = b .before .before .before .before .before .before in record { s = _; held = held-again _ _ _ _ _ _ _ _ (d .before .loop .inv .held) (d .loop-test .taken) (b .before .before .before .before .before .record-refusal .ensures) (b .before .before .before .before .if1 .left) (b .before .before .before .record-at .ensures) (b .record-bytes .ensures .0) _ (b .before .turned .ensures) }
 
 returns-2 : tie.Need-returns-2 Inv-loop μ-loop
 unfolding compileListed
@@ -76,6 +79,7 @@ plan-spec =
     record-refusal-requires
     returns
     record-at-requires
+    row-of-requires
     turned-requires
     record-bytes-requires
     sub-rest

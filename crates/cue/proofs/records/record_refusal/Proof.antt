@@ -1,52 +1,22 @@
 use borrow.Author.Needs.{needs}
 use Rattle.cue.proofs.records.record_refusal.Statement.{statement}
 use Rattle.cue.proofs.records.record_refusal.Tie as tie
-use Rattle.cue.proofs.ReadingLaws.{chain-is}
-use Rattle.cue.specs.Records.{markAt}
-use denote.Ref.{now}
+use mathlib.Core.Path.{sym}
+use borrow.Author.Tests.{not-true}
+use Rattle.lbp16.proofs.BoolLaws.{and-true}
 
-pair-at-requires : tie.Need-pair-at-requires
-pair-at-requires c κs = search needs
-
-byte-at-requires : tie.Need-byte-at-requires
-byte-at-requires c κs = search needs
-
-too-wide-requires : tie.Need-too-wide-requires
-too-wide-requires c κs = search needs
-
-first-of-requires : tie.Need-first-of-requires
-first-of-requires c κs = search needs
-
-bad-element-requires : tie.Need-bad-element-requires
-bad-element-requires c κs = search needs
-
-first-of-requires-2 : tie.Need-first-of-requires-2
-first-of-requires-2 c κs = search needs
-
-record-bytes-requires : tie.Need-record-bytes-requires
-record-bytes-requires c κs = search needs
-
-first-of-requires-3 : tie.Need-first-of-requires-3
-first-of-requires-3 c κs = search needs
-
-first-of-requires-4 : tie.Need-first-of-requires-4
-first-of-requires-4 c κs = search needs
+plain-register-requires : tie.Need-plain-register-requires
+plain-register-requires c κs = search needs
 
 returns : tie.Need-returns
-unfolding markAt
-returns c = let b = c .before .before .before .before .before .before in let a = b .before .before .before .before .args in simp (chain-is (a .index) (now (a .rest)) (b .too-wide .result) (b .too-wide .ensures), c .first-of4 .ensures, c .before .first-of3 .ensures, c .before .before .record-bytes .ensures .0, c .before .before .before .first-of2 .ensures, c .before .before .before .before .bad-element .ensures, c .before .before .before .before .before .first-of .ensures, b .before .byte-at .ensures, b .before .before .pair-at .ensures)
+returns c = let t = and-true _ _ (c .if1 .taken) in sym (c .before .plain-register .ensures (t .0) _ (not-true _ (t .1)))
+
+lowest-refusal-requires : tie.Need-lowest-refusal-requires
+lowest-refusal-requires c κs = search needs
+
+returns-2 : tie.Need-returns-2
+returns-2 c = search needs
 
 pub record-refusal-spec : {M : Type 1} → statement M
 record-refusal-spec =
-    tie.close
-    (tie.spec
-    pair-at-requires
-    byte-at-requires
-    too-wide-requires
-    first-of-requires
-    bad-element-requires
-    first-of-requires-2
-    record-bytes-requires
-    first-of-requires-3
-    first-of-requires-4
-    returns)
+    tie.close (tie.spec plain-register-requires returns lowest-refusal-requires returns-2)
