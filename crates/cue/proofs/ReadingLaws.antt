@@ -7,7 +7,7 @@ use native.Mathlib.Omega.{arith}
 use lib.Dec.{eqb, ltb}
 use lib.ListN.{length, take, drop, getD, drop-of-length-le, length-take}
 use lib.Seq.{drop-drop}
-use borrow.Author.Tests.{eqb-true, eqb-false, le-ltb}
+use borrow.Author.Tests.{eqb-true, eqb-false, eq-eqb, lt-ltb, le-ltb}
 use Rattle.lbp16.specs.Space.{Space, registers, eeprom, status, information, absent, spaceOf, spaceNumber, isAbsent, row}
 use Rattle.lbp16.proofs.BoolLaws.{or-false}
 use Rattle.packet.specs.Bytes.{number}
@@ -127,6 +127,36 @@ chain-is index rest w h =
         → cond b 23 (test (not (eqb (upperHalf rest) 0))) ≡ cond b 23 (test w)
     go true e = refl
     go false e = ap test (sym (h (present rest e)))
+
+-- The chain, test by test; `cut`: rule 22.
+abbrev cut : List ℕ → Bool
+cut rest =
+    (not (eqb (markAt rest) readMark) && not (eqb (markAt rest) writeMark))
+    || ltb (length rest) (recordBytes (pickKind (eqb (markAt rest) writeMark)))
+
+pub is-cut : (rest : List ℕ) → length rest < 6 → cut rest ≡ true
+unfolding recordBytes isWrite
+is-cut rest h = short (eqb (markAt rest) writeMark) (not (eqb (markAt rest) readMark) && not (eqb (markAt rest) writeMark))
+  where
+    short : (v b : Bool) → (b || ltb (length rest) (recordBytes (pickKind v))) ≡ true
+    short v true = refl
+    short true false = lt-ltb (length rest) 10 (omega arith)
+    short false false = lt-ltb (length rest) 6 h
+
+module _ (index : ℕ) (rest : List ℕ) where
+  pub refused-21 : index ≡ mostRecords → 21 ≡ first (recordRefusals index rest)
+  refused-21 e = rw (chain-is index rest (not (eqb (upperHalf rest) 0)) (λ h. refl), eq-eqb index mostRecords e) refl
+
+  pub refused-22 : (index ≡ mostRecords → ⊥) → cut rest ≡ true → 22 ≡ first (recordRefusals index rest)
+  refused-22 n e =
+      rw (chain-is index rest (not (eqb (upperHalf rest) 0)) (λ h. refl), ne-false index mostRecords n, e) refl
+
+  pub refused-later : (w : Bool) → (isAbsent (recordSpace rest) ≡ false → w ≡ not (eqb (upperHalf rest) 0))
+      → (index ≡ mostRecords → ⊥) → cut rest ≡ false
+      → cond (badElement (recordStep rest)) 23
+      (cond (not (eqb (getD rest 3 0) 0) || (eqb (markAt rest) writeMark && w)) 24 0)
+      ≡ first (recordRefusals index rest)
+  refused-later w h n e = rw (chain-is index rest w h, ne-false index mostRecords n, e) refl
 
 -- A whole record of a register that stands where an element may: only 21 can refuse it.
 pub register-good : (rest : List ℕ) → 10 ≤ length rest → (eqb (markAt rest) readMark || eqb (markAt rest) writeMark) ≡ true

@@ -79,13 +79,19 @@ fn too_wide(rest: &[u8]) -> bool
 fn lowest_refusal(rest: &[u8], index: usize) -> u32
     ensures { λ r. ⌜ r ≡ first (recordRefusals index (now (rest .entry))) ⌝ }
 {
+    if index == MOST {
+        return 21;
+    }
+    if rest.len() < 6 {
+        return 22;
+    }
     let mark = bytes::pair_at(rest, 0);
     let write = mark == WRITE_MARK;
-    let unknown = (mark != READ_MARK) & !write;
+    if ((mark != READ_MARK) & !write) | (rest.len() < record_bytes(write)) {
+        return 22;
+    }
     let r = rule::first_of((byte_at(rest, 3) != 0) | (write & too_wide(rest)), 24, 0);
-    let r = rule::first_of(bad_element(rest), 23, r);
-    let r = rule::first_of(unknown | (rest.len() < record_bytes(write)), 22, r);
-    rule::first_of(index == MOST, 21, r)
+    rule::first_of(bad_element(rest), 23, r)
 }
 
 // Whether this is surely a good record: of a register, with as many bytes as a write has. Most records are, and need no

@@ -1,12 +1,24 @@
 use borrow.Author.Needs.{needs}
 use Rattle.cue.proofs.records.lowest_refusal.Statement.{statement}
 use Rattle.cue.proofs.records.lowest_refusal.Tie as tie
-use Rattle.cue.proofs.ReadingLaws.{chain-is}
 use Rattle.cue.specs.Records.{markAt}
-use denote.Ref.{now}
+use Rattle.cue.proofs.ReadingLaws.{is-cut, refused-21, refused-22, refused-later}
+
+returns : tie.Need-returns
+returns c = refused-21 _ _ (c .if1 .taken)
+
+returns-2 : tie.Need-returns-2
+returns-2 c = refused-22 _ _ (c .before .if1 .left) (is-cut _ (c .if2 .taken))
 
 pair-at-requires : tie.Need-pair-at-requires
 pair-at-requires c κs = search needs
+
+record-bytes-requires : tie.Need-record-bytes-requires
+record-bytes-requires c κs = search needs
+
+returns-3 : tie.Need-returns-3
+unfolding markAt
+returns-3 c = refused-22 _ _ (c .before .before .before .before .if1 .left) (rw (← c .before .before .pair-at .ensures, ← c .before .record-bytes .ensures .0) (c .if3 .taken))
 
 byte-at-requires : tie.Need-byte-at-requires
 byte-at-requires c κs = search needs
@@ -23,30 +35,27 @@ bad-element-requires c κs = search needs
 first-of-requires-2 : tie.Need-first-of-requires-2
 first-of-requires-2 c κs = search needs
 
-record-bytes-requires : tie.Need-record-bytes-requires
-record-bytes-requires c κs = search needs
-
-first-of-requires-3 : tie.Need-first-of-requires-3
-first-of-requires-3 c κs = search needs
-
-first-of-requires-4 : tie.Need-first-of-requires-4
-first-of-requires-4 c κs = search needs
-
-returns : tie.Need-returns
+returns-4 : tie.Need-returns-4
 unfolding markAt
-returns c = let b = c .before .before .before .before .before .before in let a = b .before .before .before .before .args in simp (chain-is (a .index) (now (a .rest)) (b .too-wide .result) (b .too-wide .ensures), c .first-of4 .ensures, c .before .first-of3 .ensures, c .before .before .record-bytes .ensures .0, c .before .before .before .first-of2 .ensures, c .before .before .before .before .bad-element .ensures, c .before .before .before .before .before .first-of .ensures, b .before .byte-at .ensures, b .before .before .pair-at .ensures)
+returns-4 c =
+    let w = c .before .before .before .too-wide in
+    let b = c .before .before .before .before .before in
+    let mark = b .before .before .pair-at .ensures in
+    rw (c .first-of2 .ensures, c .before .bad-element .ensures, c .before .before .first-of .ensures, c .before .before .before .before .byte-at .ensures, mark)
+    (refused-later _ _ (w .result) (w .ensures) (b .before .before .before .before .if1 .left) (rw (← mark, ← b .before .record-bytes .ensures .0) (b .if3 .left)))
 
 pub lowest-refusal-spec : {M : Type 1} → statement M
 lowest-refusal-spec =
     tie.close
     (tie.spec
+    returns
+    returns-2
     pair-at-requires
+    record-bytes-requires
+    returns-3
     byte-at-requires
     too-wide-requires
     first-of-requires
     bad-element-requires
     first-of-requires-2
-    record-bytes-requires
-    first-of-requires-3
-    first-of-requires-4
-    returns)
+    returns-4)
