@@ -23,7 +23,7 @@ use Rattle.cue.specs.declared.records.Record.{Record}
 use Rattle.cue.proofs.PacketLaws.{packet-bytes-append}
 use Rattle.cue.proofs.PackingLaws.{turn-cases}
 use Rattle.cue.proofs.OutputLaws.{joined-bytes}
-use Rattle.cue.proofs.ReadingLaws.{passing}
+use Rattle.cue.proofs.ReadingLaws.{passing, front-there}
 use Rattle.cue.proofs.PackerLaws.{grown, carried-brief, output-append, output-one}
 use Rattle.cue.proofs.LoopLaws.{Held, held-first, held-next, held-again, bytes-whole, shorter, onward-next, onward-end, planned-refused, end-is, at-end}
 use Rattle.cue.proofs.RoomLaws.{roomOf, finished-length, open-apart, head-length, wrote-next}
@@ -185,6 +185,11 @@ filled-length list rest old room p ready f l =
     sym (ready .plan) ∙ at-end _ _ _ _ _ (f .held) l in
     let q : ready .packets ≡ finished (f .s) = cc in
     rw (f .now) (room-length (finished (f .s)) old (rw q at (ready .fits)))
+
+pub put-front : (list rest old room : List ℕ) (p : Packer) → Ready list old → Filled list rest old room p
+    → (length rest ≡ 0 → ⊥) → 6 ≤ length rest
+put-front list rest old room p ready f l =
+    front-there (f .index) rest (good-next list rest old (f .index) (f .s) p ready (f .held) l)
 
 -- a turn of the loop, as the code makes it
 module _ (list rest old room : List ℕ) (p q : Packer) (r : Record) (ready : Ready list old)

@@ -214,3 +214,22 @@ passing index rest e =
       wide = step-bytes rest _ _ (w .bytes);
       read = rw (write-of, number-of (getD rest 2 0) (present rest (w .good))) refl;
     }
+
+-- a record shows in its first 6 bytes, and a good one has them
+pub record-front : (rest : List ℕ) → recordAt (take 6 rest) ≡ recordAt rest
+unfolding recordAt markAt
+record-front [] = refl
+record-front (a ∷ []) = refl
+record-front (a ∷ b ∷ []) = refl
+record-front (a ∷ b ∷ c ∷ []) = refl
+record-front (a ∷ b ∷ c ∷ d ∷ []) = refl
+record-front (a ∷ b ∷ c ∷ d ∷ e ∷ []) = refl
+record-front (a ∷ b ∷ c ∷ d ∷ e ∷ f ∷ l) = refl
+
+pub front-there : (index : ℕ) (rest : List ℕ) → first (recordRefusals index rest) ≡ 0 → 6 ≤ length rest
+unfolding recordBytes
+front-there index rest e = go (isWrite (recordStep rest .kind)) (passing index rest e .bytes)
+  where
+    go : (b : Bool) → cond b 10 6 ≤ length rest → 6 ≤ length rest
+    go true h = omega arith
+    go false h = h

@@ -114,7 +114,7 @@ pub(crate) fn emit(list: &[u8], out: &mut [u8])
     let mut rest = list;
     let mut packer = Packer::empty();
     while rest.len() != 0 {
-        let r = records::record_at(rest);
+        let r = records::whole_record(rest);
         packer = packer::turned(packer, r, space::row_of(r.space));
         put_record(out, packer, rest, packer::carried(r));
         let n = records::record_bytes(r.write);

@@ -25,7 +25,7 @@ pub fn plan(list: &[u8]) -> CompileAnswer
                 place: index as u64,
             });
         }
-        let r = records::record_at(rest);
+        let r = records::whole_record(rest);
         packer = packer::turned(packer, r, space::row_of(r.space));
         let n = records::record_bytes(r.write);
         rest = &rest[n..];

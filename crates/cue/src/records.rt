@@ -5,7 +5,7 @@ use packet::rule;
 ghost use mathlib.Core.Path.{_≡_};
 ghost use mathlib.Core.Bool.{not, true, false};
 ghost use Prim.Native.Nat.{ℕ, _<_, _≤_};
-ghost use lib.ListN.{getD};
+ghost use lib.ListN.{length, getD};
 ghost use lib.Dec.{eqb};
 ghost use Rattle.lbp16.specs.Space.{isAbsent};
 ghost use Rattle.packet.specs.Command.{pickKind};
@@ -45,6 +45,14 @@ pub fn record_at(rest: &[u8]) -> Record
         space: byte_at(rest, 2),
         address: bytes::pair_at(rest, 4),
     }
+}
+
+// The same of a record that is whole, so that no byte is asked for whether it is there.
+pub(crate) fn whole_record(rest: &[u8]) -> Record
+    requires { ⌜ 6 ≤ length (now rest) ⌝ }
+    ensures { λ r. ⌜ r ≡ recordAt (now (rest .entry)) ⌝ }
+{
+    record_at(&rest[..6])
 }
 
 // The bytes of a record in the list.

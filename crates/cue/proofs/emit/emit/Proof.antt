@@ -5,7 +5,7 @@ use lib.ListN.{length}
 use Rattle.cue.proofs.LoopLaws.{roomy}
 use Rattle.cue.proofs.EmitLaws.{Filled, filled-first, filled-last, put-placed, put-element, put-whole, put-shorter, filled-again}
 use Prim.Native.Nat.{_≤_}
-use Rattle.cue.proofs.EmitLaws.{filled-length}
+use Rattle.cue.proofs.EmitLaws.{filled-length, put-front}
 
 abbrev Inv-loop : tie.InvT-loop
 Inv-loop list out₀ rest₀ packer₀ out rest packer = Filled list rest out₀ out packer
@@ -19,8 +19,8 @@ empty-requires c κs = search needs
 loop-holds : tie.Need-loop-holds Inv-loop μ-loop
 loop-holds c = filled-first _ _ _ (c .empty .ensures)
 
-record-at-requires : tie.Need-record-at-requires Inv-loop μ-loop
-record-at-requires c κs = search needs
+whole-record-requires : tie.Need-whole-record-requires Inv-loop μ-loop
+whole-record-requires c κs = put-front _ _ _ _ _ (c .before .before .before .before .before .pre) (c .before .loop .inv) (c .loop-test .taken)
 
 row-of-requires : tie.Need-row-of-requires Inv-loop μ-loop
 row-of-requires c κs = search needs
@@ -32,7 +32,7 @@ carried-requires : tie.Need-carried-requires Inv-loop μ-loop
 carried-requires c κs = search needs
 
 put-record-requires : tie.Need-put-record-requires Inv-loop μ-loop
-put-record-requires c κs = let t = c .before .before in let b = t .before .before .before .before in (put-placed _ _ _ _ _ _ _ (b .before .before .before .before .pre) (b .loop .inv) (t .before .before .before .loop-test .taken) (t .before .before .record-at .ensures) (t .turned .ensures), c .carried .ensures .1, put-element _ _ _ _ _ _ _ (b .before .before .before .before .pre) (b .loop .inv) (t .before .before .before .loop-test .taken) (t .before .before .record-at .ensures) (t .turned .ensures) _ (c .carried .ensures .0))
+put-record-requires c κs = let t = c .before .before in let b = t .before .before .before .before in (put-placed _ _ _ _ _ _ _ (b .before .before .before .before .pre) (b .loop .inv) (t .before .before .before .loop-test .taken) (t .before .before .whole-record .ensures) (t .turned .ensures), c .carried .ensures .1, put-element _ _ _ _ _ _ _ (b .before .before .before .before .pre) (b .loop .inv) (t .before .before .before .loop-test .taken) (t .before .before .whole-record .ensures) (t .turned .ensures) _ (c .carried .ensures .0))
 
 record-bytes-requires : tie.Need-record-bytes-requires Inv-loop μ-loop
 record-bytes-requires c κs = search needs
@@ -41,7 +41,7 @@ whole : (c : tie.After-record-bytes Inv-loop μ-loop) → c .record-bytes .resul
 whole c =
     let t = c .before .before .before .before .before .before in
     let b = t .before .before .before .before in
-    put-whole _ _ _ _ _ _ _ (b .before .before .before .before .pre) (b .loop .inv) (t .before .before .before .loop-test .taken) (t .before .before .record-at .ensures) (t .turned .ensures) _ (c .record-bytes .ensures .0)
+    put-whole _ _ _ _ _ _ _ (b .before .before .before .before .pre) (b .loop .inv) (t .before .before .before .loop-test .taken) (t .before .before .whole-record .ensures) (t .turned .ensures) _ (c .record-bytes .ensures .0)
 
 sub-rest : tie.Need-sub-rest Inv-loop μ-loop
 sub-rest c = whole c
@@ -53,10 +53,10 @@ part-rest-end : tie.Need-part-rest-end Inv-loop μ-loop
 part-rest-end c = let h = whole c in search needs
 
 loop-less : tie.Need-loop-less Inv-loop μ-loop
-loop-less c = let t = c .before .before .before .before .before .before .before in let b = t .before .before .before .before in put-shorter _ _ _ _ _ _ _ (b .before .before .before .before .pre) (b .loop .inv) (t .before .before .before .loop-test .taken) (t .before .before .record-at .ensures) (t .turned .ensures) _ (c .before .record-bytes .ensures .0)
+loop-less c = let t = c .before .before .before .before .before .before .before in let b = t .before .before .before .before in put-shorter _ _ _ _ _ _ _ (b .before .before .before .before .pre) (b .loop .inv) (t .before .before .before .loop-test .taken) (t .before .before .whole-record .ensures) (t .turned .ensures) _ (c .before .record-bytes .ensures .0)
 
 loop-again : tie.Need-loop-again Inv-loop μ-loop
-loop-again c = let t = c .before .before .before .before .before .before .before in let b = t .before .before .before .before in filled-again _ _ _ _ _ _ _ (b .before .before .before .before .pre) (b .loop .inv) (t .before .before .before .loop-test .taken) (t .before .before .record-at .ensures) (t .turned .ensures) _ (c .before .record-bytes .ensures .0) _ _ (c .before .before .before .before .before .carried .ensures .0) (c .before .before .before .before .put-record .ensures)
+loop-again c = let t = c .before .before .before .before .before .before .before in let b = t .before .before .before .before in filled-again _ _ _ _ _ _ _ (b .before .before .before .before .pre) (b .loop .inv) (t .before .before .before .loop-test .taken) (t .before .before .whole-record .ensures) (t .turned .ensures) _ (c .before .record-bytes .ensures .0) _ _ (c .before .before .before .before .before .carried .ensures .0) (c .before .before .before .before .put-record .ensures)
 
 same-length : tie.Need-same-length Inv-loop μ-loop
 same-length c = filled-length _ _ _ _ _ (c .before .before .before .before .before .pre) (c .before .loop .inv) (c .loop-test .left)
@@ -72,7 +72,7 @@ emit-spec =
     μ-loop
     empty-requires
     loop-holds
-    record-at-requires
+    whole-record-requires
     row-of-requires
     turned-requires
     carried-requires

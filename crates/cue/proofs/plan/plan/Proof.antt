@@ -3,6 +3,8 @@ use Rattle.cue.proofs.plan.plan.Tie as tie
 use borrow.Author.Needs.{needs}
 use native.Mathlib.Omega.{arith}
 use lib.ListN.{length}
+use mathlib.Core.Path.{sym, _∙_}
+use Rattle.cue.proofs.ReadingLaws.{front-there}
 use Rattle.cue.proofs.LoopLaws.{Holding, held-first, roomy, plan-refused, plan-ended}
 use Rattle.cue.proofs.LoopLaws.{bytes-whole, held-again}
 use Rattle.cue.specs.Compile.{compileListed}
@@ -29,8 +31,8 @@ returns : tie.Need-returns Inv-loop μ-loop
 unfolding compileListed
 returns c = plan-refused _ _ _ _ _ (c .before .before .before .loop .inv .held) _ (omega arith) (c .before .record-refusal .ensures) (c .if1 .taken)
 
-record-at-requires : tie.Need-record-at-requires Inv-loop μ-loop
-record-at-requires c κs = search needs
+whole-record-requires : tie.Need-whole-record-requires Inv-loop μ-loop
+whole-record-requires c κs = front-there _ _ (sym (c .before .record-refusal .ensures) ∙ c .if1 .left)
 
 row-of-requires : tie.Need-row-of-requires Inv-loop μ-loop
 row-of-requires c κs = search needs
@@ -44,7 +46,7 @@ record-bytes-requires c κs = search needs
 whole : (c : tie.After-record-bytes Inv-loop μ-loop) → c .record-bytes .result ≤ length (c .before .before .before .before .before .before .before .loop .rest .now)
 whole c =
     let b = c .before .before .before .before in
-    bytes-whole _ _ _ _ _ _ _ _ (b .before .before .before .loop .inv .held) (b .before .before .loop-test .taken) (b .before .record-refusal .ensures) (b .if1 .left) (c .before .before .before .record-at .ensures) (c .record-bytes .ensures .0)
+    bytes-whole _ _ _ _ _ _ _ _ (b .before .before .before .loop .inv .held) (b .before .before .loop-test .taken) (b .before .record-refusal .ensures) (b .if1 .left) (c .before .before .before .whole-record .ensures) (c .record-bytes .ensures .0)
 
 sub-rest : tie.Need-sub-rest Inv-loop μ-loop
 sub-rest c = whole c
@@ -59,10 +61,10 @@ add-index : tie.Need-add-index Inv-loop μ-loop
 add-index c = let h = c .before .before .before .before .before .before .before .before .loop .inv .held .few in omega arith
 
 loop-less : tie.Need-loop-less Inv-loop μ-loop
-loop-less c = let b = c .before in let d = b .before .before .before .before .before .before in shorter _ _ _ _ _ _ _ _ (d .before .loop .inv .held) (d .loop-test .taken) (b .before .before .before .before .before .record-refusal .ensures) (b .before .before .before .before .if1 .left) (b .before .before .before .record-at .ensures) (b .record-bytes .ensures .0)
+loop-less c = let b = c .before in let d = b .before .before .before .before .before .before in shorter _ _ _ _ _ _ _ _ (d .before .loop .inv .held) (d .loop-test .taken) (b .before .before .before .before .before .record-refusal .ensures) (b .before .before .before .before .if1 .left) (b .before .before .before .whole-record .ensures) (b .record-bytes .ensures .0)
 
 loop-again : tie.Need-loop-again Inv-loop μ-loop
-loop-again c = let b = c .before in let d = b .before .before .before .before .before .before in record { s = _; held = held-again _ _ _ _ _ _ _ _ (d .before .loop .inv .held) (d .loop-test .taken) (b .before .before .before .before .before .record-refusal .ensures) (b .before .before .before .before .if1 .left) (b .before .before .before .record-at .ensures) (b .record-bytes .ensures .0) _ (b .before .turned .ensures) }
+loop-again c = let b = c .before in let d = b .before .before .before .before .before .before in record { s = _; held = held-again _ _ _ _ _ _ _ _ (d .before .loop .inv .held) (d .loop-test .taken) (b .before .before .before .before .before .record-refusal .ensures) (b .before .before .before .before .if1 .left) (b .before .before .before .whole-record .ensures) (b .record-bytes .ensures .0) _ (b .before .turned .ensures) }
 
 returns-2 : tie.Need-returns-2 Inv-loop μ-loop
 unfolding compileListed
@@ -78,7 +80,7 @@ plan-spec =
     loop-holds
     record-refusal-requires
     returns
-    record-at-requires
+    whole-record-requires
     row-of-requires
     turned-requires
     record-bytes-requires
