@@ -1,5 +1,5 @@
--- The inside of private functions' contracts: the packing rule on a summary of the open packet. Laws in proofs/ tie it to
--- the definitions of Packing.antt and Output.antt, which a reader believes.
+-- For contracts of functions that only other code calls: the packing rule on a summary of the open packet. Laws in proofs/
+-- tie it to the definitions of Packing.antt and Output.antt, which a reader believes.
 use Prim.Native.Nat.{ℕ, _+_, _-_, _*_, _≤_}
 use mathlib.Core.Path.{_≡_}
 use mathlib.Core.List.{List, [], _∷_, _++_, map}
