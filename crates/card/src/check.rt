@@ -1,11 +1,9 @@
 // The check of one packet on a card's state. Nothing is changed.
-use lbp16::Refusal;
 use lbp16::pointer::Pointers;
 use packet::command;
 use packet::judge;
 use packet::judge::Verdict;
 ghost use mathlib.Core.Path.{_≡_};
-ghost use Rattle.lbp16.specs.Answer.{Answer};
 ghost use Rattle.packet.specs.Verdict.{answerTo, verdictListed};
 ghost use Rattle.card.specs.Run.{badState, checked, checkedList};
 
@@ -18,26 +16,19 @@ pub fn bad_state(store: &[u8], p: Pointers) -> bool
     (store.len() != STORE_BYTES) | p.above_size()
 }
 
-// Refusals 1 and 2.
-pub(crate) fn refused(number: u32) -> Verdict
-    ensures { λ r. ⌜ verdictListed r ≡ Answer.refused number 0 ⌝ }
-{
-    Verdict::Refused(Refusal { number, place: 0 })
-}
-
 // The reply length that a run of the packet would answer, or its refusal, on pointers that are lent as a list: those of spaces 0, 2,
 // 6 and 7, then those of their info areas. Another count of them than eight is refused with 1.
 pub fn check_list(packet: &[u8], store: &[u8], list: &[u32]) -> Verdict
     ensures { λ r. ⌜ verdictListed r ≡ answerTo (checkedList (now (packet .entry)) (now (store .entry)) (now (list .entry))) ⌝ }
 {
     if list.len() != 8 {
-        return refused(1);
+        return judge::refused(1, 0);
     }
     if bad_state(store, Pointers::from_list(list)) {
-        return refused(1);
+        return judge::refused(1, 0);
     }
     if command::LIMIT < packet.len() {
-        return refused(2);
+        return judge::refused(2, 0);
     }
     judge::judge_list(packet, list)
 }

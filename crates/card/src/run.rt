@@ -8,6 +8,7 @@ use lbp16::word::Fields;
 use packet::command;
 use packet::command::Reach;
 use packet::info;
+use packet::judge;
 use packet::judge::Verdict;
 ghost use mathlib.Core.Path.{_≡_};
 ghost use mathlib.Core.Bool.{true, false, cond};
@@ -163,23 +164,33 @@ pub struct RanList {
     pub elements: u64,
 }
 
+// The answer where nothing is done. The enum is made anew, so that only its fields are copied.
+fn not_run(answer: Verdict) -> RanList
+    ensures { λ r. ⌜ (r .answer ≡ answer) × (r .elements ≡ 0) ⌝ }
+{
+    match answer {
+        Verdict::Accepted(length) => RanList {
+            answer: Verdict::Accepted(length),
+            elements: 0,
+        },
+        Verdict::Refused(refusal) => RanList {
+            answer: Verdict::Refused(refusal),
+            elements: 0,
+        },
+    }
+}
+
 // Runs one packet: the whole of it is checked, on the state that the run finds, before anything is done. The pointers are lent as a
 // list, as for a check.
 pub fn run_list(packet: &[u8], store: &mut [u8], list: &mut [u32], reply: &mut [u8]) -> RanList
     ensures { λ r. ⌜ ranList r (now (store .exit)) (now (list .exit)) (now (reply .exit)) ≡ runList (now (packet .entry)) (now (store .entry)) (now (list .entry)) (now (reply .entry)) ⌝ }
 {
     if reply.len() != command::LIMIT {
-        return RanList {
-            answer: check::refused(1),
-            elements: 0,
-        };
+        return not_run(judge::refused(1, 0));
     }
     let answer = check::check_list(packet, store, list);
     let Verdict::Accepted(length) = answer else {
-        return RanList {
-            answer,
-            elements: 0,
-        };
+        return not_run(answer);
     };
     let elements = perform(packet, store, list, reply);
     clear_unlock(store);

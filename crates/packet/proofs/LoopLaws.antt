@@ -2,7 +2,7 @@
 use Prim.Native.Nat.{ℕ, zero, suc, _+_, _-_, _*_, _≤_, _<_}
 use mathlib.Core.Path.{_≡_, refl, sym, ap, _∙_}
 use mathlib.Core.List.{List, [], _∷_}
-use mathlib.Core.Bool.{Bool, true, false, cond}
+use mathlib.Core.Bool.{Bool, true, false, cond, and-false}
 use native.Mathlib.Omega.{arith}
 use native.Mathlib.Nat.{le-refl}
 use lib.ListN.{length, take, drop, set, length-take, length-drop, length-set}
@@ -17,10 +17,11 @@ use Rattle.lbp16.specs.declared.pointer.Pointers.{Pointers}
 use Rattle.packet.specs.Step.{unlocked, replyBytes, answered}
 use Rattle.packet.specs.Rules.{first}
 use Rattle.packet.specs.Command.{limit, fieldsAt, kindOf, headerBytes, commandBytes, stride, elements, refusals, whichOf, numberOf, found}
-use Rattle.packet.specs.Reach.{reachFrom, reachAt}
+use Rattle.packet.specs.Reach.{reachFrom, reachAt, ForRegisters, JudgedAt}
 use Rattle.packet.specs.declared.command.Reach.{Reach}
 use Rattle.packet.specs.declared.command.Found.{Found}
 use Rattle.packet.specs.declared.command.Which.the-variants.{Refused}
+use Rattle.packet.specs.declared.refusal.Judged.{Judged}
 use Rattle.packet.proofs.ProgressLaws.{progress-is}
 use Rattle.packet.specs.Command.{progressAfter, commandAt}
 use Rattle.packet.specs.Judge.{Carried, begin, carry, judgeFrom, judge, foundNext, verdictAt, accepted, refused}
@@ -32,6 +33,7 @@ use Rattle.packet.specs.Command.{Command}
 use Rattle.packet.proofs.SliceLaws.{tail-whole}
 use Rattle.packet.proofs.ElementLaws.{which-none}
 use Rattle.packet.proofs.StepLaws.{unlocked-append, reply-append}
+use Rattle.packet.proofs.UnlockLaws.{unlock-kept, not-status}
 use Rattle.packet.proofs.CommandLaws.{Passed, passed, passes}
 use Rattle.packet.proofs.JudgeLaws.{judged-end, judged-past, accepted-past}
 
@@ -216,21 +218,6 @@ module _ {list packet pointers : List ℕ} {open? : Bool} {reply : ℕ} {rest : 
   pub checking-end : length rest ≡ 0 → Answer.accepted (reply ∷ []) ≡ answerTo (judge (pointersOf list) packet)
   checking-end e = verdict-end rest (s .here) e
 
-  module _ (some : 0 < length rest) (x : Found)
-      (e : x ≡ found (pointersOf pointers) open? reply (length packet - length rest) rest) where
-    pub checking-refused : (n : ℕ) → x .which ≡ Refused n
-        → Answer.refused n (length packet - length rest) ≡ answerTo (judge (pointersOf list) packet)
-    unfolding commandAt found
-    checking-refused n w =
-        let q = which-number n _ _ (sym (ap (λ (y : Found). y .which) e) ∙ w) in
-        at-refused rest (s .here) some n (q .0 ∙ sym (number-found _ _)) (λ z. q .1 (sym (q .0) ∙ z))
-
-    pub checking-passed : numberOf (x .which) ≡ 0
-        → Passed (pointersOf pointers) open? reply (fieldsAt rest) rest
-    unfolding found
-    checking-passed z =
-        passed _ _ _ _ _ (sym (number-found _ _) ∙ sym (ap (λ (y : Found). numberOf (y .which)) e) ∙ z)
-
   module _ (some : 0 < length rest) (pass : Passed (pointersOf pointers) open? reply (fieldsAt rest) rest) (r : Reach)
       (e : r ≡ reachAt (pointersOf pointers) (fieldsAt rest) rest) where
     abbrev g : Progress
@@ -251,11 +238,11 @@ module _ {list packet pointers : List ℕ} {open? : Bool} {reply : ℕ} {rest : 
         h
         (ap (λ (t : Reach). t .answered) e))
 
-    pub checking-next : (o : Bool)
+    next-checked : (o : Bool)
         → o ≡ unlocked open? (elements (kindOf (fieldsAt rest)) (spaceOf (fieldsAt rest .space)) (fieldsAt rest .count) (r .used) (stride (fieldsAt rest)) (drop (headerBytes (fieldsAt rest)) rest))
         → Checked list packet pointers o reply rest r
     unfolding reachFrom commandAt found
-    checking-next o h =
+    next-checked o h =
         let k : r .bytes ≡ commandBytes (fieldsAt rest) = ap (λ (t : Reach). t .bytes) e in
         let a : r .answered ≡ fieldsAt rest .count * answered (kindOf (fieldsAt rest)) (spaceOf (fieldsAt rest .space)) = ap (λ (t : Reach). t .answered) e in
         let two = two-bytes (fieldsAt rest) in
@@ -278,6 +265,38 @@ module _ {list packet pointers : List ℕ} {open? : Bool} {reply : ℕ} {rest : 
             here = rw (place, ← next o h) (turn .again);
           };
         }
+
+  -- what is found at the command, and its reach
+  module _ (some : 0 < length rest) (j : Judged)
+      (q : JudgedAt (pointersOf pointers) open? reply (length packet - length rest) rest j) where
+    pub checking-refused : (n : ℕ) → j .found .which ≡ Refused n
+        → Answer.refused n (length packet - length rest) ≡ answerTo (judge (pointersOf list) packet)
+    unfolding commandAt found
+    checking-refused n w =
+        let e = which-number n _ _ (sym (ap (λ (y : Found). y .which) (q .found)) ∙ w) in
+        at-refused rest (s .here) some n (e .0 ∙ sym (number-found _ _)) (λ z. e .1 (sym (e .0) ∙ z))
+
+    fields-found : j .found .fields ≡ fieldsAt rest
+    unfolding found
+    fields-found = ap (λ (y : Found). y .fields) (q .found)
+
+    module _ (none : numberOf (j .found .which) ≡ 0) where
+      pub checking-passed : Passed (pointersOf pointers) open? reply (j .found .fields) rest
+      unfolding found
+      checking-passed =
+          rw fields-found (passed _ _ _ _ _ (sym (number-found _ _) ∙ sym (ap (λ (y : Found). numberOf (y .which)) (q .found)) ∙ none))
+
+      pub checking-next : (o : Bool)
+          → o ≡ unlocked open? (elements (kindOf (j .found .fields)) (spaceOf (j .found .fields .space)) (j .found .fields .count) (j .reach .used) (stride (j .found .fields)) (drop (headerBytes (j .found .fields)) rest))
+          → Checked list packet pointers o reply rest (j .reach)
+      checking-next o h =
+          let pass = rw fields-found at checking-passed in
+          next-checked some pass (j .reach) (q .reach (passes _ _ _ _ _ pass)) o (rw fields-found at h)
+
+      -- A plain command to space 0 does not turn the unlock.
+      pub checking-registers : ForRegisters (fieldsAt rest) → Checked list packet pointers open? reply rest (j .reach)
+      checking-registers r =
+          checking-next open? (sym (unlock-kept _ _ _ _ _ _ _ (not-status _ (rw (fields-found, r .space) (and-false (fieldsAt rest .write))))))
 
 -- pointers by value, judged as their list
 pub judge-listed : (p : Pointers) (packet list : List ℕ) (a : Answer) → list ≡ pointerList p

@@ -1,7 +1,7 @@
 -- How far a command reaches, as the code puts it together; and the plain commands to space 0, which have a way of their own.
 use Prim.Native.Nat.{ℕ, _+_, _*_, _/_, _%_, _≤_, _<_}
 use mathlib.Core.Path.{_≡_, refl, sym, ap, _∙_}
-use mathlib.Core.List.{List}
+use mathlib.Core.List.{List, _++_}
 use mathlib.Core.Bool.{Bool, true, false, not, _&&_, cond}
 use native.Mathlib.Omega.{arith}
 use native.Mathlib.Nat.{mul-zero}
@@ -17,11 +17,10 @@ use Rattle.lbp16.specs.declared.pointer.Pointers.{Pointers}
 use Rattle.lbp16.proofs.PointerLaws.{slot-read}
 use Rattle.packet.specs.Bytes.{number}
 use Rattle.packet.specs.Step.{read, write, isInfo, rowBy, carried, answered}
-use Rattle.packet.specs.Rules.{first, misaligned, any, barred}
-use Rattle.packet.specs.Command.{limit, fieldsAt, kindOf, rowOf, headerBytes, commandBytes, addressUsed, stride, stepsAt, outOfPlace, refusals, whichOf, found}
-use Rattle.packet.specs.Reach.{reachFrom, reachAt, Ruled, ForRegisters}
+use Rattle.packet.specs.Rules.{Rule, first, misaligned, any, barred}
+use Rattle.packet.specs.Command.{fieldsAt, kindOf, rowOf, headerBytes, commandBytes, addressUsed, stride, stepsAt, refusals, whichOf, found}
+use Rattle.packet.specs.Reach.{reachFrom, reachAt, Ruled, JudgedAt, ForRegisters}
 use Rattle.packet.specs.declared.command.Reach.{Reach}
-use Rattle.packet.specs.declared.command.Found.{Found}
 use Rattle.packet.specs.declared.command.Which.{Which}
 use Rattle.packet.specs.declared.refusal.Ruling.{Ruling}
 use Rattle.packet.proofs.ElementLaws.{carried-write, carried-read, answered-read, answered-write, barred-quick}
@@ -34,6 +33,10 @@ registers-word w f e h =
     let space : w / 1024 % 8 ≡ 0 = omega arith in
     let size : w / 256 % 4 ≡ 2 = omega arith in
     rw e (record { plain = rw info refl; space = space; size = size })
+
+-- rules 7, 8, 11 and 12 of the table
+abbrev pub registerRules : List Rule → List Rule
+registerRules table = take 2 (drop 4 table) ++ drop 8 table
 
 module _ (f : Fields) (h : ForRegisters f) where
   no-info : isInfo (kindOf f) ≡ false
@@ -85,11 +88,7 @@ module _ (f : Fields) (h : ForRegisters f) where
 
   -- rules 3, 4, 5, 6, 9 and 10 never hold of such a command whose header is whole
   pub registers-first : (p : Pointers) (open? : Bool) (reply : ℕ) (rest : List ℕ) → headerBytes f ≤ length rest
-      → first (refusals p open? reply f rest)
-      ≡ cond (eqb (f .count) 0) 7
-      (cond (outOfPlace p f rest) 8
-      (cond (ltb (length rest) (commandBytes f)) 11
-      (cond (ltb limit (reply + f .count * answered (kindOf f) (spaceOf (f .space)))) 12 0)))
+      → first (refusals p open? reply f rest) ≡ first (registerRules (refusals p open? reply f rest))
   unfolding refusals first
   registers-first p open? reply rest l = rw (le-ltb _ _ l, served, there, sized, free p rest, unlocked open?) refl
 
@@ -169,21 +168,6 @@ cut-off p open? reply f rest r h e =
     three : first (refusals p open? reply f rest) ≡ 3
     three = rw (lt-ltb _ _ h) refl
 
--- any other command: its header is whole, so rule 3 does not hold
-pub area-first : (p : Pointers) (open? : Bool) (reply : ℕ) (f : Fields) (rest : List ℕ) → headerBytes f ≤ length rest
-    → first (refusals p open? reply f rest)
-    ≡ cond (f .info && f .write) 4
-    (cond (isAbsent (spaceOf (f .space))) 5
-    (cond (not (eqb (f .size) (rowOf f .size))) 6
-    (cond (eqb (f .count) 0) 7
-    (cond (outOfPlace p f rest) 8
-    (cond (any barred (stepsAt p f rest)) 9
-    (cond (f .write && rowOf f .locked && not open?) 10
-    (cond (ltb (length rest) (commandBytes f)) 11
-    (cond (ltb limit (reply + f .count * answered (kindOf f) (spaceOf (f .space)))) 12 0))))))))
-unfolding refusals first
-area-first p open? reply f rest l = rw (le-ltb _ _ l) refl
-
 -- the slot of a command's pointer, from its info bit and its space
 pub slot-is : (f : Fields) (i : Bool) (slot : ℕ) → i ≡ isInfo (kindOf f) → slot ≡ slotOf i (spaceOf (f .space))
     → slot ≡ slotOf (isInfo (kindOf f)) (spaceOf (f .space))
@@ -201,12 +185,10 @@ pub next-is : (ps rest : List ℕ) (f : Fields) (r : Reach) (w : ℕ) → fields
 next-is ps rest f r w e₁ e₂ e₃ = (e₂ ∙ e₁, e₃ ∙ ap (λ (g : Fields). reachAt (pointersOf ps) g rest) (e₂ ∙ e₁))
 
 -- what is found at the command, from its ruling
-pub found-is : (p : Pointers) (o : Bool) (reply place : ℕ) (rest : List ℕ) (f : Fields) (w : ℕ) (r : Ruling) (x : Which)
-    → fieldsOf w ≡ fieldsAt rest → f ≡ fieldsOf w → Ruled p o reply f rest r → x ≡ whichOf (r .number) (kindOf f)
-    → (_≡_ {A = Found} (record { fields = f; place = place; which = x }) (found p o reply place rest))
-    × (first (refusals p o reply (fieldsAt rest) rest) ≡ 0 → r .reach ≡ reachAt p (fieldsAt rest) rest)
+pub judged-is : (p : Pointers) (o : Bool) (reply place : ℕ) (rest : List ℕ) (f : Fields) (r : Ruling) (x : Which)
+    → f ≡ fieldsAt rest → Ruled p o reply f rest r → x ≡ whichOf (r .number) (kindOf f)
+    → JudgedAt p o reply place rest (record { found = record { fields = f; place = place; which = x }; reach = r .reach })
 unfolding found
-found-is p o reply place rest f w r x e₁ e₂ e₃ e₄ =
-    let e : f ≡ fieldsAt rest = e₂ ∙ e₁ in
-    let q : Ruled p o reply (fieldsAt rest) rest r = rw (← e) e₃ in
-    (rw (e₄, e, q .number) refl, q .reach)
+judged-is p o reply place rest f r x e₁ e₂ e₃ =
+    let q : Ruled p o reply (fieldsAt rest) rest r = rw (← e₁) e₂ in
+    record { found = rw (e₃, e₁, q .number) refl; reach = q .reach }

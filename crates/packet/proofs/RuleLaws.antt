@@ -32,6 +32,15 @@ none-holds (r ∷ rs) n e = let h = head (r .holds) refl in (h, none-holds rs (n
     head true q = let z : r .number ≡ 0 = rw q at e in absurd (omega arith)
     head false q = q
 
+-- A table whose number is that of the rules from some rule on: this rule gives it if it holds, and else the rules after it do.
+pub first-here : (all : List Rule) (r : Rule) (rs : List Rule) → first all ≡ first (r ∷ rs) → r .holds ≡ true → r .number ≡ first all
+unfolding first
+first-here all r rs e h = rw (e, h) refl
+
+pub first-past : (all : List Rule) (r : Rule) (rs : List Rule) → first all ≡ first (r ∷ rs) → r .holds ≡ false → first all ≡ first rs
+unfolding first
+first-past all r rs e h = rw (e, h) refl
+
 -- n is the number of a rule that holds, and no rule before it does
 pub data FirstHolds (n : ℕ) : List Rule → Type 0 where
   here : {r : Rule} {rs : List Rule} → r .number ≡ n → r .holds ≡ true → FirstHolds n (r ∷ rs)

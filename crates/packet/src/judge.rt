@@ -8,6 +8,7 @@ ghost use mathlib.Core.Path.{_≡_};
 ghost use mathlib.Core.Bool.{cond};
 ghost use lib.Dec.{eqb};
 ghost use lib.ListN.{length};
+ghost use Rattle.lbp16.specs.Answer.{Answer};
 ghost use Rattle.lbp16.specs.Pointer.{pointersOf};
 ghost use Rattle.packet.specs.Judge.{judge, refused};
 ghost use Rattle.packet.specs.Verdict.{answerTo, verdictListed};
@@ -34,17 +35,24 @@ fn copied(list: &[u32]) -> [u32; 8]
     ]
 }
 
+// A refusal, as a verdict.
+pub fn refused(number: u32, place: usize) -> Verdict
+    ensures { λ r. ⌜ verdictListed r ≡ Answer.refused number place ⌝ }
+{
+    let refusal = Refusal {
+        number,
+        place: place as u64,
+    };
+    Verdict::Refused(refusal)
+}
+
 // The reply length, or the refusal of the earliest command that is refused, on pointers that are lent as a list. Another count of
 // them than eight is refused with 1.
 pub fn judge_list(packet: &[u8], list: &[u32]) -> Verdict
     ensures { λ r. ⌜ verdictListed r ≡ answerTo (cond (eqb (length (now (list .entry))) 8) (judge (pointersOf (now (list .entry))) (now (packet .entry))) (refused 1 0)) ⌝ }
 {
     if list.len() != 8 {
-        let refusal = Refusal {
-            number: 1,
-            place: 0,
-        };
-        return Verdict::Refused(refusal);
+        return refused(1, 0);
     }
     let mut pointers = copied(list);
     let mut unlocked = false;
@@ -52,27 +60,29 @@ pub fn judge_list(packet: &[u8], list: &[u32]) -> Verdict
     let mut rest = packet;
     while 0 < rest.len() {
         let place = packet.len() - rest.len();
-        let c = refusal::command_at(rest, &pointers, unlocked, reply, place);
-        let found = c.found;
-        let which = found.which;
-        match which {
-            Which::Refused(number) => {
-                let refusal = Refusal {
-                    number,
-                    place: place as u64,
-                };
-                return Verdict::Refused(refusal);
+        let word = command::word_at(rest);
+        let reach = if command::for_registers(word) {
+            let c = refusal::register_at(rest, word, &pointers, reply, place);
+            let found = c.found;
+            let which = found.which;
+            if let Which::Refused(number) = which {
+                return refused(number, place);
             }
-            Which::Read => {}
-            Which::Write => {}
-        }
-        let r = c.reach;
-        let fields = found.fields;
-        unlocked = command::unlocked_next(rest, unlocked, fields, r.used);
-        reply += r.answered;
-        let slot = r.slot;
-        pointers[slot] = r.next;
-        let k = r.bytes;
+            c.reach
+        } else {
+            let c = refusal::area_at(rest, word, &pointers, unlocked, reply, place);
+            let found = c.found;
+            let which = found.which;
+            if let Which::Refused(number) = which {
+                return refused(number, place);
+            }
+            unlocked = command::unlocked_next(rest, unlocked, found.fields, c.reach.used);
+            c.reach
+        };
+        reply += reach.answered;
+        let slot = reach.slot;
+        pointers[slot] = reach.next;
+        let k = reach.bytes;
         rest = &rest[k..];
     }
     Verdict::Accepted(reply as u64)

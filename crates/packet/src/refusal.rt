@@ -5,7 +5,6 @@ use crate::command::Found;
 use crate::command::LIMIT;
 use crate::command::Reach;
 use crate::command::Which;
-use crate::rule;
 use lbp16::pointer;
 use lbp16::space;
 use lbp16::space::Row;
@@ -22,8 +21,8 @@ ghost use Rattle.lbp16.specs.Pointer.{pointersOf};
 ghost use Rattle.lbp16.specs.declared.pointer.Pointers.{Pointers};
 ghost use Rattle.packet.specs.Bytes.{number};
 ghost use Rattle.packet.specs.Rules.{first, any, barred};
-ghost use Rattle.packet.specs.Command.{limit, fieldsAt, kindOf, rowOf, headerBytes, addressUsed, stepsAt, outOfPlace, refusals, whichOf, found};
-ghost use Rattle.packet.specs.Reach.{reachAt, ForRegisters, Ruled};
+ghost use Rattle.packet.specs.Command.{limit, fieldsAt, kindOf, rowOf, headerBytes, addressUsed, stepsAt, outOfPlace, refusals, whichOf};
+ghost use Rattle.packet.specs.Reach.{reachAt, ForRegisters, Ruled, JudgedAt};
 
 // A command's number, 0 if no rule refuses it, and then its reach.
 pub(crate) struct Ruling {
@@ -92,10 +91,19 @@ fn register_number(rest: &[u8], f: Fields, row: Row, r: Reach, reply: usize) -> 
     requires { ⌜ (row ≡ rowOf f) × (reply ≤ limit) × ForRegisters f × (headerBytes f ≤ length (now rest)) ⌝ }
     ensures { λ n. ⌜ ((p : Pointers) (unlocked : Bool) → r ≡ reachAt p f (now (rest .entry)) → n ≡ first (refusals p unlocked reply f (now (rest .entry)))) ⌝ }
 {
-    let n = rule::first_of(passes_limit(reply, r.answered), 12, 0);
-    let n = rule::first_of(rest.len() < r.bytes, 11, n);
-    let n = rule::first_of(out_of_place(f, row, r.used), 8, n);
-    rule::first_of(f.count == 0, 7, n)
+    if f.count == 0 {
+        return 7;
+    }
+    if out_of_place(f, row, r.used) {
+        return 8;
+    }
+    if rest.len() < r.bytes {
+        return 11;
+    }
+    if passes_limit(reply, r.answered) {
+        return 12;
+    }
+    0
 }
 
 // The same of any other command with its whole header.
@@ -103,15 +111,34 @@ fn area_number(rest: &[u8], f: Fields, row: Row, r: Reach, unlocked: bool, reply
     requires { ⌜ (row ≡ rowOf f) × (reply ≤ limit) × (headerBytes f ≤ length (now rest)) ⌝ }
     ensures { λ n. ⌜ ((p : Pointers) → r ≡ reachAt p f (now (rest .entry)) → n ≡ first (refusals p unlocked reply f (now (rest .entry)))) ⌝ }
 {
-    let n = rule::first_of(passes_limit(reply, r.answered), 12, 0);
-    let n = rule::first_of(rest.len() < r.bytes, 11, n);
-    let n = rule::first_of(f.write & row.locked & !unlocked, 10, n);
-    let n = rule::first_of(read_only(f, row, r.used), 9, n);
-    let n = rule::first_of(out_of_place(f, row, r.used), 8, n);
-    let n = rule::first_of(f.count == 0, 7, n);
-    let n = rule::first_of(f.size != row.size, 6, n);
-    let n = rule::first_of(space::is_absent(f.space), 5, n);
-    rule::first_of(f.info & f.write, 4, n)
+    if f.info & f.write {
+        return 4;
+    }
+    if space::is_absent(f.space) {
+        return 5;
+    }
+    if f.size != row.size {
+        return 6;
+    }
+    if f.count == 0 {
+        return 7;
+    }
+    if out_of_place(f, row, r.used) {
+        return 8;
+    }
+    if read_only(f, row, r.used) {
+        return 9;
+    }
+    if f.write & row.locked & !unlocked {
+        return 10;
+    }
+    if rest.len() < r.bytes {
+        return 11;
+    }
+    if passes_limit(reply, r.answered) {
+        return 12;
+    }
+    0
 }
 
 // The address used by a command whose header is whole.
@@ -167,28 +194,6 @@ fn area_ruling(rest: &[u8], f: Fields, pointers: &[u32], unlocked: bool, reply: 
     Ruling { number, reach }
 }
 
-// The lowest number of refusals 3 to 12 whose condition holds. Plain commands to space 0 have a way of their own, on which the
-// compiler knows the table's line.
-fn ruling_of(
-    rest: &[u8],
-    word: u16,
-    f: Fields,
-    pointers: &[u32],
-    unlocked: bool,
-    reply: usize,
-) -> Ruling
-    requires { ⌜ (f ≡ fieldsOf word) × (reply ≤ limit) ⌝ }
-    ensures { λ r. ⌜ Ruled (pointersOf (now (pointers .entry))) unlocked reply f (now (rest .entry)) r ⌝ }
-{
-    if rest.len() < command::header_bytes(f) {
-        return cut_off();
-    }
-    if command::for_registers(word) {
-        return register_ruling(rest, f, pointers, reply);
-    }
-    area_ruling(rest, f, pointers, unlocked, reply)
-}
-
 fn which_of(number: u32, f: Fields) -> Which
     ensures { λ r. ⌜ r ≡ whichOf number (kindOf f) ⌝ }
 {
@@ -198,27 +203,53 @@ fn which_of(number: u32, f: Fields) -> Which
     if f.write { Which::Write } else { Which::Read }
 }
 
-// What is found at a command: on these pointers, with the unlock so, and after so many bytes of reply.
-pub(crate) fn command_at(
+// What is found at a command, by what is ruled of it.
+fn judged_by(f: Fields, place: usize, ruling: Ruling) -> Judged
+    ensures { λ r. ⌜ ((p : Pointers) (unlocked : Bool) (reply : ℕ) (rest : List ℕ) → f ≡ fieldsAt rest → Ruled p unlocked reply f rest ruling → JudgedAt p unlocked reply place rest r) ⌝ }
+{
+    let found = Found {
+        fields: f,
+        place,
+        which: which_of(ruling.number, f),
+    };
+    let reach = ruling.reach;
+    Judged { found, reach }
+}
+
+// What is found at a plain command to space 0 with its size code, by its word: on these pointers, and after so many bytes of reply.
+// Such commands have a way of their own, on which the compiler knows the table's line.
+pub(crate) fn register_at(
     rest: &[u8],
+    word: u16,
+    pointers: &[u32],
+    reply: usize,
+    place: usize,
+) -> Judged
+    requires { ⌜ (fieldsOf word ≡ fieldsAt (now rest)) × ForRegisters (fieldsOf word) × (reply ≤ limit) ⌝ }
+    ensures { λ r. ⌜ ((unlocked : Bool) → JudgedAt (pointersOf (now (pointers .entry))) unlocked reply place (now (rest .entry)) r) ⌝ }
+{
+    let f = word::fields_of(word);
+    if rest.len() < command::header_bytes(f) {
+        return judged_by(f, place, cut_off());
+    }
+    judged_by(f, place, register_ruling(rest, f, pointers, reply))
+}
+
+// What is found at any other command, with the unlock so.
+pub(crate) fn area_at(
+    rest: &[u8],
+    word: u16,
     pointers: &[u32],
     unlocked: bool,
     reply: usize,
     place: usize,
 ) -> Judged
-    requires { ⌜ reply ≤ limit ⌝ }
-    ensures { λ r. ⌜ r .found ≡ found (pointersOf (now (pointers .entry))) unlocked reply place (now (rest .entry)) ⌝ }
-    ensures { λ r. ⌜ (first (refusals (pointersOf (now (pointers .entry))) unlocked reply (fieldsAt (now (rest .entry))) (now (rest .entry))) ≡ 0 → r .reach ≡ reachAt (pointersOf (now (pointers .entry))) (fieldsAt (now (rest .entry))) (now (rest .entry))) ⌝ }
+    requires { ⌜ (fieldsOf word ≡ fieldsAt (now rest)) × (reply ≤ limit) ⌝ }
+    ensures { λ r. ⌜ JudgedAt (pointersOf (now (pointers .entry))) unlocked reply place (now (rest .entry)) r ⌝ }
 {
-    let word = command::word_at(rest);
-    let fields = word::fields_of(word);
-    let ruling = ruling_of(rest, word, fields, pointers, unlocked, reply);
-    let reach = ruling.reach;
-    let which = which_of(ruling.number, fields);
-    let found = Found {
-        fields,
-        place,
-        which,
-    };
-    Judged { found, reach }
+    let f = word::fields_of(word);
+    if rest.len() < command::header_bytes(f) {
+        return judged_by(f, place, cut_off());
+    }
+    judged_by(f, place, area_ruling(rest, f, pointers, unlocked, reply))
 }

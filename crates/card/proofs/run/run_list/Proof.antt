@@ -9,8 +9,11 @@ use Rattle.card.proofs.run.run_list.Tie as tie
 refused-requires : tie.Need-refused-requires
 refused-requires c κs = search needs
 
+not-run-requires : tie.Need-not-run-requires
+not-run-requires c κs = search needs
+
 returns : tie.Need-returns
-returns c = other-room _ _ _ _ (c .before .if1 .taken) _ (c .refused .ensures) refl
+returns c = other-room _ _ _ _ (c .before .before .if1 .taken) _ (ap verdictListed (c .not-run .ensures .0) ∙ c .before .refused .ensures) (c .not-run .ensures .1)
 
 check-list-requires : tie.Need-check-list-requires
 check-list-requires c κs = search needs
@@ -21,6 +24,9 @@ enum-known-answer c = search needs
 enum-told : tie.Need-enum-told
 enum-told c = search needs
 
+not-run-requires-2 : tie.Need-not-run-requires-2
+not-run-requires-2 c κs = search needs
+
 same-length : tie.Need-same-length
 same-length c = search needs
 
@@ -29,7 +35,7 @@ same-length-2 c = search needs
 
 returns-2 : tie.Need-returns-2
 unfolding verdictListed
-returns-2 c = run-refused _ _ _ _ (c .before .before .before .before .before .if1 .left) _ _ _ (ap verdictListed (c .enum-told .given .1)) (ap verdictListed (sym (c .enum-told .given .1)) ∙ c .before .before .check-list .ensures) refl
+returns-2 c = run-refused _ _ _ _ (c .before .before .before .before .before .before .if1 .left) _ _ _ (ap verdictListed (c .not-run2 .ensures .0 ∙ c .before .enum-told .given .1)) (ap verdictListed (sym (c .before .enum-told .given .1)) ∙ c .before .before .before .check-list .ensures) (c .not-run2 .ensures .1)
 
 perform-requires : tie.Need-perform-requires
 unfolding verdictListed
@@ -66,10 +72,12 @@ run-list-spec =
     tie.close
     (tie.spec
     refused-requires
+    not-run-requires
     returns
     check-list-requires
     enum-known-answer
     enum-told
+    not-run-requires-2
     same-length
     same-length-2
     returns-2

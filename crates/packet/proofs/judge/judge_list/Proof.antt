@@ -1,16 +1,18 @@
 use denote.Ref.{now}
+use denote.Enum.Declared.{tagOf}
 use native.Mathlib.Omega.{arith}
 use borrow.Author.Needs.{needs}
 use borrow.Author.Tests.{eq-eqb, ne-eqb}
-use mathlib.Core.Path.{_≡_, refl, ap}
-use mathlib.Core.Logic.{⊎-elim}
+use mathlib.Core.Path.{_≡_, refl, sym, _∙_}
+use mathlib.Core.Logic.{_⊎_, ⊎-elim}
 use lib.ListN.{length, length-take, length-drop}
-use Rattle.lbp16.specs.Pointer.{pointersOf}
-use Rattle.packet.specs.Command.{fieldsAt, found, numberOf}
+use Rattle.packet.specs.Command.{numberOf}
 use Rattle.packet.specs.Verdict.{answerTo, verdictListed}
-use Rattle.packet.specs.declared.command.Found.{Found}
-use Rattle.packet.proofs.CommandLaws.{Passed, passes}
-use Rattle.packet.proofs.LoopLaws.{Checking, Checked, checking-start, checking-refused, checking-passed, checking-next, checking-end}
+use Rattle.packet.specs.declared.command.Which.{Which}
+use Rattle.packet.specs.declared.command.Which.the-variants.{Read, Write, Refused}
+use Rattle.packet.proofs.command.Which.{the-type}
+use Rattle.packet.proofs.ReachLaws.{registers-word}
+use Rattle.packet.proofs.LoopLaws.{Checking, Checked, checking-start, checking-refused, checking-passed, checking-next, checking-registers, checking-end}
 use Rattle.packet.proofs.judge.judge_list.Statement.{statement}
 use Rattle.packet.proofs.judge.judge_list.Tie as tie
 
@@ -20,9 +22,12 @@ Inv-loop packet list pointers₀ unlocked₀ reply₀ rest₀ pointers unlocked 
 abbrev μ-loop : tie.MeasureT-loop
 μ-loop packet list pointers₀ unlocked₀ reply₀ rest₀ pointers unlocked reply rest = length rest
 
+refused-requires : tie.Need-refused-requires Inv-loop μ-loop
+refused-requires c κs = search needs
+
 returns : tie.Need-returns Inv-loop μ-loop
-unfolding verdictListed answerTo
-returns c = rw (ne-eqb _ _ (c .if1 .taken)) refl
+unfolding answerTo
+returns c = rw (ne-eqb _ _ (c .before .if1 .taken)) (c .refused .ensures)
 
 copied-requires : tie.Need-copied-requires Inv-loop μ-loop
 copied-requires c κs = c .if1 .left
@@ -33,54 +38,58 @@ loop-holds c = rw (c .copied .ensures) (checking-start _ _ (c .before .if1 .left
 sub-place : tie.Need-sub-place Inv-loop μ-loop
 sub-place c = c .before .loop .inv .left
 
-slice-aggregate-command-at : tie.Need-slice-aggregate-command-at Inv-loop μ-loop
-slice-aggregate-command-at c = search needs
+word-at-requires : tie.Need-word-at-requires Inv-loop μ-loop
+word-at-requires c κs = search needs
 
-command-at-requires : tie.Need-command-at-requires Inv-loop μ-loop
-command-at-requires c κs = c .before .before .loop .inv .within
+for-registers-requires : tie.Need-for-registers-requires Inv-loop μ-loop
+for-registers-requires c κs = search needs
+
+slice-aggregate-register-at : tie.Need-slice-aggregate-register-at Inv-loop μ-loop
+slice-aggregate-register-at c = search needs
+
+register-at-requires : tie.Need-register-at-requires Inv-loop μ-loop
+register-at-requires c κs = (c .before .before .before .word-at .ensures, registers-word _ _ refl (sym (c .before .before .for-registers .ensures) ∙ c .before .if2 .taken), c .before .before .before .before .before .loop .inv .within)
 
 enum-known-which : tie.Need-enum-known-which Inv-loop μ-loop
 enum-known-which c = search needs
 
+refused-requires-2 : tie.Need-refused-requires-2 Inv-loop μ-loop
+refused-requires-2 c κs = search needs
+
 returns-2 : tie.Need-returns-2 Inv-loop μ-loop
-unfolding verdictListed
-returns-2 c =
-    rw (eq-eqb _ _ (c .before .before .before .before .before .before .before .before .before .if1 .left)) (checking-refused (c .before .before .before .before .before .before .before .loop .inv) (c .before .before .before .before .before .before .loop-test .taken) _ (c .before .before .before .before .command-at .ensures .0) _ (c .before .which .given .1))
+returns-2 c = rw (eq-eqb _ _ (c .before .before .before .before .before .before .before .before .before .before .before .before .before .if1 .left)) (c .refused2 .ensures ∙ checking-refused (c .before .before .before .before .before .before .before .before .before .before .before .loop .inv) (c .before .before .before .before .before .before .before .before .before .before .loop-test .taken) _ (c .before .before .before .before .before .register-at .ensures _) _ (c .before .before .which .given .1))
 
-enum-told : tie.Need-enum-told Inv-loop μ-loop
-enum-told c = search needs
+slice-aggregate-area-at : tie.Need-slice-aggregate-area-at Inv-loop μ-loop
+slice-aggregate-area-at c = search needs
 
-enum-told-2 : tie.Need-enum-told-2 Inv-loop μ-loop
-enum-told-2 c = search needs
+area-at-requires : tie.Need-area-at-requires Inv-loop μ-loop
+area-at-requires c κs = (c .before .before .before .word-at .ensures, c .before .before .before .before .before .loop .inv .within)
 
--- the fields found are those of the word
-fields-found : (c : tie.After-fields Inv-loop μ-loop) → c .before .before .before .before .command-at .result .found .fields ≡ fieldsAt (now (c .before .before .before .before .before .before .before .loop .rest))
-unfolding found
-fields-found c = ap (λ (x : Found). x .fields) (c .before .before .before .before .command-at .ensures .0)
+enum-known-which-2 : tie.Need-enum-known-which-2 Inv-loop μ-loop
+enum-known-which-2 c = search needs
 
--- past the match the command is not refused
-pass : (c : tie.After-fields Inv-loop μ-loop)
-    → Passed (pointersOf (c .before .before .before .before .before .before .before .loop .pointers)) (c .before .before .before .before .before .before .before .loop .unlocked) (c .before .before .before .before .before .before .before .loop .reply) (fieldsAt (now (c .before .before .before .before .before .before .before .loop .rest))) (now (c .before .before .before .before .before .before .before .loop .rest))
-pass c =
-    ⊎-elim (λ w. passed-at (ap numberOf (w .1 .given .1))) (λ w. passed-at (ap numberOf (w .1 .given .1))) (c .before .before .match .came)
-  where
-    passed-at : numberOf (c .before .before .before .before .command-at .result .found .which) ≡ 0
-        → Passed (pointersOf (c .before .before .before .before .before .before .before .loop .pointers)) (c .before .before .before .before .before .before .before .loop .unlocked) (c .before .before .before .before .before .before .before .loop .reply) (fieldsAt (now (c .before .before .before .before .before .before .before .loop .rest))) (now (c .before .before .before .before .before .before .before .loop .rest))
-    passed-at = checking-passed (c .before .before .before .before .before .before .before .loop .inv) (c .before .before .before .before .before .before .loop-test .taken) _ (c .before .before .before .before .command-at .ensures .0)
+refused-requires-3 : tie.Need-refused-requires-3 Inv-loop μ-loop
+refused-requires-3 c κs = search needs
+
+returns-3 : tie.Need-returns-3 Inv-loop μ-loop
+returns-3 c = rw (eq-eqb _ _ (c .before .before .before .before .before .before .before .before .before .before .before .before .before .if1 .left)) (c .refused3 .ensures ∙ checking-refused (c .before .before .before .before .before .before .before .before .before .before .before .loop .inv) (c .before .before .before .before .before .before .before .before .before .before .loop-test .taken) _ (c .before .before .before .before .before .area-at .ensures) _ (c .before .before .which2 .given .1))
+
+-- what is found is no refusal
+no-refusal : (w : Which) → (tagOf the-type w ≡ 0) ⊎ (tagOf the-type w ≡ 1) → numberOf w ≡ 0
+no-refusal Read h = refl
+no-refusal Write h = refl
+no-refusal (Refused n) h = absurd (⊎-elim (λ e. omega arith) (λ e. omega arith) h)
 
 unlocked-next-requires : tie.Need-unlocked-next-requires Inv-loop μ-loop
-unlocked-next-requires c κs = rw (fields-found c) (pass c .header)
+unlocked-next-requires c κs = checking-passed (c .before .before .before .before .before .before .before .before .loop .inv) (c .before .before .before .before .before .before .before .loop-test .taken) _ (c .before .before .area-at .ensures) (no-refusal (c .before .before .area-at .result .found .which) (c .match2 .keys2)) .header
 
 -- a turn of the loop
 step : (c : tie.After-struct-known Inv-loop μ-loop)
-    → Checked (now (c .before .before .before .before .before .before .before .before .before .before .before .before .before .before .args .list)) (now (c .before .before .before .before .before .before .before .before .before .before .before .before .before .before .args .packet)) (c .before .before .before .before .before .before .before .before .before .loop .pointers) (c .before .unlocked-next .result)
-    (c .before .before .before .before .before .before .before .before .before .loop .reply)
-    (now (c .before .before .before .before .before .before .before .before .before .loop .rest))
-    (c .before .before .before .before .before .before .command-at .result .reach)
+    → Checked (now (c .before .before .before .before .before .before .before .before .before .before .args .list)) (now (c .before .before .before .before .before .before .before .before .before .before .args .packet)) (c .before .before .before .before .before .loop .pointers) (c .before .if2 .unlocked) (c .before .before .before .before .before .loop .reply) (now (c .before .before .before .before .before .loop .rest)) (c .before .if2 .reach)
 step c =
-    let h = pass (c .before .before) in
-    checking-next (c .before .before .before .before .before .before .before .before .before .loop .inv) (c .before .before .before .before .before .before .before .before .loop-test .taken) h _ (c .before .before .before .before .before .before .command-at .ensures .1 (passes _ _ _ _ _ h)) _
-    (rw (fields-found (c .before .before)) at (c .before .unlocked-next .ensures))
+    ⊎-elim (λ w. rw (w .6, w .7) (checking-registers (c .before .before .before .before .before .loop .inv) (c .before .before .before .before .loop-test .taken) _ (w .2 .ensures _) (no-refusal (w .2 .result .found .which) (w .4 .keys2)) (rw (← c .before .before .before .word-at .ensures) (registers-word _ _ refl (sym (c .before .before .for-registers .ensures) ∙ w .0 .taken)))))
+    (λ w. rw (w .7, w .8) (checking-next (c .before .before .before .before .before .loop .inv) (c .before .before .before .before .loop-test .taken) _ (w .2 .ensures) (no-refusal (w .2 .result .found .which) (w .4 .keys2)) _ (w .5 .ensures)))
+    (c .before .if2 .came)
 
 add-reply : tie.Need-add-reply Inv-loop μ-loop
 add-reply c = let h = step c .answers in omega arith
@@ -106,9 +115,9 @@ loop-less c = let s = step (c .before) in let h = s .some in let w = s .whole in
 loop-again : tie.Need-loop-again Inv-loop μ-loop
 loop-again c = step (c .before) .again
 
-returns-3 : tie.Need-returns-3 Inv-loop μ-loop
+returns-4 : tie.Need-returns-4 Inv-loop μ-loop
 unfolding verdictListed
-returns-3 c = rw (eq-eqb _ _ (c .before .before .before .if1 .left)) (checking-end (c .before .loop .inv) (omega arith))
+returns-4 c = rw (eq-eqb _ _ (c .before .before .before .if1 .left)) (checking-end (c .before .loop .inv) (omega arith))
 
 pub judge-list-spec : {M : Type 1} → statement M
 judge-list-spec =
@@ -116,16 +125,23 @@ judge-list-spec =
     (tie.spec
     Inv-loop
     μ-loop
+    refused-requires
     returns
     copied-requires
     loop-holds
     sub-place
-    slice-aggregate-command-at
-    command-at-requires
+    word-at-requires
+    for-registers-requires
+    slice-aggregate-register-at
+    register-at-requires
     enum-known-which
+    refused-requires-2
     returns-2
-    enum-told
-    enum-told-2
+    slice-aggregate-area-at
+    area-at-requires
+    enum-known-which-2
+    refused-requires-3
+    returns-3
     unlocked-next-requires
     add-reply
     mul-pointers
@@ -135,4 +151,4 @@ judge-list-spec =
     part-rest-end
     loop-less
     loop-again
-    returns-3)
+    returns-4)

@@ -1,7 +1,7 @@
-use Rattle.card.proofs.check.refused.Statement.{statement}
-use Rattle.card.proofs.check.refused.Tie as tie
 use mathlib.Core.Path.{refl}
 use Rattle.packet.specs.Verdict.{verdictListed}
+use Rattle.packet.proofs.judge.refused.Statement.{statement}
+use Rattle.packet.proofs.judge.refused.Tie as tie
 
 returns : tie.Need-returns
 unfolding verdictListed

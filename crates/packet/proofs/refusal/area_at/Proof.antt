@@ -1,0 +1,43 @@
+use borrow.Author.Needs.{needs}
+use mathlib.Core.Path.{_∙_}
+use native.Mathlib.Omega.{arith}
+use Rattle.packet.proofs.ReachLaws.{cut-off}
+use Rattle.packet.proofs.refusal.area_at.Statement.{statement}
+use Rattle.packet.proofs.refusal.area_at.Tie as tie
+
+fields-of-requires : tie.Need-fields-of-requires
+fields-of-requires c κs = search needs
+
+header-bytes-requires : tie.Need-header-bytes-requires
+header-bytes-requires c κs = search needs
+
+cut-off-requires : tie.Need-cut-off-requires
+cut-off-requires c κs = search needs
+
+judged-by-requires : tie.Need-judged-by-requires
+judged-by-requires c κs = search needs
+
+returns : tie.Need-returns
+returns c = c .judged-by .ensures _ _ _ _ (c .before .before .before .before .fields-of .ensures ∙ c .before .before .before .before .before .before .before .pre .0) (cut-off _ _ _ _ _ _ (let h = c .before .before .before .header-bytes .ensures .0 in omega arith) (c .before .cut-off .ensures))
+
+area-ruling-requires : tie.Need-area-ruling-requires
+area-ruling-requires c κs = let h = c .before .header-bytes .ensures .0 in search needs
+
+judged-by-requires-2 : tie.Need-judged-by-requires-2
+judged-by-requires-2 c κs = search needs
+
+returns-2 : tie.Need-returns-2
+returns-2 c = c .judged-by2 .ensures _ _ _ _ (c .before .before .before .before .fields-of .ensures ∙ c .before .before .before .before .before .before .before .pre .0) (c .before .area-ruling .ensures)
+
+pub area-at-spec : {M : Type 1} → statement M
+area-at-spec =
+    tie.close
+    (tie.spec
+    fields-of-requires
+    header-bytes-requires
+    cut-off-requires
+    judged-by-requires
+    returns
+    area-ruling-requires
+    judged-by-requires-2
+    returns-2)
