@@ -1,23 +1,24 @@
 -- A call, as the code makes it.
 use Prim.Native.Nat.{ℕ, zero, suc, _+_, _*_, _-_, _≤_, _<_}
 use mathlib.Core.Path.{_≡_, refl, sym, ap, _∙_}
-use mathlib.Core.List.{List, [], _∷_, _++_, append-nil}
+use mathlib.Core.List.{List, [], _++_, append-nil}
 use mathlib.Core.Bool.{Bool, true, false, cond}
 use native.Mathlib.Omega.{arith}
 use lib.Dec.{eqb}
 use lib.ListN.{length, take, drop, getD, length-append, length-take, length-drop, drop-of-length-le}
 use lib.Seq.{take-all, drop-at, length-take-le}
 use borrow.Author.Tests.{lt-ltb, le-ltb, eq-eqb, ne-eqb, ltb-false, eqb-false}
-use Rattle.lbp16.specs.Answer.{Answer, refused}
+use Rattle.lbp16.specs.Answer.{refused}
 use Rattle.cue.specs.Guarded.{anyOf}
 use Rattle.cue.specs.declared.packer.Packer.{Packer}
 use Rattle.cue.proofs.GuardedLaws.{none-of}
 use Rattle.parts.specs.Taking.{Stopped, called, partTaken, answerBy, answered}
 use Rattle.parts.specs.State.{Held, heldPacking, unopened, pairAt, packerAt, standingOf, stateOf, badNumbers, badState, bytesOfState}
 use Rattle.parts.specs.Parts.{PartCall, untouched, leaves, partOf, partListed, partLeft}
-use Rattle.parts.specs.Inside.{keptAt, meant, Sound, Ranged, Rooms, Stops}
+use Rattle.parts.specs.Inside.{keptAt, meant, Sound, Ranged, Rooms, Stops, listedBy, outcomeLeft}
 use Rattle.parts.specs.declared.PartAnswer.{PartAnswer}
 use Rattle.parts.specs.declared.Part.{Part}
+use Rattle.parts.specs.declared.call.Outcome.{Outcome}
 use Rattle.parts.specs.declared.state.Kept.{Kept}
 use Rattle.parts.specs.declared.take.Stop.{Stop}
 use Rattle.parts.proofs.PartLaws.{stands-going}
@@ -79,36 +80,36 @@ tests-ranged s l b =
           packer-sound s (ltb-false _ _ space) (ltb-false _ _ count) (ltb-false _ _ reply) (ltb-false _ _ end) (ltb-false _ _ word);
     }
 
--- the code's answer is the definition's, and so is what it leaves
-abbrev pub Answers : PartCall → PartAnswer → ℕ → List ℕ → List ℕ → Type 0
-Answers x a n state out = partLeft a n state out ≡ x
-
 module _ (state part : List ℕ) (last : Bool) (out : List ℕ) where
   abbrev x : PartCall
   x = partOf state part last out
 
-  turned-away : (number place : ℕ) (r : Part) → x ≡ untouched (refused number place) state out
-      → r ≡ record { answer = PartAnswer.Refused (record { number = number; place = place }); taken = 0 }
-      → Answers x (r .answer) (r .taken) state out
-  unfolding untouched partListed partLeft
-  turned-away number place r e d = rw (e, d) refl
+  pub no-room : length out < 1476
+      → partLeft (PartAnswer.Refused (record { number = 26; place = 1476 })) 0 state out ≡ x
+  unfolding partOf untouched partListed partLeft
+  no-room h = rw (lt-ltb _ _ h) refl
 
-  pub no-room : (r : Part) → length out < 1476
-      → r ≡ record { answer = PartAnswer.Refused (record { number = 26; place = 1476 }); taken = 0 }
-      → Answers x (r .answer) (r .taken) state out
-  unfolding partOf
-  no-room r h = turned-away 26 1476 r (rw (lt-ltb _ _ h) refl)
+  -- the answer as the caller gets it
+  pub part-is : (c : Outcome) (state₂ out₂ : List ℕ) → outcomeLeft c state₂ out₂ ≡ x → (r : Part)
+      → (partListed (r .answer) ≡ listedBy (c .number) (c .value)) × (r .taken ≡ c .taken)
+      → partLeft (r .answer) (r .taken) state₂ out₂ ≡ x
+  unfolding partLeft outcomeLeft
+  part-is c state₂ out₂ e r (a, t) = rw (a, t) e
 
   module _ (wide : 1476 ≤ length out) where
     bad-is : badState state ≡ true → x ≡ untouched (refused 1 0) state out
     unfolding partOf
     bad-is b = rw (le-ltb (length out) 1476 wide, b) refl
 
-    pub other-length : (r : Part) → (length state ≡ 1504 → ⊥)
-        → r ≡ record { answer = PartAnswer.Refused (record { number = 1; place = 0 }); taken = 0 }
-        → Answers x (r .answer) (r .taken) state out
+    turned-away : (r : Outcome) → r ≡ record { number = 1; value = 0; taken = 0 } → badState state ≡ true
+        → outcomeLeft r state out ≡ x
+    unfolding untouched outcomeLeft listedBy
+    turned-away r d b = rw (bad-is b, d) refl
+
+    pub other-length : (r : Outcome) → (length state ≡ 1504 → ⊥) → r ≡ record { number = 1; value = 0; taken = 0 }
+        → outcomeLeft r state out ≡ x
     unfolding badState
-    other-length r h = turned-away 1 0 r (bad-is (rw (ne-eqb (length state) 1504 h) refl))
+    other-length r h d = turned-away r d (rw (ne-eqb (length state) 1504 h) refl)
 
     -- a state of the right length, and what the code finds there
     module _ (long : length state ≡ 1504) (k : Kept) (e : k ≡ keptAt state) (b : Bool)
@@ -121,28 +122,28 @@ module _ (state part : List ℕ) (last : Bool) (out : List ℕ) where
       unfolding badState
       bad-state = rw (eq-eqb (length state) 1504 long) (sym tests)
 
-      pub bad-numbers : (r : Part) → b ≡ true
-          → r ≡ record { answer = PartAnswer.Refused (record { number = 1; place = 0 }); taken = 0 }
-          → Answers x (r .answer) (r .taken) state out
-      bad-numbers r t = turned-away 1 0 r (bad-is (bad-state ∙ t))
+      pub bad-numbers : (r : Outcome) → b ≡ true → r ≡ record { number = 1; value = 0; taken = 0 }
+          → outcomeLeft r state out ≡ x
+      bad-numbers r t d = turned-away r d (bad-state ∙ t)
 
       module _ (good : b ≡ false) where
         pub kept-ranged : Ranged k
         kept-ranged = rw e (tests-ranged state long (sym tests ∙ good))
 
-        state-is : stateOf state ≡ meant k (drop 28 state)
+        pub state-is : stateOf state ≡ meant k (drop 28 state)
         unfolding stateOf meant keptAt
         state-is = rw e refl
 
-        call-is : x ≡ leaves (called heldPacking (meant k (drop 28 state)) part last) (eqb (k .stands) 0) state out
+        pub call-is : x ≡ leaves (called heldPacking (meant k (drop 28 state)) part last) (eqb (k .stands) 0) state out
         unfolding partOf meant
         call-is = rw (le-ltb (length out) 1476 wide, bad-state, good, state-is, stands-going) refl
 
-        pub stands-already : (k .stands ≡ 0 → ⊥) → (a : PartAnswer) → partListed a ≡ answerBy (standingOf (k .stands)) (k .index) 0
-            → Answers x a 0 state out
-        unfolding leaves called meant answered partLeft
-        stands-already z a h =
-            rw (call-is, stands-going, ne-eqb (k .stands) 0 z) (λ i. record { answer = h i; taken = 0; state = state; room = out })
+        pub stands-already : (k .stands ≡ 0 → ⊥) → (r : Outcome)
+            → (listedBy (r .number) (r .value) ≡ answerBy (standingOf (k .stands)) (k .index) 0) × (r .taken ≡ 0)
+            → outcomeLeft r state out ≡ x
+        unfolding leaves called meant answered outcomeLeft
+        stands-already z r (h, t) =
+            rw (call-is, stands-going, ne-eqb (k .stands) 0 z) (λ i. record { answer = h i; taken = t i; state = state; room = out })
 
         -- the open packet's room, lent and back
         lent-room : take (length state - 28) (drop 28 state) ≡ drop 28 state
@@ -175,31 +176,38 @@ module _ (state part : List ℕ) (last : Bool) (out : List ℕ) where
           unfolding called meant
           call-part = call-is ∙ rw (stands-going, eq-eqb (k .stands) 0 z) refl
 
-          pub part-left : (state₂ : List ℕ) (a : PartAnswer)
+          pub part-left : (state₂ : List ℕ)
               → state₂ ≡ bytesOfState (meant (s .kept) (drop 28 (take 28 state ++ (room ++ drop (length state - 28) (drop 28 state)))))
-              → partListed a ≡ answerBy (standingOf (s .kept .stands)) (s .kept .index) (s .written)
-              → Answers x a (s .taken) state₂ out₂
-          unfolding leaves meant answered partLeft
-          part-left state₂ a f g =
+              → (r : Outcome)
+              → (listedBy (r .number) (r .value) ≡ answerBy (standingOf (s .kept .stands)) (s .kept .index) (s .written))
+              × (r .taken ≡ s .taken)
+              → outcomeLeft r state₂ out₂ ≡ x
+          unfolding leaves meant answered outcomeLeft
+          part-left state₂ f r (g, t) =
               let l = left-is .left in
               let said : answerBy (standingOf (s .kept .stands)) (s .kept .index) (s .written) ≡ answered (p .left) =
               rw (← l .state, ← l .written) refl in
               let answer = g ∙ said in
               let state′ : state₂ ≡ bytesOfState (p .left .state) = f ∙ rw room-back (ap bytesOfState (l .state)) in
               rw call-part
-              (λ i. record { answer = answer i; taken = left-is .taken i; state = state′ i; room = l .handed i })
+              (λ i. record { answer = answer i; taken = (t ∙ left-is .taken) i; state = state′ i; room = l .handed i })
 
 -- the answer by what stands
 pub answer-fault : (stands index written : ℕ) → 1 < stands
-    → refused stands index ≡ answerBy (standingOf stands) index written
-unfolding answerBy standingOf
+    → listedBy stands index ≡ answerBy (standingOf stands) index written
+unfolding answerBy standingOf listedBy
 answer-fault zero index written h = absurd (omega arith)
 answer-fault (suc zero) index written h = absurd (omega arith)
 answer-fault (suc (suc n)) index written h = refl
 
 pub answer-written : (stands index written : ℕ) → stands ≤ 1
-    → Answer.accepted (written ∷ []) ≡ answerBy (standingOf stands) index written
-unfolding answerBy standingOf
+    → listedBy 0 written ≡ answerBy (standingOf stands) index written
+unfolding answerBy standingOf listedBy
 answer-written zero index written h = refl
 answer-written (suc zero) index written h = refl
 answer-written (suc (suc n)) index written h = absurd (omega arith)
+
+pub number-listed : (n value : ℕ) → (n ≡ 0 → ⊥) → refused n value ≡ listedBy n value
+unfolding listedBy
+number-listed zero value h = absurd (h refl)
+number-listed (suc n) value h = refl

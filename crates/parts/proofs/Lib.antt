@@ -6,11 +6,13 @@ pub mod SoundLaws
 pub mod AlikeLaws
 pub mod SameLaws
 pub mod StateLaws
+pub mod TidyLaws
 pub mod TakeLaws
 pub mod ByteLaws
 pub mod PartLaws
 pub mod WholeLaws
 pub mod CallLaws
+pub mod SingleLaws
 pub mod KeepLaws
 pub mod RoundLaws
 pub mod HoldLaws

@@ -77,10 +77,10 @@ byte-there bytes n i h = sym (getD-take n bytes i 0 h)
 pub byte-behind : (bytes : List ℕ) (n i : ℕ) → n ≤ i → 0 ≡ getD (take n bytes) i 0
 byte-behind bytes n i h = sym (List·getD-eq-default (take n bytes) 0 {n = i} (rw length-take (omega arith)))
 
-padded-self : (n : ℕ) (l : List ℕ) → length l ≡ n → padded n 0 l ≡ l
+pub padded-self : (n : ℕ) (l : List ℕ) → length l ≡ n → padded n 0 l ≡ l
 padded-self n l e = sym (padded-is n 0 l (omega arith)) ∙ take-all n l (omega arith)
 
-length-padded : (n i : ℕ) (l : List ℕ) → length (padded n i l) ≡ n
+pub length-padded : (n i : ℕ) (l : List ℕ) → length (padded n i l) ≡ n
 unfolding padded
 length-padded zero i l = refl
 length-padded (suc n) i l = ap suc (length-padded n (suc i) l)

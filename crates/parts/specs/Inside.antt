@@ -1,16 +1,22 @@
 -- The inside of private functions' contracts.
-use Prim.Native.Nat.{ℕ, _+_, _*_, _≤_}
+use Prim.Native.Nat.{ℕ, zero, suc, _+_, _*_, _≤_, _<_}
 use mathlib.Core.Path.{_≡_}
-use mathlib.Core.List.{List, [], _++_}
+use mathlib.Core.List.{List, [], _∷_, _++_}
 use lib.ListN.{length, take, drop, getD}
-use mathlib.Core.Bool.{Bool, true}
+use lib.Dec.{eqb, ltb, leb}
+use mathlib.Core.Bool.{Bool, true, false, not, _&&_}
+use Rattle.lbp16.specs.Answer.{Answer, accepted, refused}
+use Rattle.packet.specs.Bytes.{number}
+use Rattle.packet.specs.Command.{pickKind}
 use Rattle.packet.specs.Step.{Step}
 use Rattle.packet.specs.Rules.{first}
-use Rattle.cue.specs.Records.{mostRecords, recordRefusals}
+use Rattle.cue.specs.Records.{readMark, writeMark, recordBytes, mostRecords, recordRefusals}
 use Rattle.cue.specs.Inside.{Progress, summary}
 use Rattle.cue.specs.declared.packer.Packer.{Packer}
-use Rattle.parts.specs.Taking.{State, Taken, Stopped, bytesTaken}
+use Rattle.parts.specs.Taking.{State, Taken, Stopped, decidedAt, bytesTaken}
 use Rattle.parts.specs.State.{Held, heldPacking, heldTurned, written, packerAt, pairAt, standingOf, frameRoom}
+use Rattle.parts.specs.Parts.{PartCall, partOf}
+use Rattle.parts.specs.declared.call.Outcome.{Outcome}
 use Rattle.parts.specs.declared.state.Kept.{Kept}
 use Rattle.parts.specs.declared.take.Stop.{Stop}
 use Rattle.parts.specs.declared.take.Run.{Run}
@@ -120,3 +126,44 @@ pub record Runs (p : Packer) (index : ℕ) (part room : List ℕ) (r : Run) (roo
   pub few : r .index ≤ mostRecords
   pub going : (bytes old : List ℕ) → length bytes ≡ 10 → Rooms room old
       → Going (startAt (plain bytes p index) room) part old (plain bytes (r .packer) (r .index)) 0 (r .taken) room₂ old
+
+-- an answer by its number, 0 if it is no refusal, and its value
+unfoldable pub listedBy : ℕ → ℕ → Answer
+listedBy zero value = accepted (value ∷ [])
+listedBy (suc n) value = refused (suc n) value
+
+unfoldable pub outcomeLeft : Outcome → List ℕ → List ℕ → PartCall
+outcomeLeft c state room = record { answer = listedBy (c .number) (c .value); taken = c .taken; state = state; room = room }
+
+-- What keeps a byte from going straight into a state: bytes are not taken, a number is out of its range, or no packet is
+-- open; and a flag that is neither 0 nor 1, which a call would write anew.
+unfoldable pub unfitTests : List ℕ → List Bool
+unfitTests s =
+    not (eqb (getD s 0 0) 0)
+    ∷ leb mostRecords (pairAt s 12 + 65536 * pairAt s 14)
+    ∷ ltb 7 (getD s 17 0)
+    ∷ ltb 127 (getD s 20 0)
+    ∷ ltb 1472 (pairAt s 24)
+    ∷ ltb 1472 (pairAt s 22)
+    ∷ ltb (pairAt s 22) (pairAt s 26)
+    ∷ eqb (pairAt s 22) 0
+    ∷ ltb 1 (getD s 16 0)
+    ∷ ltb 1 (getD s 21 0)
+    ∷ []
+
+-- a known mark, of a record that is longer than `at` bytes and one
+pub record Marked (mark at : ℕ) : Type 0 where
+  pub known : (not (eqb mark readMark) && not (eqb mark writeMark)) ≡ false
+  pub longer : at + 1 < recordBytes (pickKind (eqb mark writeMark))
+
+-- A byte behind `at` others that does not show whether the record is good, where the room behind them is 0.
+pub record Waits (at : ℕ) (room : List ℕ) (b : ℕ) : Type 0 where
+  pub few : at ≤ 8
+  pub behind : number (drop at room) ≡ 0
+  pub waits : (index : ℕ) → (index ≡ mostRecords → ⊥) → at + 1 < decidedAt index (take at room ++ (b ∷ []))
+
+-- A part of one byte that is taken, with nothing handed out, or left alone.
+pub record Single (took : Bool) (s : List ℕ) (b : ℕ) (s₂ : List ℕ) : Type 0 where
+  pub taken : took ≡ true → (room : List ℕ) → frameRoom ≤ length room
+      → partOf s (b ∷ []) false room ≡ record { answer = accepted (0 ∷ []); taken = 1; state = s₂; room = room }
+  pub still : took ≡ false → s₂ ≡ s

@@ -2,14 +2,15 @@
 // lends: 1,504 bytes, all 0 before the first call.
 use lbp16::Refusal;
 
+mod call;
+mod single;
 mod state;
 mod take;
 
-use crate::state::Kept;
+use crate::call::Outcome;
 ghost use mathlib.Core.Path.{_≡_};
-ghost use Rattle.parts.specs.Taking.{answerBy};
-ghost use Rattle.parts.specs.State.{standingOf};
 ghost use Rattle.parts.specs.Parts.{partListed, partOf, partLeft};
+ghost use Rattle.parts.specs.Inside.{listedBy};
 ghost use Rattle.parts.specs.Promise.{Promised};
 
 // The bytes written, or why nothing was.
@@ -24,26 +25,23 @@ pub struct Part {
     pub taken: usize,
 }
 
-fn refused(number: u32, place: u64) -> Part
-    ensures { λ r. ⌜ r ≡ record { answer = PartAnswer.Refused (record { number = number; place = place }); taken = 0 } ⌝ }
+fn part_of(c: Outcome) -> Part
+    ensures { λ r. ⌜ (partListed (r .answer) ≡ listedBy (c .number) (c .value)) × (r .taken ≡ c .taken) ⌝ }
 {
+    let taken = c.taken;
+    if c.number == 0 {
+        return Part {
+            answer: PartAnswer::Accepted(c.value as usize),
+            taken,
+        };
+    }
     Part {
-        answer: PartAnswer::Refused(Refusal { number, place }),
-        taken: 0,
+        answer: PartAnswer::Refused(Refusal {
+            number: c.number,
+            place: c.value,
+        }),
+        taken,
     }
-}
-
-// A fault that stands is refused again.
-fn answer_of(k: Kept, written: usize) -> PartAnswer
-    ensures { λ r. ⌜ partListed r ≡ answerBy (standingOf (k .stands)) (k .index) written ⌝ }
-{
-    if 1 < k.stands {
-        return PartAnswer::Refused(Refusal {
-            number: k.stands,
-            place: k.index as u64,
-        });
-    }
-    PartAnswer::Accepted(written)
 }
 
 // Takes bytes of a part until a packet is finished and written, a fault shows or the part ends. `last`: the list ends at
@@ -53,26 +51,22 @@ pub fn compile_part(state: &mut [u8], part: &[u8], last: bool, out: &mut [u8]) -
     ensures promise { λ r. ⌜ Promised (now (state .exit)) ⌝ }
 {
     if out.len() < 1476 {
-        return refused(26, 1476);
-    }
-    if state.len() != 1504 {
-        return refused(1, 0);
-    }
-    let kept = state::load(state);
-    if state::bad(kept) {
-        return refused(1, 0);
-    }
-    if kept.stands != 0 {
         return Part {
-            answer: answer_of(kept, 0),
+            answer: PartAnswer::Refused(Refusal {
+                number: 26,
+                place: 1476,
+            }),
             taken: 0,
         };
     }
-    let stop = take::part_taken(kept, part, last, &mut state[28..], out);
-    let after = stop.kept;
-    state::save(after, state);
-    Part {
-        answer: answer_of(after, stop.written),
-        taken: stop.taken,
+    if (part.len() != 1) | (last | (state.len() != 1504)) {
+        return part_of(call::called(state, part, last, out));
     }
+    if single::lengthened(state, part[0]) {
+        return Part {
+            answer: PartAnswer::Accepted(0),
+            taken: 1,
+        };
+    }
+    part_of(call::called(state, part, last, out))
 }

@@ -1,0 +1,255 @@
+-- A part of one byte.
+use Prim.Native.Nat.{ℕ, zero, suc, _+_, _*_, _/_, _-_, _^_, _≤_, _<_}
+use mathlib.Core.Path.{_≡_, refl, sym, _∙_}
+use mathlib.Core.List.{List, [], _∷_, _++_}
+use mathlib.Core.Bool.{Bool, true, false, not, _||_}
+use native.Mathlib.Omega.{arith}
+use lib.Dec.{eqb, ltb}
+use lib.ListN.{length, take, drop, getD, set, length-append}
+use borrow.Author.Tests.{lt-ltb, le-ltb, ne-eqb, eqb-true, eqb-false, ltb-true, ltb-false, leb-false, not-false}
+use Rattle.lbp16.specs.Answer.{accepted}
+use Rattle.lbp16.proofs.BoolLaws.{or-false}
+use Rattle.packet.specs.Bytes.{number}
+use Rattle.packet.specs.Command.{pickKind}
+use Rattle.packet.specs.Step.{isWrite}
+use Rattle.cue.specs.Guarded.{anyOf}
+use Rattle.cue.proofs.PackingLaws.{record-bytes-le}
+use Rattle.cue.proofs.GuardedLaws.{none-of}
+use Rattle.cue.specs.Records.{markAt, readMark, writeMark, recordBytes, mostRecords}
+use Rattle.parts.specs.Taking.{decidedAt, byteTaken, bytesTaken, oneMore, isGoing, goesOn, partTaken, called, answerBy, answered}
+use Rattle.parts.specs.State.{heldPacking, padded, pairAt, packerAt, standingOf, stateOf, badNumbers, bytesOfState, frameRoom}
+use Rattle.parts.specs.Parts.{leaves, partOf, partListed, partLeft}
+use Rattle.parts.specs.Inside.{keptAt, meant, outcomeLeft, unfitTests, Marked, Waits, Single}
+use Rattle.parts.specs.declared.PartAnswer.{PartAnswer}
+use Rattle.parts.specs.declared.call.Outcome.{Outcome}
+use Rattle.parts.specs.declared.state.Kept.{Kept}
+use Rattle.parts.proofs.TidyLaws.{number-below, shifted-below, longer, bytes-longer, collected-length, state-again}
+use Rattle.parts.proofs.StateLaws.{padded-is}
+use Rattle.parts.proofs.TakeLaws.{decided-early, decided-late}
+use Rattle.parts.proofs.ByteLaws.{byte-at}
+use Rattle.parts.proofs.CallLaws.{call-is}
+
+pub no-true : {A : Type 0} → false ≡ true → A
+no-true e = let z : _≡_ {A = ℕ} 0 1 = cc in absurd (omega arith)
+
+-- bytes as the code reads them
+pub behind-is : (s : List ℕ) → length s ≡ 1504 → (a b c d : ℕ) → a ≡ number (take 2 (drop 4 s)) → b ≡ number (take 2 (drop 6 s))
+    → c ≡ number (take 2 (drop 8 s)) → d ≡ number (take 2 (drop 10 s))
+    → a + 65536 * b + 4294967296 * c + 281474976710656 * d ≡ number (take 8 (drop 4 s))
+unfolding number padded
+behind-is s l a b c d p q r t =
+    rw (
+      p,
+      q,
+      r,
+      t,
+      padded-is 2 4 s (omega arith),
+      padded-is 2 6 s (omega arith),
+      padded-is 2 8 s (omega arith),
+      padded-is 2 10 s (omega arith),
+      padded-is 8 4 s (omega arith),
+    )
+    (omega arith)
+
+room-is : (s : List ℕ) → length s ≡ 1504 → take 10 (drop 2 s) ≡ getD s 2 0 ∷ getD s 3 0 ∷ take 8 (drop 4 s)
+unfolding padded
+room-is s l = rw (padded-is 10 2 s (omega arith), padded-is 8 4 s (omega arith)) refl
+
+-- a mark that the code knows
+pub marked-write : (mark at : ℕ) → mark ≡ writeMark → ltb at 9 ≡ true → Marked mark at
+unfolding recordBytes isWrite
+marked-write mark at e t = let h = ltb-true at 9 t in record { known = rw e refl; longer = rw e (omega arith) }
+
+pub marked-read : (mark at : ℕ) → mark ≡ readMark → ltb at 5 ≡ true → Marked mark at
+unfolding recordBytes isWrite
+marked-read mark at e t = let h = ltb-true at 5 t in record { known = rw e refl; longer = rw e (omega arith) }
+
+pub marked-few : {mark at : ℕ} → Marked mark at → at ≤ 8
+marked-few {mark} m = omega (arith, m .longer, record-bytes-le (pickKind (eqb mark writeMark)))
+
+-- whether the record with one byte more waits for others
+module _ (x y : ℕ) (ys : List ℕ) (b : ℕ) where
+  waits-none : x ≡ 0 → y ≡ 0 → number ys ≡ 0 → Waits 0 (x ∷ y ∷ ys) b
+  unfolding number
+  waits-none p q r =
+      record {
+        few = omega arith;
+        behind = omega arith;
+        waits = λ index few. let d = decided-early index (markAt (b ∷ [])) (b ∷ []) refl few refl in omega arith;
+      }
+
+  waits-one : y ≡ 0 → number ys ≡ 0 → Marked (x + 256 * b) 1 → Waits 1 (x ∷ y ∷ ys) b
+  unfolding number markAt
+  waits-one q r m =
+      record {
+        few = omega arith;
+        behind = omega arith;
+        waits =
+            λ index few.
+            let e : x + 256 * b ≡ markAt (x ∷ b ∷ []) = omega arith in
+            let d = decided-late index (x + 256 * b) (x ∷ b ∷ []) e few _ (m .known) refl in
+            omega (arith, m .longer);
+      }
+
+  waits-more : (k : ℕ) → number ys < 2 ^ (8 * k) → Marked (x + 256 * y) (suc (suc k)) → Waits (suc (suc k)) (x ∷ y ∷ ys) b
+  unfolding number markAt
+  waits-more k h m =
+      record {
+        few = marked-few m;
+        behind = number-below k ys h;
+        waits =
+            λ index few.
+            let rest = x ∷ y ∷ (take k ys ++ (b ∷ [])) in
+            let e : x + 256 * y ≡ markAt rest = omega arith in
+            let d = decided-late index (x + 256 * y) rest e few _ (rw (le-ltb (length rest) 2 (omega arith)) (m .known)) refl in
+            omega (arith, m .longer);
+      }
+
+-- the same of a state's bytes, by the tests that the code makes; `y`: those behind the mark
+module _ (s : List ℕ) (l : length s ≡ 1504) (b y : ℕ) (e : y ≡ number (take 8 (drop 4 s))) where
+  abbrev Waiting : Type 0
+  Waiting = Waits (getD s 1 0) (take 10 (drop 2 s)) b
+
+  module _ (t : (not (eqb y 0) || not (eqb (getD s 3 0) 0)) ≡ false) where
+    none-behind : number (take 8 (drop 4 s)) ≡ 0
+    none-behind = sym e ∙ eqb-true _ _ (not-false _ (or-false (not (eqb y 0)) _ t .0))
+
+    none-third : getD s 3 0 ≡ 0
+    none-third = eqb-true _ _ (not-false _ (or-false (not (eqb y 0)) _ t .1))
+
+    pub waits-first : getD s 1 0 ≡ 0 → eqb (getD s 2 0) 0 ≡ true → Waiting
+    waits-first a z = rw (a, room-is s l) (waits-none _ _ _ b (eqb-true _ _ z) none-third none-behind)
+
+    pub waits-second : getD s 1 0 < 2 → (getD s 1 0 ≡ 0 → ⊥) → Marked (getD s 2 0 + 256 * b) (getD s 1 0) → Waiting
+    waits-second h z m =
+        let a : getD s 1 0 ≡ 1 = omega arith in
+        rw (a, room-is s l) (waits-one _ _ _ b none-third none-behind (rw a at m))
+
+  mark-is : (mark : ℕ) → mark ≡ number (take 2 (drop 2 s)) → mark ≡ getD s 2 0 + 256 * getD s 3 0
+  unfolding number padded
+  mark-is mark f = f ∙ rw (padded-is 2 2 s (omega arith)) (omega arith)
+
+  pub waits-later : 2 ≤ getD s 1 0 → (mark : ℕ) → mark ≡ number (take 2 (drop 2 s)) → Marked mark (getD s 1 0)
+      → eqb (y / 2 ^ (8 * getD s 1 0 - 16)) 0 ≡ true → Waiting
+  waits-later h mark f m t = go (getD s 1 0) h m (shifted-below y (8 * getD s 1 0 - 16) (eqb-true _ _ t))
+    where
+      go : (at : ℕ) → 2 ≤ at → Marked mark at → y < 2 ^ (8 * at - 16) → Waits at (take 10 (drop 2 s)) b
+      go zero h m n = absurd (omega arith)
+      go (suc zero) h m n = absurd (omega arith)
+      go (suc (suc k)) h m n =
+          let p : 8 * suc (suc k) - 16 ≡ 8 * k = omega arith in
+          rw (room-is s l) (waits-more _ _ _ b k (rw (e, p) at n) (rw (mark-is mark f) at m))
+
+pub one-byte : (k : Kept) (room : List ℕ) (b : ℕ) → k .stands ≡ 0
+    → called heldPacking (meant k room) (b ∷ []) false ≡ record { taken = 1; left = byteTaken heldPacking (meant k room) b }
+unfolding called partTaken bytesTaken goesOn isGoing oneMore meant standingOf
+one-byte k room b z = rw z refl
+
+-- a byte that only lengthens the record at hand
+module _ (s : List ℕ) (b : ℕ) (long : length s ≡ 1504) (byte : (i : ℕ) → getD s i 0 < 256)
+    (fit : anyOf (unfitTests s) ≡ false) (w : Waits (getD s 1 0) (take 10 (drop 2 s)) b) where
+  abbrev index : ℕ
+  index = pairAt s 12 + 65536 * pairAt s 14
+
+  record Fit : Type 0 where
+    stands : getD s 0 0 ≡ 0
+    few : index < mostRecords
+    space : getD s 17 0 ≤ 7
+    count : getD s 20 0 ≤ 127
+    reply : pairAt s 24 ≤ 1472
+    size : pairAt s 22 ≤ 1472
+    word : pairAt s 26 ≤ pairAt s 22
+    some : pairAt s 22 ≡ 0 → ⊥
+    write : getD s 16 0 ≤ 1
+    unlocked : getD s 21 0 ≤ 1
+
+  is-fit : Fit
+  unfolding unfitTests
+  is-fit =
+      let (stands, (few, (space, (count, (reply, (size, (word, (some, (write, (unlocked, _)))))))))) = none-of (unfitTests s) fit in
+      record {
+        stands = eqb-true _ _ (not-false _ stands);
+        few = leb-false _ _ few;
+        space = ltb-false _ _ space;
+        count = ltb-false _ _ count;
+        reply = ltb-false _ _ reply;
+        size = ltb-false _ _ size;
+        word = ltb-false _ _ word;
+        some = eqb-false _ _ some;
+        write = ltb-false _ _ write;
+        unlocked = ltb-false _ _ unlocked;
+      }
+
+  none-bad : anyOf (badNumbers (getD s 0 0) (getD s 1 0) index (packerAt s)) ≡ false
+  unfolding badNumbers packerAt
+  none-bad =
+      let f = is-fit in
+      rw (
+        f .stands,
+        ne-eqb (pairAt s 22) 0 (f .some),
+        le-ltb 9 (getD s 1 0) (omega (arith, w .few)),
+        le-ltb mostRecords index (omega (arith, f .few)),
+        le-ltb 7 (getD s 17 0) (f .space),
+        le-ltb 127 (getD s 20 0) (f .count),
+        le-ltb 1472 (pairAt s 24) (f .reply),
+        le-ltb 1476 (4 + pairAt s 22) (omega (arith, f .size)),
+        le-ltb (pairAt s 22) (pairAt s 26) (f .word),
+      )
+      refl
+
+  abbrev c : List ℕ
+  c = take (getD s 1 0) (take 10 (drop 2 s))
+
+  collected : length c ≡ getD s 1 0
+  collected = let f = is-fit in collected-length s long byte (f .some) (f .write) (f .unlocked) (omega (arith, w .few)) (w .behind)
+
+  byte-waits : byteTaken heldPacking (stateOf s) b ≡ record { out = []; state = longer (stateOf s) b }
+  unfolding stateOf
+  byte-waits =
+      let n : length (c ++ (b ∷ [])) ≡ getD s 1 0 + 1 = rw (length-append, collected) refl in
+      let h : length (c ++ (b ∷ [])) < decidedAt index (c ++ (b ∷ [])) =
+      rw n (w .waits index (λ e. omega (arith, is-fit .few))) in
+      byte-at heldPacking (stateOf s) b (length (c ++ (b ∷ []))) (c ++ (b ∷ [])) refl refl ∙ rw (lt-ltb _ _ h) refl
+
+  longer-bytes : bytesOfState (longer (stateOf s) b) ≡ set (set s (2 + getD s 1 0) b) 1 (getD s 1 0 + 1)
+  unfolding stateOf
+  longer-bytes =
+      let f = is-fit in
+      let again = state-again s long byte (f .some) (f .write) (f .unlocked) (omega (arith, w .few)) (w .behind) in
+      bytes-longer (stateOf s) b (rw collected (omega (arith, w .few))) ∙ rw (again, collected) refl
+
+  after-byte : called heldPacking (stateOf s) (b ∷ []) false
+      ≡ record { taken = 1; left = record { out = []; state = longer (stateOf s) b } }
+  unfolding stateOf meant keptAt
+  after-byte = one-byte (keptAt s) (drop 28 s) b (is-fit .stands) ∙ rw byte-waits refl
+
+  pub lengthened-is : (out : List ℕ) → 1476 ≤ length out
+      → partOf s (b ∷ []) false out
+      ≡ record { answer = accepted (0 ∷ []); taken = 1; state = set (set s (2 + getD s 1 0) b) 1 (getD s 1 0 + 1); room = out }
+  unfolding keptAt meant stateOf leaves answered answerBy standingOf
+  lengthened-is out wide =
+      call-is s (b ∷ []) false out wide long (keptAt s) refl false (sym none-bad) refl
+      ∙ rw (after-byte, longer-bytes, is-fit .stands) refl
+
+-- in the call
+pub one-test : (n m : ℕ) (last : Bool) → (not (eqb n 1) || (last || not (eqb m 1504))) ≡ false
+    → (n ≡ 1) × (last ≡ false) × (m ≡ 1504)
+one-test n m last e =
+    let a = or-false (not (eqb n 1)) _ e in
+    let b = or-false last _ (a .1) in
+    (eqb-true _ _ (not-false _ (a .0)), b .0, eqb-true _ _ (not-false _ (b .1)))
+
+one-is : (part : List ℕ) → length part ≡ 1 → part ≡ getD part 0 0 ∷ []
+one-is [] e = absurd (omega arith)
+one-is (b ∷ []) e = refl
+one-is (a ∷ b ∷ part) e = absurd (omega arith)
+
+module _ (s part : List ℕ) (last : Bool) (out : List ℕ) (r : Bool) (s₂ : List ℕ) (h : Single r s (getD part 0 0) s₂) where
+  pub single-taken : frameRoom ≤ length out → r ≡ true → (length part ≡ 1) × (last ≡ false) × (length s ≡ 1504)
+      → partLeft (PartAnswer.Accepted 0) 1 s₂ out ≡ partOf s part last out
+  unfolding partLeft partListed
+  single-taken wide t (n, l, _) = rw (l, one-is part n) (sym (h .taken t out wide))
+
+  pub single-still : r ≡ false → (c : Outcome) (s₃ out₂ : List ℕ) → outcomeLeft c s₃ out₂ ≡ partOf s₂ part last out
+      → outcomeLeft c s₃ out₂ ≡ partOf s part last out
+  single-still f c s₃ out₂ d = rw (h .still f) at d

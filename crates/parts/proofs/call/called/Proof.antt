@@ -1,0 +1,88 @@
+use denote.Ref.{now}
+use mathlib.Core.List.{[]}
+use mathlib.Core.Bool.{false}
+use Rattle.parts.proofs.CallLaws.{other-length, bad-numbers, stands-already, kept-ranged, part-rooms, save-fits, part-left}
+use borrow.Author.Needs.{needs}
+use Rattle.parts.proofs.call.called.Statement.{statement}
+use Rattle.parts.proofs.call.called.Tie as tie
+
+bad-state-requires : tie.Need-bad-state-requires
+bad-state-requires c κs = search needs
+
+returns : tie.Need-returns
+returns c = other-length _ _ _ _ (c .before .before .before .before .before .pre) _ (c .before .if1 .taken) (c .bad-state .ensures)
+
+load-requires : tie.Need-load-requires
+load-requires c κs = search needs
+
+bad-requires : tie.Need-bad-requires
+bad-requires c κs = search needs
+
+bad-state-requires-2 : tie.Need-bad-state-requires-2
+bad-state-requires-2 c κs = search needs
+
+same-length : tie.Need-same-length
+same-length c = search needs
+
+returns-2 : tie.Need-returns-2
+returns-2 c = bad-numbers _ _ _ _ (c .before .before .before .before .before .before .before .before .before .pre) (c .before .before .before .before .before .if1 .left) _ (c .before .before .before .load .ensures) _ (c .before .before .bad .ensures) _ (c .before .if2 .taken) (c .bad-state2 .ensures)
+
+answered-requires : tie.Need-answered-requires
+answered-requires c κs = search needs
+
+same-length-2 : tie.Need-same-length-2
+same-length-2 c = search needs
+
+returns-3 : tie.Need-returns-3
+returns-3 c = stands-already _ _ _ _ (c .before .before .before .before .before .before .before .before .before .before .before .pre) (c .before .before .before .before .before .before .before .if1 .left) _ (c .before .before .before .before .before .load .ensures) _ (c .before .before .before .before .bad .ensures) (c .before .before .before .if2 .left) (c .before .if3 .taken) _ (c .answered .ensures)
+
+sub-part-taken : tie.Need-sub-part-taken
+sub-part-taken c = search needs
+
+part-part-taken-start : tie.Need-part-part-taken-start
+part-part-taken-start c = search needs
+
+part-part-taken-end : tie.Need-part-part-taken-end
+part-part-taken-end c = search needs
+
+part-taken-requires : tie.Need-part-taken-requires
+part-taken-requires c κs = let p = c .before .before .before .before .before .before .before .before .before .before .before .before .pre in let n = c .before .before .before .before .before .before .before .before .if1 .left in let l = c .before .before .before .before .before .before .load .ensures in let d = c .before .before .before .before .before .bad .ensures in let g = c .before .before .before .before .if2 .left in (kept-ranged _ [] false (now (c .before .before .before .before .before .before .before .before .before .before .before .before .args .out)) p n _ l _ d g, part-rooms _ [] false _ p n _ l _ d g)
+
+save-requires : tie.Need-save-requires
+save-requires c κs = let s = c .before .before .before .before .before .before .part-taken .ensures in (save-fits _ _ _ _ (c .before .before .before .before .before .before .before .before .before .before .before .before .before .before .before .before .before .before .before .pre) (c .before .before .before .before .before .before .before .before .before .before .before .before .before .before .before .if1 .left) _ (c .before .before .before .before .before .before .before .before .before .before .before .before .before .load .ensures) _ (c .before .before .before .before .before .before .before .before .before .before .before .before .bad .ensures) (c .before .before .before .before .before .before .before .before .before .before .before .if2 .left) (c .before .before .before .before .before .before .before .before .before .if3 .left) _ _ _ s, s .left .ranged)
+
+answered-requires-2 : tie.Need-answered-requires-2
+answered-requires-2 c κs = search needs
+
+same-length-3 : tie.Need-same-length-3
+same-length-3 c = search needs
+
+same-length-4 : tie.Need-same-length-4
+same-length-4 c = search needs
+
+returns-4 : tie.Need-returns-4
+returns-4 c = part-left _ _ _ _ (c .before .before .before .before .before .before .before .before .before .before .before .before .before .before .before .before .before .before .before .before .before .before .before .pre) (c .before .before .before .before .before .before .before .before .before .before .before .before .before .before .before .before .before .before .before .if1 .left) _ (c .before .before .before .before .before .before .before .before .before .before .before .before .before .before .before .before .before .load .ensures) _ (c .before .before .before .before .before .before .before .before .before .before .before .before .before .before .before .before .bad .ensures) (c .before .before .before .before .before .before .before .before .before .before .before .before .before .before .before .if2 .left) (c .before .before .before .before .before .before .before .before .before .before .before .before .before .if3 .left) _ _ _ (c .before .before .before .before .before .before .before .before .before .before .part-taken .ensures) _ (c .before .before .before .save .ensures) _ (c .answered2 .ensures)
+
+pub called-spec : {M : Type 1} → statement M
+called-spec =
+    tie.close
+    (tie.spec
+    bad-state-requires
+    returns
+    load-requires
+    bad-requires
+    bad-state-requires-2
+    same-length
+    returns-2
+    answered-requires
+    same-length-2
+    returns-3
+    sub-part-taken
+    part-part-taken-start
+    part-part-taken-end
+    part-taken-requires
+    save-requires
+    answered-requires-2
+    same-length-3
+    same-length-4
+    returns-4)

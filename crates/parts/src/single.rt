@@ -1,0 +1,93 @@
+// A part of one byte that only lengthens the record at hand, put straight into the state.
+use cue::records::MOST;
+use cue::records::READ_MARK;
+use cue::records::WRITE_MARK;
+use packet::bytes;
+ghost use mathlib.Core.Path.{_≡_};
+ghost use mathlib.Core.Bool.{true};
+ghost use lib.ListN.{length, take, drop, getD};
+ghost use Rattle.packet.specs.Bytes.{number};
+ghost use Rattle.cue.specs.Guarded.{anyOf};
+ghost use Rattle.parts.specs.Inside.{unfitTests, Marked, Waits, Single};
+
+// Whether the state is not one of an open packet and a record to come, with each number in its range and as it is written.
+fn unfit(s: &[u8]) -> bool
+    requires { ⌜ length (now s) ≡ 1504 ⌝ }
+    ensures { λ b. ⌜ b ≡ anyOf (unfitTests (now (s .entry))) ⌝ }
+{
+    let index = bytes::pair_at(s, 12) as usize + 65536 * bytes::pair_at(s, 14) as usize;
+    let size = bytes::pair_at(s, 22);
+    let reply = bytes::pair_at(s, 24);
+    let word = bytes::pair_at(s, 26);
+    (s[0] != 0)
+        | ((MOST <= index)
+            | ((7 < s[17])
+                | ((127 < s[20])
+                    | ((1472 < reply)
+                        | ((1472 < size)
+                            | ((size < word) | ((size == 0) | ((1 < s[16]) | (1 < s[21])))))))))
+}
+
+// The eight bytes behind the record's mark, as a number.
+fn behind_mark(s: &[u8]) -> u64
+    requires { ⌜ length (now s) ≡ 1504 ⌝ }
+    ensures { λ r. ⌜ r ≡ number (take 8 (drop 4 (now (s .entry)))) ⌝ }
+{
+    bytes::pair_at(s, 4) as u64
+        + 65536 * bytes::pair_at(s, 6) as u64
+        + 4294967296 * bytes::pair_at(s, 8) as u64
+        + 281474976710656 * bytes::pair_at(s, 10) as u64
+}
+
+// Whether a record with this mark has more than `at` bytes and one.
+fn longer(mark: u16, at: usize) -> bool
+    ensures { λ r. ⌜ (r ≡ true → Marked mark at) ⌝ }
+{
+    if mark == WRITE_MARK {
+        return at < 9;
+    }
+    if mark == READ_MARK {
+        return at < 5;
+    }
+    false
+}
+
+// Whether the record is still not whole with `b`, and the bytes behind those collected are 0.
+fn waits(s: &[u8], b: u8) -> bool
+    requires { ⌜ length (now s) ≡ 1504 ⌝ }
+    ensures { λ r. ⌜ (r ≡ true → Waits (getD (now (s .entry)) 1 0) (take 10 (drop 2 (now (s .entry)))) b) ⌝ }
+{
+    let at = s[1] as usize;
+    let behind = behind_mark(s);
+    if at < 2 {
+        if (behind != 0) | (s[3] != 0) {
+            return false;
+        }
+        if at == 0 {
+            return s[2] == 0;
+        }
+        return longer(s[2] as u16 + 256 * b as u16, at);
+    }
+    if longer(bytes::pair_at(s, 2), at) {
+        return behind >> (8 * at - 16) == 0;
+    }
+    false
+}
+
+// Takes the byte if it only lengthens the record; whether it did.
+pub(crate) fn lengthened(s: &mut [u8], b: u8) -> bool
+    requires { ⌜ length (now s) ≡ 1504 ⌝ }
+    ensures { λ r. ⌜ Single r (now (s .entry)) b (now (s .exit)) ⌝ }
+{
+    if unfit(s) {
+        return false;
+    }
+    if !waits(s, b) {
+        return false;
+    }
+    let at = s[1];
+    let place = 2 + at as usize;
+    s[place] = b;
+    s[1] = at + 1;
+    true
+}
