@@ -6,28 +6,35 @@ use mathlib.Core.Bool.{Bool, true, false, not, _||_}
 use native.Mathlib.Omega.{arith}
 use lib.Dec.{eqb, ltb}
 use lib.ListN.{length, take, drop, getD, set, length-append}
-use borrow.Author.Tests.{lt-ltb, le-ltb, ne-eqb, eqb-true, eqb-false, ltb-true, ltb-false, leb-false, not-false}
+use borrow.Author.Tests.{lt-ltb, le-ltb, eq-eqb, ne-eqb, eqb-true, eqb-false, ltb-true, ltb-false, leb-false, not-false}
 use Rattle.lbp16.specs.Answer.{accepted}
 use Rattle.lbp16.proofs.BoolLaws.{or-false}
 use Rattle.packet.specs.Bytes.{number}
 use Rattle.packet.specs.Command.{pickKind}
 use Rattle.packet.specs.Step.{isWrite}
-use Rattle.cue.specs.Guarded.{anyOf}
+use Rattle.packet.specs.Rules.{first}
+use Rattle.packet.proofs.RuleLaws.{none-holds}
+use Rattle.cue.specs.Guarded.{anyOf, turnedWithin, putWithin}
 use Rattle.cue.proofs.PackingLaws.{record-bytes-le}
 use Rattle.cue.proofs.GuardedLaws.{none-of}
-use Rattle.cue.specs.Records.{markAt, readMark, writeMark, recordBytes, mostRecords}
-use Rattle.parts.specs.Taking.{decidedAt, byteTaken, bytesTaken, oneMore, isGoing, goesOn, partTaken, called, answerBy, answered}
+use Rattle.cue.specs.Records.{markAt, readMark, writeMark, recordKind, recordBytes, recordStep, recordRefusals, mostRecords}
+use Rattle.cue.specs.Inside.{recordAt}
+use Rattle.cue.specs.declared.records.Record.{Record}
+use Rattle.cue.specs.declared.packer.Packer.{Packer}
+use Rattle.cue.proofs.ReadingLaws.{passing}
+use Rattle.parts.specs.Taking.{unknownMark, decidedAt, byteTaken, bytesTaken, oneMore, isGoing, goesOn, partTaken, called, answerBy, answered}
 use Rattle.parts.specs.State.{heldPacking, padded, pairAt, packerAt, standingOf, stateOf, badNumbers, bytesOfState, frameRoom}
 use Rattle.parts.specs.Parts.{leaves, partOf, partListed, partLeft}
-use Rattle.parts.specs.Inside.{keptAt, meant, outcomeLeft, unfitTests, Marked, Waits, Single}
+use Rattle.parts.specs.Inside.{keptAt, meant, Ranged, Leaves, Stops, listedBy, outcomeLeft, unfitTests, Marked, Waits, Single}
 use Rattle.parts.specs.declared.PartAnswer.{PartAnswer}
 use Rattle.parts.specs.declared.call.Outcome.{Outcome}
 use Rattle.parts.specs.declared.state.Kept.{Kept}
 use Rattle.parts.proofs.TidyLaws.{number-below, shifted-below, longer, bytes-longer, collected-length, state-again}
 use Rattle.parts.proofs.StateLaws.{padded-is}
-use Rattle.parts.proofs.TakeLaws.{decided-early, decided-late}
-use Rattle.parts.proofs.ByteLaws.{byte-at}
-use Rattle.parts.proofs.CallLaws.{call-is}
+use Rattle.parts.proofs.TakeLaws.{decided-early, decided-late, turns-open, record-leaves}
+use Rattle.parts.proofs.ByteLaws.{shown-length, byte-at, byte-record}
+use Rattle.parts.proofs.PartLaws.{stands-going}
+use Rattle.parts.proofs.CallLaws.{call-is, kept-ranged, part-rooms, save-fits, part-left}
 
 pub no-true : {A : Type 0} → false ≡ true → A
 no-true e = let z : _≡_ {A = ℕ} 0 1 = cc in absurd (omega arith)
@@ -140,10 +147,15 @@ module _ (s : List ℕ) (l : length s ≡ 1504) (b y : ℕ) (e : y ≡ number (t
           let p : 8 * suc (suc k) - 16 ≡ 8 * k = omega arith in
           rw (room-is s l) (waits-more _ _ _ b k (rw (e, p) at n) (rw (mark-is mark f) at m))
 
-pub one-byte : (k : Kept) (room : List ℕ) (b : ℕ) → k .stands ≡ 0
+one-part : (k : Kept) (room : List ℕ) (b : ℕ) → k .stands ≡ 0
+    → partTaken heldPacking (meant k room) (b ∷ []) false ≡ record { taken = 1; left = byteTaken heldPacking (meant k room) b }
+unfolding partTaken bytesTaken goesOn isGoing oneMore meant standingOf
+one-part k room b z = rw z refl
+
+one-byte : (k : Kept) (room : List ℕ) (b : ℕ) → k .stands ≡ 0
     → called heldPacking (meant k room) (b ∷ []) false ≡ record { taken = 1; left = byteTaken heldPacking (meant k room) b }
-unfolding called partTaken bytesTaken goesOn isGoing oneMore meant standingOf
-one-byte k room b z = rw z refl
+unfolding called meant
+one-byte k room b z = rw (stands-going, eq-eqb (k .stands) 0 z) (one-part k room b z)
 
 -- a byte that only lengthens the record at hand
 module _ (s : List ℕ) (b : ℕ) (long : length s ≡ 1504) (byte : (i : ℕ) → getD s i 0 < 256)
@@ -239,17 +251,105 @@ one-test n m last e =
     let b = or-false last _ (a .1) in
     (eqb-true _ _ (not-false _ (a .0)), b .0, eqb-true _ _ (not-false _ (b .1)))
 
+pub one-left : (n : ℕ) (last : Bool) → (not (eqb n 1) || last) ≡ false → n ≡ 1
+one-left n last e = eqb-true _ _ (not-false _ (or-false (not (eqb n 1)) last e .0))
+
 one-is : (part : List ℕ) → length part ≡ 1 → part ≡ getD part 0 0 ∷ []
 one-is [] e = absurd (omega arith)
 one-is (b ∷ []) e = refl
 one-is (a ∷ b ∷ part) e = absurd (omega arith)
 
-module _ (s part : List ℕ) (last : Bool) (out : List ℕ) (r : Bool) (s₂ : List ℕ) (h : Single r s (getD part 0 0) s₂) where
-  pub single-taken : frameRoom ≤ length out → r ≡ true → (length part ≡ 1) × (last ≡ false) × (length s ≡ 1504)
-      → partLeft (PartAnswer.Accepted 0) 1 s₂ out ≡ partOf s part last out
-  unfolding partLeft partListed
-  single-taken wide t (n, l, _) = rw (l, one-is part n) (sym (h .taken t out wide))
+pub single-taken : (s part : List ℕ) (last : Bool) (out : List ℕ) (r : Bool) (s₂ : List ℕ) → Single r s (getD part 0 0 ∷ []) false s₂
+    → frameRoom ≤ length out → r ≡ true → (length part ≡ 1) × (last ≡ false) × (length s ≡ 1504)
+    → partLeft (PartAnswer.Accepted 0) 1 s₂ out ≡ partOf s part last out
+unfolding partLeft partListed
+single-taken s part last out r s₂ h wide t (n, l, _) = rw (l, one-is part n) (sym (h .taken t out wide))
 
-  pub single-still : r ≡ false → (c : Outcome) (s₃ out₂ : List ℕ) → outcomeLeft c s₃ out₂ ≡ partOf s₂ part last out
-      → outcomeLeft c s₃ out₂ ≡ partOf s part last out
-  single-still f c s₃ out₂ d = rw (h .still f) at d
+module _ {r : Bool} {s p : List ℕ} {l : Bool} {s₂ : List ℕ} (h : Single r s p l s₂) where
+  pub outcome-taken : (out : List ℕ) → frameRoom ≤ length out → r ≡ true
+      → outcomeLeft (record { number = 0; value = 0; taken = 1 }) s₂ out ≡ partOf s p l out
+  unfolding outcomeLeft listedBy
+  outcome-taken out wide t = sym (h .taken t out wide)
+
+  module _ (f : r ≡ false) where
+    pub kept-still : (k : Kept) → k ≡ keptAt s → k ≡ keptAt s₂
+    kept-still k e = rw (h .still f) e
+
+    pub long-still : length s ≡ 1504 → length s₂ ≡ 1504
+    long-still e = rw (h .still f) e
+
+    pub single-still : (part : List ℕ) (last : Bool) (out : List ℕ) (c : Outcome) (s₃ out₂ : List ℕ)
+        → outcomeLeft c s₃ out₂ ≡ partOf s₂ part last out → outcomeLeft c s₃ out₂ ≡ partOf s part last out
+    single-still part last out c s₃ out₂ d = rw (h .still f) at d
+
+-- a good record is whole
+shown-decides : (index : ℕ) (rest : List ℕ) → first (recordRefusals index rest) ≡ 0 → decidedAt index rest ≤ length rest
+unfolding decidedAt recordRefusals unknownMark recordStep
+shown-decides index rest e =
+    let w = passing index rest e in
+    let n = none-holds (recordRefusals index rest) (omega arith) e in
+    let known : unknownMark rest ≡ false = or-false (unknownMark rest) _ (n .1 .0) .0 in
+    let long : recordBytes (recordKind rest) ≤ length rest = w .bytes in
+    let six = record-bytes-le (recordKind rest) in
+    rw (ne-eqb index mostRecords (w .few), le-ltb (length rest) 2 (omega arith), known) long
+
+-- a byte that completes a record which joins the open packet
+module _ (s part : List ℕ) (last : Bool) (long : length s ≡ 1504) (k : Kept) (e : k ≡ keptAt s)
+    (good : anyOf (badNumbers (k .stands) (k .collected) (k .index) (k .packer)) ≡ false) where
+  abbrev rest : List ℕ
+  rest = take (k .collected + 1) (set (k .bytes) (k .collected) (getD part 0 0))
+
+  abbrev room : List ℕ
+  room = take (length s - 28) (drop 28 s)
+
+  abbrev wide : 1476 ≤ length s
+  wide = omega arith
+
+  pub completed-kept : Ranged k
+  completed-kept = kept-ranged s part last s wide long k e false (sym good) refl
+
+  module _ (z : k .stands ≡ 0) (t : (not (eqb (length part) 1) || last) ≡ false) (n : ℕ)
+      (f : n ≡ first (recordRefusals (k .index) rest)) (g : n ≡ 0) (r : Record) (a : r ≡ recordAt rest) (q : Packer)
+      (d : q ≡ turnedWithin (k .packer) r) (one : q .packets ≡ 2 → ⊥) (room₂ : List ℕ) (p : room₂ ≡ putWithin q rest room) where
+    passes : first (recordRefusals (k .index) rest) ≡ 0
+    passes = sym f ∙ g
+
+    abbrev after : Kept
+    after = record { stands = 0; collected = 0; bytes = k .bytes; index = k .index + 1; packer = q }
+
+    abbrev lent : List ℕ
+    lent = take 28 s ++ (room₂ ++ drop (length s - 28) (drop 28 s))
+
+    record-in : (out : List ℕ) → 1476 ≤ length out → Leaves (byteTaken heldPacking (meant k room) (getD part 0 0)) after 0 room₂ out out
+    record-in out h =
+        let rg = completed-kept in
+        let rm = part-rooms s part last out h long k e false (sym good) refl in
+        let turns = turns-open (k .packer) rest room (rg .sound) (record { index = k .index; passes = passes }) r a q d out one in
+        let shown : k .collected + 1 ≡ length rest = shown-length k (getD part 0 0) rg in
+        let h : decidedAt (k .index) rest ≤ length rest = shown-decides (k .index) rest passes in
+        byte-record k (getD part 0 0) rg room out rm (decidedAt (k .index) rest) refl (omega arith) n f g after 0 room₂ out
+        (record-leaves k rest room out rg rm passes q 0 out room₂ turns p)
+
+    stops : (out : List ℕ) → 1476 ≤ length out
+        → Stops (partTaken heldPacking (meant k room) part last) (record { taken = 1; kept = after; written = 0 }) room₂ out out
+    stops out h =
+        let o = or-false (not (eqb (length part) 1)) last t in
+        let i = one-is part (one-left (length part) last t) in
+        rw (o .1, i, one-part k room (getD part 0 0) z) (record { taken = refl; left = record-in out h })
+
+    pub completed-fits : length lent ≡ 1504
+    completed-fits = save-fits s part last s wide long k e false (sym good) refl z _ room₂ s (stops s wide)
+
+    pub completed-ranged : Ranged after
+    completed-ranged = record-in s wide .ranged
+
+    pub completed-is : (s₂ : List ℕ) → s₂ ≡ bytesOfState (meant after (drop 28 lent)) → Single true s part last s₂
+    unfolding outcomeLeft listedBy answerBy standingOf
+    completed-is s₂ v =
+        record {
+          taken =
+              λ _ out h. sym
+              (part-left s part last out h long k e false (sym good) refl z _ room₂ out (stops out h) s₂ v
+              (record { number = 0; value = 0; taken = 1 }) (refl, refl));
+          still = λ x. no-true (sym x);
+        }

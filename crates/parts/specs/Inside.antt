@@ -162,8 +162,8 @@ pub record Waits (at : ℕ) (room : List ℕ) (b : ℕ) : Type 0 where
   pub behind : number (drop at room) ≡ 0
   pub waits : (index : ℕ) → (index ≡ mostRecords → ⊥) → at + 1 < decidedAt index (take at room ++ (b ∷ []))
 
--- A part of one byte that is taken, with nothing handed out, or left alone.
-pub record Single (took : Bool) (s : List ℕ) (b : ℕ) (s₂ : List ℕ) : Type 0 where
+-- A part of one byte that is taken, with nothing handed out; or a part that is left alone.
+pub record Single (took : Bool) (s part : List ℕ) (last : Bool) (s₂ : List ℕ) : Type 0 where
   pub taken : took ≡ true → (room : List ℕ) → frameRoom ≤ length room
-      → partOf s (b ∷ []) false room ≡ record { answer = accepted (0 ∷ []); taken = 1; state = s₂; room = room }
+      → partOf s part last room ≡ record { answer = accepted (0 ∷ []); taken = 1; state = s₂; room = room }
   pub still : took ≡ false → s₂ ≡ s

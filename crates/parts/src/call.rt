@@ -1,4 +1,5 @@
 // A call that takes the state apart and puts it together again.
+use crate::single;
 use crate::state;
 use crate::state::Kept;
 use crate::take;
@@ -58,6 +59,13 @@ pub(crate) fn called(state: &mut [u8], part: &[u8], last: bool, out: &mut [u8]) 
     }
     if kept.stands != 0 {
         return answered(kept, 0, 0);
+    }
+    if single::completed(kept, part, last, state) {
+        return Outcome {
+            number: 0,
+            value: 0,
+            taken: 1,
+        };
     }
     let stop = take::part_taken(kept, part, last, &mut state[28..], out);
     let after = stop.kept;

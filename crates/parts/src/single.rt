@@ -1,14 +1,20 @@
-// A part of one byte that only lengthens the record at hand, put straight into the state.
+// A part of one byte: the short ways.
+use crate::state;
+use crate::state::Kept;
+use cue::guarded;
+use cue::records;
 use cue::records::MOST;
 use cue::records::READ_MARK;
 use cue::records::WRITE_MARK;
 use packet::bytes;
 ghost use mathlib.Core.Path.{_≡_};
-ghost use mathlib.Core.Bool.{true};
+ghost use mathlib.Core.List.{[], _∷_};
+ghost use mathlib.Core.Bool.{true, false};
 ghost use lib.ListN.{length, take, drop, getD};
 ghost use Rattle.packet.specs.Bytes.{number};
 ghost use Rattle.cue.specs.Guarded.{anyOf};
-ghost use Rattle.parts.specs.Inside.{unfitTests, Marked, Waits, Single};
+ghost use Rattle.parts.specs.State.{badNumbers};
+ghost use Rattle.parts.specs.Inside.{keptAt, unfitTests, Marked, Waits, Single};
 
 // Whether the state is not one of an open packet and a record to come, with each number in its range and as it is written.
 fn unfit(s: &[u8]) -> bool
@@ -77,7 +83,7 @@ fn waits(s: &[u8], b: u8) -> bool
 // Takes the byte if it only lengthens the record; whether it did.
 pub(crate) fn lengthened(s: &mut [u8], b: u8) -> bool
     requires { ⌜ length (now s) ≡ 1504 ⌝ }
-    ensures { λ r. ⌜ Single r (now (s .entry)) b (now (s .exit)) ⌝ }
+    ensures { λ r. ⌜ Single r (now (s .entry)) (b ∷ []) false (now (s .exit)) ⌝ }
 {
     if unfit(s) {
         return false;
@@ -89,5 +95,38 @@ pub(crate) fn lengthened(s: &mut [u8], b: u8) -> bool
     let place = 2 + at as usize;
     s[place] = b;
     s[1] = at + 1;
+    true
+}
+
+// Takes the byte if it completes a good record that joins the open packet; whether it did. `k` is what the state holds.
+pub(crate) fn completed(k: Kept, part: &[u8], last: bool, s: &mut [u8]) -> bool
+    requires { ⌜ (length (now s) ≡ 1504) × (k ≡ keptAt (now s)) × (anyOf (badNumbers (k .stands) (k .collected) (k .index) (k .packer)) ≡ false) × (k .stands ≡ 0) ⌝ }
+    ensures { λ r. ⌜ Single r (now (s .entry)) (now (part .entry)) last (now (s .exit)) ⌝ }
+{
+    if (part.len() != 1) | last {
+        return false;
+    }
+    let mut rest = k.bytes;
+    let at = k.collected;
+    rest[at] = part[0];
+    let shown = at + 1;
+    let index = k.index;
+    if records::record_refusal(&rest[..shown], index) != 0 {
+        return false;
+    }
+    let packer = guarded::turned(k.packer, records::record_at(&rest[..shown]));
+    if packer.packets == 2 {
+        return false;
+    }
+    guarded::put(packer, &rest[..shown], &mut s[28..]);
+    let bytes = k.bytes;
+    let after = Kept {
+        stands: 0,
+        collected: 0,
+        bytes,
+        index: index + 1,
+        packer,
+    };
+    state::save(after, s);
     true
 }

@@ -51,7 +51,7 @@ same-length-5 : tie.Need-same-length-5
 same-length-5 c = search needs
 
 returns-4 : tie.Need-returns-4
-returns-4 c = (part-is _ _ _ _ _ _ _ (single-still _ _ _ _ _ _ (c .before .before .before .before .before .before .before .before .before .before .before .lengthened .ensures) (c .before .before .before .before .before .before .before .before .if3 .left) _ _ _ (c .before .before .before .before .before .called2 .ensures)) _ (c .part-of2 .ensures), λ list at out calls. promise calls)
+returns-4 c = (part-is _ _ _ _ _ _ _ (single-still (c .before .before .before .before .before .before .before .before .before .before .before .lengthened .ensures) (c .before .before .before .before .before .before .before .before .if3 .left) _ _ _ _ _ _ (c .before .before .before .before .before .called2 .ensures)) _ (c .part-of2 .ensures), λ list at out calls. promise calls)
 
 pub compile-part-spec : {M : Type 1} → statement M
 compile-part-spec =

@@ -1,7 +1,9 @@
 use denote.Ref.{now}
+use mathlib.Core.Path.{sym, _∙_}
 use mathlib.Core.List.{[]}
 use mathlib.Core.Bool.{false}
 use Rattle.parts.proofs.CallLaws.{other-length, bad-numbers, stands-already, kept-ranged, part-rooms, save-fits, part-left}
+use Rattle.parts.proofs.SingleLaws.{outcome-taken, kept-still, long-still, single-still}
 use borrow.Author.Needs.{needs}
 use Rattle.parts.proofs.call.called.Statement.{statement}
 use Rattle.parts.proofs.call.called.Tie as tie
@@ -36,6 +38,15 @@ same-length-2 c = search needs
 returns-3 : tie.Need-returns-3
 returns-3 c = stands-already _ _ _ _ (c .before .before .before .before .before .before .before .before .before .before .before .pre) (c .before .before .before .before .before .before .before .if1 .left) _ (c .before .before .before .before .before .load .ensures) _ (c .before .before .before .before .bad .ensures) (c .before .before .before .if2 .left) (c .before .if3 .taken) _ (c .answered .ensures)
 
+completed-requires : tie.Need-completed-requires
+completed-requires c κs = (c .before .before .before .before .before .before .before .if1 .left, c .before .before .before .before .before .load .ensures, sym (c .before .before .before .before .bad .ensures) ∙ c .before .before .before .if2 .left, c .before .if3 .left)
+
+same-length-3 : tie.Need-same-length-3
+same-length-3 c = search needs
+
+returns-4 : tie.Need-returns-4
+returns-4 c = outcome-taken (c .before .before .before .completed .ensures) _ (c .before .before .before .before .before .before .before .before .before .before .before .before .before .before .before .pre) (c .if4 .taken)
+
 sub-part-taken : tie.Need-sub-part-taken
 sub-part-taken c = search needs
 
@@ -46,22 +57,22 @@ part-part-taken-end : tie.Need-part-part-taken-end
 part-part-taken-end c = search needs
 
 part-taken-requires : tie.Need-part-taken-requires
-part-taken-requires c κs = let p = c .before .before .before .before .before .before .before .before .before .before .before .before .pre in let n = c .before .before .before .before .before .before .before .before .if1 .left in let l = c .before .before .before .before .before .before .load .ensures in let d = c .before .before .before .before .before .bad .ensures in let g = c .before .before .before .before .if2 .left in (kept-ranged _ [] false (now (c .before .before .before .before .before .before .before .before .before .before .before .before .args .out)) p n _ l _ d g, part-rooms _ [] false _ p n _ l _ d g)
+part-taken-requires c κs = let p = c .before .before .before .before .before .before .before .before .before .before .before .before .before .before .before .before .before .pre in let h = c .before .before .before .before .before .completed .ensures in let f = c .before .before .if4 .left in let n = long-still h f (c .before .before .before .before .before .before .before .before .before .before .before .before .before .if1 .left) in let l = kept-still h f _ (c .before .before .before .before .before .before .before .before .before .before .before .load .ensures) in let d = c .before .before .before .before .before .before .before .before .before .before .bad .ensures in let g = c .before .before .before .before .before .before .before .before .before .if2 .left in (kept-ranged _ [] false (now (c .before .before .before .before .before .before .before .before .before .before .before .before .before .before .before .before .before .args .out)) p n _ l _ d g, part-rooms _ [] false _ p n _ l _ d g)
 
 save-requires : tie.Need-save-requires
-save-requires c κs = let s = c .before .before .before .before .before .before .part-taken .ensures in (save-fits _ _ _ _ (c .before .before .before .before .before .before .before .before .before .before .before .before .before .before .before .before .before .before .before .pre) (c .before .before .before .before .before .before .before .before .before .before .before .before .before .before .before .if1 .left) _ (c .before .before .before .before .before .before .before .before .before .before .before .before .before .load .ensures) _ (c .before .before .before .before .before .before .before .before .before .before .before .before .bad .ensures) (c .before .before .before .before .before .before .before .before .before .before .before .if2 .left) (c .before .before .before .before .before .before .before .before .before .if3 .left) _ _ _ s, s .left .ranged)
+save-requires c κs = let h = c .before .before .before .before .before .before .before .before .before .before .before .before .completed .ensures in let f = c .before .before .before .before .before .before .before .before .before .if4 .left in let s = c .before .before .before .before .before .before .part-taken .ensures in (save-fits _ _ _ _ (c .before .before .before .before .before .before .before .before .before .before .before .before .before .before .before .before .before .before .before .before .before .before .before .before .pre) (long-still h f (c .before .before .before .before .before .before .before .before .before .before .before .before .before .before .before .before .before .before .before .before .if1 .left)) _ (kept-still h f _ (c .before .before .before .before .before .before .before .before .before .before .before .before .before .before .before .before .before .before .load .ensures)) _ (c .before .before .before .before .before .before .before .before .before .before .before .before .before .before .before .before .before .bad .ensures) (c .before .before .before .before .before .before .before .before .before .before .before .before .before .before .before .before .if2 .left) (c .before .before .before .before .before .before .before .before .before .before .before .before .before .before .if3 .left) _ _ _ s, s .left .ranged)
 
 answered-requires-2 : tie.Need-answered-requires-2
 answered-requires-2 c κs = search needs
 
-same-length-3 : tie.Need-same-length-3
-same-length-3 c = search needs
-
 same-length-4 : tie.Need-same-length-4
 same-length-4 c = search needs
 
-returns-4 : tie.Need-returns-4
-returns-4 c = part-left _ _ _ _ (c .before .before .before .before .before .before .before .before .before .before .before .before .before .before .before .before .before .before .before .before .before .before .before .pre) (c .before .before .before .before .before .before .before .before .before .before .before .before .before .before .before .before .before .before .before .if1 .left) _ (c .before .before .before .before .before .before .before .before .before .before .before .before .before .before .before .before .before .load .ensures) _ (c .before .before .before .before .before .before .before .before .before .before .before .before .before .before .before .before .bad .ensures) (c .before .before .before .before .before .before .before .before .before .before .before .before .before .before .before .if2 .left) (c .before .before .before .before .before .before .before .before .before .before .before .before .before .if3 .left) _ _ _ (c .before .before .before .before .before .before .before .before .before .before .part-taken .ensures) _ (c .before .before .before .save .ensures) _ (c .answered2 .ensures)
+same-length-5 : tie.Need-same-length-5
+same-length-5 c = search needs
+
+returns-5 : tie.Need-returns-5
+returns-5 c = let h = c .before .before .before .before .before .before .before .before .before .before .before .before .before .before .before .before .completed .ensures in let f = c .before .before .before .before .before .before .before .before .before .before .before .before .before .if4 .left in single-still h f _ _ _ _ _ _ (part-left _ _ _ _ (c .before .before .before .before .before .before .before .before .before .before .before .before .before .before .before .before .before .before .before .before .before .before .before .before .before .before .before .before .pre) (long-still h f (c .before .before .before .before .before .before .before .before .before .before .before .before .before .before .before .before .before .before .before .before .before .before .before .before .if1 .left)) _ (kept-still h f _ (c .before .before .before .before .before .before .before .before .before .before .before .before .before .before .before .before .before .before .before .before .before .before .load .ensures)) _ (c .before .before .before .before .before .before .before .before .before .before .before .before .before .before .before .before .before .before .before .before .before .bad .ensures) (c .before .before .before .before .before .before .before .before .before .before .before .before .before .before .before .before .before .before .before .before .if2 .left) (c .before .before .before .before .before .before .before .before .before .before .before .before .before .before .before .before .before .before .if3 .left) _ _ _ (c .before .before .before .before .before .before .before .before .before .before .part-taken .ensures) _ (c .before .before .before .save .ensures) _ (c .answered2 .ensures))
 
 pub called-spec : {M : Type 1} → statement M
 called-spec =
@@ -77,12 +88,15 @@ called-spec =
     answered-requires
     same-length-2
     returns-3
+    completed-requires
+    same-length-3
+    returns-4
     sub-part-taken
     part-part-taken-start
     part-part-taken-end
     part-taken-requires
     save-requires
     answered-requires-2
-    same-length-3
     same-length-4
-    returns-4)
+    same-length-5
+    returns-5)
