@@ -1,17 +1,16 @@
 -- The proof that independent lists do the same in either order.
 use Prim.Native.Nat.{ℕ}
 use mathlib.Core.Path.{_≡_, refl, sym, ap, _∙_}
-use mathlib.Core.List.{List, []}
+use mathlib.Core.List.{List}
 use native.Mathlib.Omega.{arith}
 use Rattle.packet.specs.Step.{Step}
 use Rattle.cue.specs.Records.{Listed, refused, records, recordsOf}
 use Rattle.cue.specs.Compile.{packed, output}
-use Rattle.cue.proofs.Relations.{Good}
 use Rattle.cue.proofs.RecordLaws.{records-good}
 use Rattle.cue.proofs.CompileLaws.{accepted-exactly}
 use Rattle.cue.proofs.Demand3.{packets-hold, demand3}
 use Rattle.independent.specs.Independent.{firstClash, compared, independence}
-use Rattle.independent.specs.EitherOrder.{CompilesTo, SameEitherWay, EitherOrder, inTurn}
+use Rattle.independent.specs.EitherOrder.{CompilesTo, EitherOrder}
 use Rattle.independent.specs.declared.Independence.{Independence}
 use Rattle.independent.proofs.CommuteLaws.{commute}
 use Rattle.independent.proofs.PlaceLaws.{all-placed, all-clear}

@@ -1,13 +1,12 @@
 -- What the two loops keep: the marks of the records done, and that none of them clashes.
-use Prim.Native.Nat.{ℕ, _+_, _-_, _<_}
+use Prim.Native.Nat.{ℕ, _+_, _-_}
 use mathlib.Core.Path.{_≡_, refl, sym, ap, _∙_}
 use mathlib.Core.List.{List, [], _∷_, _++_, append-assoc, append-nil}
-use mathlib.Core.Bool.{Bool, true, false, cond}
+use mathlib.Core.Bool.{Bool, true, false}
 use lib.ListN.{length, take, drop, getD, set}
-use Rattle.lbp16.specs.Space.{storeBytes}
-use Rattle.packet.specs.Step.{Step, isWrite}
+use Rattle.packet.specs.Step.{Step}
 use Rattle.packet.specs.Command.{pickKind}
-use Rattle.cue.specs.Records.{Listed, refused, records, recordsOf, recordStep, recordBytes}
+use Rattle.cue.specs.Records.{records, recordsOf, recordStep, recordBytes}
 use Rattle.cue.specs.Inside.{recordAt}
 use Rattle.cue.specs.declared.records.Record.{Record}
 use Rattle.independent.specs.Independent.{clashes, firstClash}

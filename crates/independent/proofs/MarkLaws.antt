@@ -1,19 +1,16 @@
 -- The table of marks: what it holds after one record more, and what it tells of a record.
-use Prim.Native.Nat.{ℕ, _+_, _≤_, _<_}
+use Prim.Native.Nat.{ℕ, _+_}
 use mathlib.Core.Path.{_≡_, refl, sym, ap, _∙_}
-use mathlib.Core.Logic.{_≢_}
 use mathlib.Core.List.{List, [], _∷_, _++_}
-use mathlib.Core.Bool.{Bool, true, false, not, _||_, _&&_, cond}
-use native.Mathlib.Omega.{arith}
+use mathlib.Core.Bool.{Bool, true, false, _||_, _&&_}
 use lib.Dec.{eqb}
 use lib.ListN.{length, getD, set, length-set}
 use lib.Seq.{getD-set-same, getD-set-other}
 use borrow.Author.Tests.{eqb-true, eqb-false}
 use Rattle.lbp16.specs.Space.{storeBytes}
 use Rattle.packet.specs.Step.{Step, isWrite}
-use Rattle.independent.specs.Independent.{Cell, cellOf, sameCell, names, writes, clashes, firstClash}
+use Rattle.independent.specs.Independent.{Cell, cellOf, sameCell, names, writes, clashes}
 use Rattle.independent.specs.Inside.{Present, placeOf, markBy, markedBy, clashesWith, Marked}
-use Rattle.independent.specs.declared.Independence.{Independence}
 use Rattle.independent.proofs.PlaceLaws.{place-inside, same-place}
 
 -- no records leave no mark

@@ -6,7 +6,7 @@ use mathlib.Core.List.{List, [], _∷_, _++_, append-nil}
 use mathlib.Core.Bool.{true, false, _&&_}
 use native.Mathlib.Omega.{arith}
 use native.Mathlib.Decide.{decLe}
-use lib.ListN.{length, take, drop, getD, set, length-append, length-set, List·getD-eq-default}
+use lib.ListN.{length, drop, getD, set, length-append, length-set, List·getD-eq-default}
 use lib.Seq.{sets, length-sets, getD-take, getD-drop, getD-set-same, getD-set-other, ext-getD}
 use Rattle.lbp16.specs.declared.pointer.Pointers.{Pointers}
 use Rattle.packet.specs.Bytes.{number, bytesOf}
@@ -17,7 +17,7 @@ use Rattle.packet.proofs.StoreLaws.{length-after}
 use Rattle.card.specs.Run.{badState, unlockCell, countCell, cleared, countBytes, counted, outcome}
 use Rattle.card.proofs.RunLaws.{length-cleared, length-counted, good-state, state-again, run-accepted, count-on}
 use Rattle.cue.specs.Play.{Played, play}
-use Rattle.cue.specs.Demand3.{SameAsRecords, Off, unlockAfter, countAfter}
+use Rattle.cue.specs.Demand3.{Off, unlockAfter, countAfter}
 use Rattle.cue.proofs.Relations.{Good, Holds}
 use Rattle.cue.proofs.RunAll.{blank, blank-outside, alike, run-all, unlock-zero}
 use Rattle.independent.specs.EitherOrder.{InTurn, inTurn}

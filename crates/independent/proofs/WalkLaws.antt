@@ -2,7 +2,6 @@
 use Prim.Native.Nat.{ℕ, zero, suc, _+_, _-_, _≤_, _<_}
 use mathlib.Core.Path.{_≡_, refl, sym, ap, _∙_}
 use mathlib.Core.List.{List, [], _∷_, _++_, append-assoc, append-nil}
-use mathlib.Core.Bool.{Bool, true, false}
 use native.Mathlib.Omega.{arith}
 use lib.ListN.{length, take, drop, length-drop, length-take}
 use lib.Seq.{take-all}
@@ -15,7 +14,7 @@ use Rattle.packet.specs.Command.{pickKind}
 use Rattle.cue.specs.Records.{Listed, refused, records, recordsOf, recordsFrom, recordRefusals, recordStep, recordKind, recordBytes, withRecord, listedAt}
 use Rattle.cue.specs.Inside.{recordAt, brief, Progress, planned, planAnswer}
 use Rattle.cue.specs.declared.records.Record.{Record}
-use Rattle.cue.proofs.ReadingLaws.{Passing, passing}
+use Rattle.cue.proofs.ReadingLaws.{passing}
 use Rattle.cue.proofs.PackingLaws.{record-bytes-le, space-again}
 use Rattle.independent.specs.Independent.{cellOf}
 use Rattle.independent.specs.Inside.{listRefusal, Accepted, Present, placeOf, placeBy}

@@ -1,16 +1,15 @@
 -- Rounding where nothing is lost: a float of binary32 is written in one way, so a fraction of its value rounds to it.
 use Prim.Native.Nat.{ℕ, zero, suc, _+_, _-_, _*_, _%_, _^_, _≤_, _<_}
 use mathlib.Core.Path.{_≡_, refl, sym, ap, _∙_}
-use mathlib.Core.Bool.{Bool, true, false, not, _&&_, cond}
-use mathlib.Core.Logic.{_⊎_, inl, inr}
-use native.Mathlib.Nat.{zero-lt-suc, zero-mul, mul-one, one-mul, mul-comm, mul-assoc, mul-left-comm, mul-right-comm, mul-pos, pow-suc, eq-of-mul-eq-mul-right, mul-lt-mul-of-pos-right, lt-irrefl, lt-of-not-le, not-le-of-lt, le-of-suc-le-suc}
+use mathlib.Core.Bool.{Bool, _&&_}
+use native.Mathlib.Nat.{zero-lt-suc, zero-mul, mul-one, one-mul, mul-comm, mul-assoc, mul-pos, pow-suc, eq-of-mul-eq-mul-right, mul-lt-mul-of-pos-right, lt-irrefl, lt-of-not-le, not-le-of-lt, le-of-suc-le-suc}
 use native.Mathlib.Omega.{arith}
 use lib.IntN.{ℤ, pos, negsuc}
 use lib.Dec.{T, eqb, ltb, leb, eqb→eq, ltb→lt, leb→le}
-use lib.Pow.{pow-add, pow-pos, pow-mono, pow-lt}
-use lib.Ieee.{Float, nan, inf, fin, binary32, up, down, round, odd, units, fits, isNan}
+use lib.Pow.{pow-add, pow-pos, pow-lt}
+use lib.Ieee.{Float, nan, inf, fin, binary32, up, down, round, odd, fits}
 use lib.Ieee.Exact.{HasValue, round-exact}
-use lib.Ieee.Fits.{and-l, and-r, up-pos, down-pos, round-fits, round-is}
+use lib.Ieee.Fits.{and-l, and-r, up-pos, down-pos, round-fits}
 use lib.Ieee.Scale.{round-same}
 
 -- what a float above 0 that fits has

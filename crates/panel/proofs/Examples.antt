@@ -1,8 +1,7 @@
 -- The definitions at worked examples.
 use mathlib.Core.Path.{_≡_, refl}
 use mathlib.Core.List.{[], _∷_}
-use lib.IntN.{pos}
-use lib.Ieee.{Float, fin, binary32, ofBits, ofInt, mul, div, lt}
+use lib.Ieee.{binary32, ofBits, ofInt, mul, div, lt}
 use Rattle.lbp16.specs.Answer.{Answer, accepted}
 use Rattle.panel.specs.Masks.{channels, names, those, named, lowest, none, outside, fails, tallyOf, started, reported}
 use Rattle.panel.specs.Reading.{shown, refused, unreadable, boundsOf, badBounds, product, quotient, scaled, reading}

@@ -3,7 +3,6 @@ use Prim.Native.Nat.{ℕ, zero, suc, _+_, _/_, _%_, _^_}
 use mathlib.Core.Path.{_≡_, refl, sym, ap, _∙_}
 use mathlib.Core.Bool.{Bool, true, false, not, _&&_, cond, false≢true}
 use lib.Dec.{T, eqb, leb}
-use lib.IntN.{ℤ}
 use lib.Pow.{field}
 use lib.Ieee.{Float, nan, inf, fin, binary32, odd, ofFields, ofBits, nanBits, isNan, lt}
 use lib.Ieee.Bits.{nanBits-is}

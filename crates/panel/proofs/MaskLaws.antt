@@ -1,5 +1,5 @@
 -- Laws of masks. What the machine's counts and bit operations give is the definitions', by computed tests over every mask.
-use Prim.Native.Nat.{ℕ, zero, suc, _+_, _-_, _/_, _%_, _^_, _≤_, _<_}
+use Prim.Native.Nat.{ℕ, zero, suc, _+_, _-_, _/_, _%_, _^_, _<_}
 use mathlib.Core.Path.{_≡_, refl, sym, ap, _∙_}
 use mathlib.Core.List.{List, [], _∷_}
 use mathlib.Core.Bool.{Bool, true, false, not, _&&_, Bool·beq, cond, false≢true}
@@ -11,9 +11,8 @@ use lib.Dec.{eqb}
 use lib.Bits.{bitAnd, and-shr, and-mod, and-lt}
 use lib.Count.{ones, trailingZeros}
 use borrow.Author.Tests.{eqb-true, eq-eqb, ne-eqb}
-use Rattle.lbp16.specs.Answer.{Answer, accepted, refused}
+use Rattle.lbp16.specs.Answer.{accepted, refused}
 use Rattle.panel.specs.Masks.{channels, names, those, named, lowest, none, outside, fails, tallyOf, started, reported}
-use Rattle.panel.specs.declared.masks.Tally.{Tally}
 
 -- a test at every number below n
 all : (ℕ → Bool) → ℕ → Bool

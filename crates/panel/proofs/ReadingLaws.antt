@@ -1,14 +1,14 @@
 -- Laws of readings.
-use Prim.Native.Nat.{ℕ, zero, suc, _+_, _-_, _*_, _^_, _≤_, _<_}
-use mathlib.Core.Path.{_≡_, refl, sym, ap, _∙_}
+use Prim.Native.Nat.{ℕ, zero, suc, _-_, _^_, _≤_, _<_}
+use mathlib.Core.Path.{_≡_, refl}
 use mathlib.Core.Bool.{Bool, true, false, not, _&&_, _||_, true≢false, false≢true}
 use native.Mathlib.Omega.{arith}
 use lib.Dec.{eqb, ltb}
 use lib.Pow.{pow-mono, pow-pos}
-use lib.Ieee.{Float, binary32, ofBits, lt}
+use lib.Ieee.{lt}
 use lib.Ieee.Scale.{finite}
 use borrow.Author.Tests.{eqb-false, ltb-false}
-use Rattle.panel.specs.Reading.{Shown, shown, refused, full, unreadable, boundsOf, badBounds, scaled, product, quotient, reading}
+use Rattle.panel.specs.Reading.{refused, full, unreadable, boundsOf, badBounds, scaled, reading}
 use Rattle.panel.specs.declared.reading.Bounds.{Bounds}
 
 neither : (a b : Bool) → a || b ≡ false → (a ≡ false) × (b ≡ false)

@@ -1,12 +1,12 @@
 -- Laws of the reading itself: what zero and the full value read, and that no reading is a NaN.
-use Prim.Native.Nat.{ℕ, zero, suc, _+_, _-_, _*_, _^_, _≤_, _<_}
+use Prim.Native.Nat.{ℕ, zero, suc, _-_, _*_, _^_, _≤_, _<_}
 use mathlib.Core.Path.{_≡_, refl, sym, ap, _∙_}
 use mathlib.Core.Bool.{Bool, true, false, not, _||_, cond, true≢false, false≢true}
-use native.Mathlib.Nat.{zero-lt-suc, zero-mul, mul-one, one-mul, mul-assoc, mul-comm, mul-left-comm, mul-right-comm, mul-pos, lt-irrefl}
+use native.Mathlib.Nat.{zero-lt-suc, zero-mul, mul-one, mul-assoc, mul-comm, mul-left-comm, mul-right-comm, mul-pos, lt-irrefl}
 use native.Mathlib.Omega.{arith}
-use lib.IntN.{ℤ, pos, negsuc}
-use lib.Dec.{T, eqb, ltb, eqb·suc-zero}
-use lib.Pow.{pow-mono, pow-pos}
+use lib.IntN.{ℤ, pos}
+use lib.Dec.{T, ltb, eqb·suc-zero}
+use lib.Pow.{pow-mono}
 use lib.Ieee.{Float, nan, inf, fin, binary32, up, down, round, units, odd, mul, div, ofInt, ofBits, fits, isNan, lt}
 use lib.Ieee.Back.{round-whole}
 use lib.Ieee.Bits.{ofBits-fits}
@@ -14,8 +14,8 @@ use lib.Ieee.Exact.{HasValue}
 use lib.Ieee.Fits.{up-pos, down-pos, round-is}
 use lib.Ieee.Scale.{finite, round-same}
 use borrow.Author.Tests.{ne-eqb, le-ltb}
-use Rattle.panel.specs.Reading.{Shown, shown, refused, full, unreadable, boundsOf, badBounds, scaled, product, quotient, reading}
-use Rattle.panel.proofs.ReadingLaws.{Readable, readable, sound}
+use Rattle.panel.specs.Reading.{shown, refused, full, unreadable, boundsOf, badBounds, scaled, product, quotient, reading}
+use Rattle.panel.proofs.ReadingLaws.{readable, sound}
 use Rattle.panel.proofs.ExactLaws.{round-zero, round-own}
 
 -- a whole number above 0, as a float

@@ -2,7 +2,7 @@
 use Prim.Native.Nat.{ℕ, _-_, _^_}
 use mathlib.Core.Bool.{Bool, not, _||_, cond}
 use lib.IntN.{pos}
-use lib.Dec.{eqb, ltb, leb}
+use lib.Dec.{eqb, ltb}
 use lib.Ieee.{Float, binary32, ofBits, ofInt, mul, div, lt}
 use lib.Ieee.Scale.{finite}
 use Rattle.panel.specs.declared.reading.Bounds.{Bounds}

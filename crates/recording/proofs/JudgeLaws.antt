@@ -1,33 +1,28 @@
 -- Yes is said of what our card records, and of nothing else; a changed byte is named.
 use Prim.Native.Nat.{ℕ, zero, suc, _+_, _-_, _≤_, _<_}
 use mathlib.Core.Path.{_≡_, refl, sym, ap, _∙_}
-use mathlib.Core.Bool.{Bool, true, false, _&&_, cond}
+use mathlib.Core.Bool.{true, false}
 use mathlib.Core.List.{List, [], _∷_, _++_, append-nil, append-assoc}
 use native.Mathlib.Omega.{arith}
-use native.Mathlib.Nat.{add-comm}
-use lib.Dec.{eqb}
-use lib.ListN.{length, take, drop, getD, set, replicate, length-append, length-drop, length-set, length-replicate}
+use lib.ListN.{length, getD, set, replicate, length-append, length-set, length-replicate}
 use borrow.Author.Tests.{eq-eqb, ne-eqb, lt-ltb}
 use Rattle.lbp16.proofs.BoolLaws.{and-true}
-use Rattle.lbp16.specs.Answer.{Answer}
 use Rattle.lbp16.specs.declared.pointer.Pointers.{Pointers}
 use Rattle.packet.specs.Command.{limit}
 use Rattle.card.specs.Run.{Outcome, badState, runPacket}
-use Rattle.cue.specs.Output.{framed, outputOf, Apart, parts, withPart, lengthAt, Front, frontOf, partBytes, behindPart, withFront, apartFrom, apart}
+use Rattle.cue.specs.Output.{framed, outputOf, frontOf}
 use Rattle.cue.specs.Play.{isAccepted, play}
 use Rattle.cue.specs.Compile.{packed}
 use Rattle.cue.specs.Demand3.{Demand3}
 use Rattle.cue.proofs.OutputLaws.{framed-bytes, framed-behind}
-use Rattle.recording.specs.Recording.{foundPair, turned, frontPair, pairAt, goodBytes, verdictOf, Verdict, yes, badByte}
-use Rattle.recording.specs.Recording.{judgedFrom, judgedParts, judgedIn, Said, said, judged, stopped}
+use Rattle.recording.specs.Recording.{foundPair, turned, frontPair, pairAt, yes, badByte}
+use Rattle.recording.specs.Recording.{judgedFrom, judgedParts, judgedIn, said, judged, stopped}
 use Rattle.recording.specs.Recording
-use Rattle.recording.specs.Show.{shownRun, replyIn, shown, recordingOf, repliesOf}
+use Rattle.recording.specs.Show.{shownRun, replyIn, shown, recordingOf}
 use Rattle.recording.specs.declared.pair.Pair.{Pair}
-use Rattle.recording.proofs.PartLaws.{front-within, front-whole-part}
 use Rattle.recording.proofs.ReplyLaws.{wrong-set}
-use Rattle.recording.proofs.PairLaws.{isYes, GoodAt, pair-cases}
-use Rattle.recording.proofs.ShowLaws.{Alike, shown-alike, room-kept, accepted-short, reply-short, pair-framed, behind-both}
-use Rattle.recording.proofs.ShowLaws.{found-good, zeroRooms, zero-rooms, play-alike, play-replies}
+use Rattle.recording.proofs.ShowLaws.{shown-alike, room-kept, accepted-short, reply-short, pair-framed, behind-both}
+use Rattle.recording.proofs.ShowLaws.{found-good, zeroRooms, zero-rooms}
 
 -- the packets are all accepted, and what they leave
 abbrev pub Accepted : List (List ℕ) → List ℕ → Pointers → Type 0

@@ -7,7 +7,6 @@ use native.Mathlib.Nat.{le-refl, add-comm}
 use lib.ListN.{length, take, drop, length-drop}
 use borrow.Author.Tests.{eq-eqb, ne-eqb}
 use Rattle.lbp16.specs.declared.pointer.Pointers.{Pointers}
-use Rattle.packet.specs.Command.{limit}
 use Rattle.packet.proofs.SliceLaws.{tail-whole}
 use Rattle.cue.specs.Output.{behindPart}
 use Rattle.recording.specs.Recording.{turned, pairAt, goodBytes}

@@ -1,7 +1,7 @@
 -- What our own card records: its runs do not depend on what the reply room held, and its parts are judged good.
 use Prim.Native.Nat.{ℕ, suc, _+_, _≤_, _<_}
 use mathlib.Core.Path.{_≡_, refl, sym, ap, _∙_}
-use mathlib.Core.Bool.{Bool, true, false, _&&_, cond}
+use mathlib.Core.Bool.{true, _&&_}
 use mathlib.Core.List.{List, [], _∷_, _++_}
 use native.Mathlib.Omega.{arith}
 use lib.ListN.{length, take, drop, replicate, length-append, length-take, length-drop, length-replicate}
@@ -9,17 +9,16 @@ use lib.Seq.{take-append-seam, drop-drop}
 use borrow.Author.Tests.{eq-eqb, le-ltb}
 use Rattle.lbp16.specs.Answer.{Answer}
 use Rattle.lbp16.specs.declared.pointer.Pointers.{Pointers}
-use Rattle.lbp16.proofs.BoolLaws.{and-true}
 use Rattle.packet.specs.Step.{valuesRead}
 use Rattle.packet.specs.Command.{limit}
 use Rattle.packet.specs.Judge.{Verdict, refused, accepted}
 use Rattle.packet.specs.Verdict.{answerTo}
 use Rattle.card.specs.Run.{Outcome, checked, outcome, runPacket}
 use Rattle.card.proofs.RunLaws.{run-checked, run-answers-check, answered-length, checked-cases}
-use Rattle.cue.specs.Output.{framed, frontOf, partBytes, behindPart}
-use Rattle.cue.specs.Play.{isAccepted, replyLength, Played, play}
+use Rattle.cue.specs.Output.{framed, frontOf, behindPart}
+use Rattle.cue.specs.Play.{isAccepted, replyLength, play}
 use Rattle.cue.proofs.OutputLaws.{framed-front, framed-part, framed-behind}
-use Rattle.recording.specs.Recording.{foundPair, replyPair, Turned, turned, answeredPair, ranPair, frontPair, pairAt}
+use Rattle.recording.specs.Recording.{foundPair, replyPair, turned, answeredPair, ranPair, frontPair, pairAt}
 use Rattle.recording.specs.Show.{shownRun, replyIn, shown, repliesOf}
 use Rattle.recording.specs.declared.pair.Pair.{Pair}
 use Rattle.recording.proofs.ReplyLaws.{wrong-self}

@@ -1,18 +1,18 @@
 -- Yes means that the recording is what our card records: the replies are those of playing its packets.
 use Prim.Native.Nat.{ℕ, zero, suc, _+_, _-_, _≤_, _<_}
 use mathlib.Core.Path.{_≡_, refl, sym, ap, _∙_}
-use mathlib.Core.Bool.{Bool, true, false, _&&_, cond}
-use mathlib.Core.List.{List, [], _∷_, _++_}
+use mathlib.Core.Bool.{Bool, true, false, cond}
+use mathlib.Core.List.{List, [], _∷_}
 use native.Mathlib.Omega.{arith}
 use lib.Dec.{eqb}
-use lib.ListN.{length, take, drop, replicate, length-drop, length-replicate}
+use lib.ListN.{length, drop, replicate, length-drop, length-replicate}
 use borrow.Author.Tests.{eq-eqb, ne-eqb}
 use Rattle.lbp16.specs.declared.pointer.Pointers.{Pointers}
 use Rattle.packet.specs.Command.{limit}
-use Rattle.card.specs.Run.{Outcome, badState, runPacket}
-use Rattle.cue.specs.Output.{parts, withPart, lengthAt, Front, frontOf, partBytes, behindPart, withFront, apartFrom, apart}
-use Rattle.cue.specs.Play.{isAccepted, replyLength, Played, play}
-use Rattle.recording.specs.Recording.{Turned, turned, pairAt, goodBytes, verdictOf, Verdict, yes, Left, stopped, judgedFrom}
+use Rattle.card.specs.Run.{Outcome, badState}
+use Rattle.cue.specs.Output.{parts, withPart, Front, frontOf, partBytes, behindPart, withFront, apartFrom, apart}
+use Rattle.cue.specs.Play.{isAccepted, play}
+use Rattle.recording.specs.Recording.{Turned, turned, pairAt, goodBytes, verdictOf, yes, Left, stopped, judgedFrom}
 use Rattle.recording.specs.Recording
 use Rattle.recording.specs.Recording.{judgedParts, judgedIn, Said, said, judged}
 use Rattle.recording.specs.Show.{shownRun, replyIn, shown, repliesOf}

@@ -1,18 +1,17 @@
 -- What both passes' loops keep: the stretches so far, and that those of the rest follow them.
-use Prim.Native.Nat.{ℕ, suc, _+_, _-_, _*_, _/_, _≤_, _<_}
+use Prim.Native.Nat.{ℕ, _+_, _-_, _*_, _≤_, _<_}
 use mathlib.Core.Path.{_≡_, refl, sym, ap, _∙_}
 use mathlib.Core.List.{List, [], _∷_, _++_, append-assoc, append-nil}
-use mathlib.Core.Bool.{true, false, cond}
 use native.Mathlib.Omega.{arith}
 use native.Mathlib.Nat.{add-zero, zero-add, add-assoc}
 use lib.ListN.{length, take, drop, length-append, length-drop, drop-of-length-le}
-use lib.Seq.{sets, sets-eq, drop-drop, take-at, drop-append-add}
+use lib.Seq.{drop-drop}
 use Rattle.packet.proofs.SliceLaws.{tail-whole}
-use Rattle.salvage.specs.Salvage.{Stretch, kept, skipped, scan, scanFrom, keptBytes, logFrom, keptCount, entryCount, counted, output, logged, entries}
-use Rattle.salvage.specs.Inside.{firstSpan, spanOf, tally, recordPart, entryPart, Roomy, Ready}
+use Rattle.salvage.specs.Salvage.{Stretch, kept, skipped, scan, scanFrom, keptBytes, logFrom, keptCount, entryCount, counted, entries}
+use Rattle.salvage.specs.Inside.{firstSpan, spanOf, tally, recordPart, entryPart, Roomy}
 use Rattle.salvage.specs.declared.scan.Span.{Span}
 use Rattle.salvage.specs.declared.scan.Counts.{Counts}
-use Rattle.salvage.proofs.ScanLaws.{bytesOf, joined, First, Begins, begins, covered}
+use Rattle.salvage.proofs.ScanLaws.{bytesOf, joined, begins, covered}
 
 -- output, log and counts of stretches one behind the other
 pub kept-append : (a b : List Stretch) → keptBytes (a ++ b) ≡ keptBytes a ++ keptBytes b

@@ -8,19 +8,19 @@ use native.Mathlib.Omega.{arith}
 use native.Mathlib.Nat.{zero-add}
 use lib.Dec.{eqb, ltb}
 use lib.ListN.{length, take, drop, length-append, length-drop, take-append-drop}
-use lib.Seq.{length-take-le, take-append-seam, drop-append-seam}
-use borrow.Author.Tests.{eqb-true, eqb-false, lt-ltb, le-ltb, eq-eqb}
+use lib.Seq.{length-take-le, drop-append-seam}
+use borrow.Author.Tests.{eqb-true, eqb-false, lt-ltb, le-ltb}
 use Rattle.lbp16.specs.Answer.{Answer}
 use Rattle.packet.specs.Step.{Step}
 use Rattle.packet.specs.Rules.{first}
 use Rattle.cue.specs.Records.{recordRefusals, recordKind, recordBytes, recordStep, mostRecords}
 use Rattle.cue.specs.Records.{Listed, refused, records, recordsOf, recordsFrom, withRecord, listedAt}
-use Rattle.cue.specs.Compile.{Compiled, compiled}
+use Rattle.cue.specs.Compile.{compiled}
 use Rattle.cue.specs.Compile
 use Rattle.cue.proofs.CompileLaws.{whole, accepted-exactly, compile-cases}
 use Rattle.cue.proofs.OwnBytesLaws.{same-kind, same-step, judged-alike, any-index}
 use Rattle.salvage.specs.Salvage.{stands, sizeAt, Stretch, kept, skipped, skip, scan, scanFrom}
-use Rattle.salvage.specs.Salvage.{keptBytes, logFrom, entryCount, output, logged, entries}
+use Rattle.salvage.specs.Salvage.{keptBytes, logFrom, output, logged}
 use Rattle.salvage.proofs.ScanLaws.{by-scan, scan-kept, stands-passes, stands-whole, size-some, bytesOf, joined, covered}
 
 -- A record's own bytes: it stands there, and nothing follows it.

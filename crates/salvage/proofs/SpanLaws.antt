@@ -1,7 +1,7 @@
 -- The first stretch of a list, as the code finds it.
 use Prim.Native.Nat.{ℕ, suc, _+_, _-_, _≤_, _<_}
 use mathlib.Core.Path.{_≡_, refl, sym, _∙_}
-use mathlib.Core.List.{List, [], _∷_, _++_}
+use mathlib.Core.List.{List, [], _∷_}
 use mathlib.Core.Bool.{true, false}
 use native.Mathlib.Omega.{arith}
 use native.Mathlib.Nat.{add-zero}
@@ -10,12 +10,11 @@ use lib.ListN.{length, take, drop, drop-of-length-le}
 use lib.Seq.{drop-cons, length-take-le}
 use Rattle.packet.specs.Command.{pickKind}
 use Rattle.packet.proofs.SliceLaws.{tail-whole}
-use Rattle.cue.specs.Records.{recordKind, recordBytes, markAt}
+use Rattle.cue.specs.Records.{recordKind, recordBytes}
 use Rattle.cue.specs.Inside.{recordAt}
 use Rattle.cue.specs.declared.records.Record.{Record}
 use Rattle.salvage.specs.Salvage.{stands, sizeAt, Stretch, kept, skipped, skip, scan, scanFrom}
 use Rattle.salvage.specs.Inside.{gapOf, firstSpan, spanOf}
-use Rattle.salvage.specs.declared.scan.Span.{Span}
 use Rattle.salvage.proofs.ScanLaws.{stands-whole, scan-kept, scan-skip}
 
 pub size-is : (rest : List ℕ) (r : Record) (n : ℕ) → r ≡ recordAt rest → n ≡ recordBytes (pickKind (r .write)) → n ≡ sizeAt rest

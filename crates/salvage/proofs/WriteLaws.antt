@@ -1,16 +1,16 @@
 -- What the second pass writes, and what its loop keeps.
-use Prim.Native.Nat.{ℕ, suc, _+_, _-_, _*_, _/_, _≤_, _<_}
-use mathlib.Core.Path.{_≡_, refl, sym, ap, _∙_}
+use Prim.Native.Nat.{ℕ, _+_, _-_, _*_, _≤_, _<_}
+use mathlib.Core.Path.{_≡_, refl, ap, _∙_}
 use mathlib.Core.List.{List, [], _∷_, _++_}
-use mathlib.Core.Bool.{true, false, cond}
+use mathlib.Core.Bool.{true, false}
 use native.Mathlib.Omega.{arith}
 use native.Mathlib.Numerals.{add-one}
 use lib.ListN.{length, take, drop, getD, set, length-append, length-drop}
-use lib.Seq.{sets, sets-eq, length-sets, drop-drop, take-append-seam, drop-append-add, take-suc, length-take-le}
+use lib.Seq.{sets, sets-eq, drop-drop, take-append-seam, drop-append-add, take-suc, length-take-le}
 use Rattle.packet.proofs.SliceLaws.{tail-whole}
 use Rattle.packet.proofs.StoreLaws.{sets-append}
-use Rattle.salvage.specs.Salvage.{Stretch, kept, skipped, scan, keptBytes, logFrom, entryCount, counted, output, logged, entries}
-use Rattle.salvage.specs.Inside.{firstSpan, spanOf, tally, recordPart, entryPart, Ready}
+use Rattle.salvage.specs.Salvage.{Stretch, kept, scan, keptBytes, logFrom, entryCount, counted, output, logged, entries}
+use Rattle.salvage.specs.Inside.{firstSpan, tally, recordPart, entryPart, Ready}
 use Rattle.salvage.specs.declared.scan.Span.{Span}
 use Rattle.salvage.specs.declared.scan.Counts.{Counts}
 use Rattle.salvage.proofs.LoopLaws.{Held, Turn, Counting, counting-first, counting-next, this, kept-one, log-one, log-length, entries-append, held-last, held-within}

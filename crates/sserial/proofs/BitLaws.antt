@@ -3,7 +3,7 @@ use Prim.Native.Nat.{ℕ, zero, suc, _+_, _-_, _*_, _/_, _%_, _^_, _≤_, _<_}
 use mathlib.Core.Path.{_≡_, refl, sym, ap, _∙_}
 use mathlib.Core.List.{List, [], _∷_}
 use native.Mathlib.Omega.{arith}
-use native.Mathlib.Nat.{mod-eq-of-lt, mod-lt, mul-comm, mul-assoc, zero-mul, add-mul, suc-mul, div-add-mod', add-mul-mod-self-left, add-mul-div-left, le-trans, lt-of-lt-of-le}
+use native.Mathlib.Nat.{mod-lt, mul-comm, mul-assoc, zero-mul, add-mul, suc-mul, add-mul-mod-self-left, add-mul-div-left}
 use lib.Pow.{pow-pos, pow-add, pow-mono, shr-lt, shr-shr, split}
 use lib.ListN.{length, getD, set}
 use Rattle.sserial.specs.Layout.{joined}

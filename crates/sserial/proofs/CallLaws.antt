@@ -1,20 +1,19 @@
 -- What packing and unpacking answer, by the tests that the code makes.
 use Prim.Native.Nat.{ℕ, zero, suc, _+_, _*_, _^_, _≤_, _<_}
 use mathlib.Core.Path.{_≡_, refl, sym, ap, _∙_}
-use mathlib.Core.Bool.{Bool, true, false, not, _||_, _&&_, cond}
+use mathlib.Core.Bool.{Bool, true, false, not, _||_, cond}
 use mathlib.Core.List.{List, [], _∷_}
 use native.Mathlib.Omega.{arith}
-use lib.ListN.{length, getD, take, drop, set, length-take, length-drop}
+use lib.ListN.{length, getD, take, drop, set, length-take}
 use lib.Seq.{sets, getD-take, getD-drop}
 use lib.Dec.{eqb, ltb}
 use borrow.Author.Tests.{ltb-false, le-ltb, eqb-true, eq-eqb, ne-eqb, not-false}
 use Rattle.lbp16.specs.Answer.{Answer, accepted, refused}
 use Rattle.lbp16.proofs.BoolLaws.{or-false, and-true}
-use Rattle.sserial.specs.Table.{Table, fields, Checked, laid, checkedAt, tableAt, directed, bits, anyMiswide, overfull, standsIn}
-use Rattle.sserial.specs.Table as table
+use Rattle.sserial.specs.Table.{laid, checkedAt, tableAt, directed, bits, anyMiswide, overfull, standsIn}
 use Rattle.sserial.specs.Layout.{joined, wordsOf, packed, unpacked, inRange, fitting}
 use Rattle.sserial.specs.Calls.{noChannel, packedBy, packedTo, Outcome, unpackedBy, unpackedTo, counted}
-use Rattle.sserial.specs.Inside.{Each, Wide, AllWide, Packable, fieldsIn, fieldsLeft, chosen, rowsFrom, flat}
+use Rattle.sserial.specs.Inside.{Each, AllWide, Packable, fieldsIn, fieldsLeft, chosen, rowsFrom, flat}
 use Rattle.sserial.specs.declared.table.Field.{Field}
 use Rattle.sserial.specs.declared.table.Direction.{Direction}
 use Rattle.sserial.specs.declared.table.Direction.the-variants.{Inputs, Outputs}

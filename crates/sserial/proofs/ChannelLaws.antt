@@ -1,12 +1,12 @@
 -- Words as rows of three, taken apart and put back.
 use Prim.Native.Nat.{ℕ, zero, suc, _+_, _-_, _*_, _≤_, _<_}
-use mathlib.Core.Path.{_≡_, refl, sym, ap, ap₂, _∙_}
+use mathlib.Core.Path.{_≡_, refl, sym, ap, _∙_}
 use mathlib.Core.List.{List, [], _∷_, _++_, append-assoc, append-nil}
 use native.Mathlib.Omega.{arith}
 use native.Mathlib.Numerals.{add-one}
 use native.Mathlib.Nat.{mul-suc, add-zero}
-use lib.ListN.{length, getD, take, drop, set, length-append, length-drop, length-take, length-set, take-append-drop, drop-of-length-le}
-use lib.Seq.{take-add, sets, sets-eq, length-sets, drop-cons, take-suc, drop-drop, take-all, length-take-le, drop-append-le, take-append-le}
+use lib.ListN.{length, getD, take, drop, set, length-append, take-append-drop, drop-of-length-le}
+use lib.Seq.{take-add, sets, sets-eq, length-sets, drop-cons, take-suc, drop-drop, take-all}
 use Rattle.sserial.specs.Inside.{rowsFrom, flat}
 
 pub row-is : (ws : List ℕ) (at : ℕ) → at + 3 ≤ length ws

@@ -1,18 +1,16 @@
 -- What the answer of counting the fields says of the table.
-use Prim.Native.Nat.{ℕ, _+_, _≤_, _<_}
-use mathlib.Core.Path.{_≡_, refl, sym, ap, _∙_}
+use Prim.Native.Nat.{ℕ}
+use mathlib.Core.Path.{_≡_, refl}
 use mathlib.Core.Bool.{Bool, true, false, cond}
 use mathlib.Core.List.{List, [], _∷_}
 use native.Mathlib.Omega.{arith}
 use lib.ListN.{length}
-use Rattle.lbp16.specs.Answer.{Answer, accepted, refused, refusal}
-use Rattle.lbp16.specs.declared.Refusal.{Refusal}
-use Rattle.sserial.specs.Table.{Table, unreadable, fields, Checked, laid, checked, checkedAt, overfull, directed, tableAt}
+use Rattle.lbp16.specs.Answer.{accepted, refused}
+use Rattle.sserial.specs.Table.{Table, unreadable, fields, Checked, laid, checked, overfull, directed}
 use Rattle.sserial.specs.Table as table
-use Rattle.sserial.specs.Calls.{counted, tableListed}
+use Rattle.sserial.specs.Calls.{counted}
 use Rattle.sserial.specs.declared.table.Field.{Field}
 use Rattle.sserial.specs.declared.table.Direction.the-variants.{Inputs, Outputs}
-use Rattle.sserial.specs.declared.count.TableAnswer.{TableAnswer}
 
 -- a table that is not refused, with its fields
 pub record Laid (t : Table) : Type 0 where

@@ -1,19 +1,17 @@
 -- A table entry by entry, and what counting its fields answers.
-use Prim.Native.Nat.{ℕ, zero, suc, _+_, _-_, _*_, _≤_, _<_}
-use mathlib.Core.Path.{_≡_, refl, sym, ap, ap₂, _∙_}
-use mathlib.Core.Bool.{Bool, true, false, _||_, _&&_, cond}
+use Prim.Native.Nat.{ℕ, suc, _+_, _-_, _≤_, _<_}
+use mathlib.Core.Path.{_≡_, refl, sym, _∙_}
+use mathlib.Core.Bool.{Bool, true, false, _||_, cond}
 use mathlib.Core.List.{List, [], _∷_}
 use native.Mathlib.Omega.{arith}
-use native.Mathlib.Nat.{add-zero, zero-add, add-assoc}
+use native.Mathlib.Nat.{add-zero, zero-add}
 use native.Mathlib.Numerals.{add-one}
-use native.Mathlib.Decide.{decLe}
-use lib.ListN.{length, drop, getD, length-drop, drop-of-length-le}
-use lib.Seq.{drop-cons, drop-nil}
+use lib.ListN.{length, drop, length-drop}
+use lib.Seq.{drop-cons}
 use lib.Dec.{eqb, ltb}
 use borrow.Author.Tests.{ltb-true, ltb-false, lt-ltb, le-ltb, eqb-false}
-use Rattle.lbp16.specs.Answer.{Answer, accepted, refused}
-use Rattle.lbp16.proofs.BoolLaws.{or-false}
-use Rattle.sserial.specs.Table.{Table, unreadable, fields, Checked, standsIn, directed, bits, anyMiswide, overfull, checked, checkedAt, tableFrom, tableAt, pairAt, entryOf, withField, withEntry}
+use Rattle.lbp16.specs.Answer.{accepted, refused}
+use Rattle.sserial.specs.Table.{Table, unreadable, fields, Checked, standsIn, directed, bits, anyMiswide, overfull, checked, checkedAt, tableFrom, tableAt, withField, withEntry}
 use Rattle.sserial.specs.Calls.{counted}
 use Rattle.sserial.specs.Inside.{Small, Within, sumWith, sumsWith, sumsAnswer, countOn, entryAt}
 use Rattle.sserial.specs.declared.table.Field.{Field}

@@ -10,7 +10,7 @@ use Rattle.sserial.specs.Table.{checkedAt}
 use Rattle.sserial.specs.Layout
 use Rattle.sserial.specs.Calls
 use Rattle.sserial.specs.Calls.{counted, indexed, packedTo, unpackedTo}
-use Rattle.sserial.specs.declared.table.Direction.the-variants.{Inputs, Outputs}
+use Rattle.sserial.specs.declared.table.Direction.the-variants.{Outputs}
 
 field : ℕ → ℕ → ℕ → List ℕ
 field width kind direction = 0xA0 ∷ width ∷ kind ∷ direction ∷ 0 ∷ 0 ∷ 0 ∷ 0 ∷ 0 ∷ 0 ∷ 0x80 ∷ 0x3F ∷ 0 ∷ 0 ∷ 0 ∷ 0 ∷ []

@@ -1,14 +1,13 @@
 -- A table's fields one by one.
-use Prim.Native.Nat.{ℕ, zero, suc, _+_, _-_, _≤_, _<_}
-use mathlib.Core.Path.{_≡_, refl, sym, ap, _∙_}
-use mathlib.Core.Bool.{Bool, true, false, cond}
-use mathlib.Core.List.{List, [], _∷_}
+use Prim.Native.Nat.{ℕ, suc, _+_, _-_, _≤_, _<_}
+use mathlib.Core.Path.{_≡_, refl, _∙_}
+use mathlib.Core.Bool.{Bool, true, false}
+use mathlib.Core.List.{List, _∷_}
 use native.Mathlib.Omega.{arith}
 use lib.ListN.{length, drop}
-use lib.Dec.{eqb, ltb}
 use lib.Seq.{drop-nil}
-use Rattle.lbp16.specs.Answer.{Answer, accepted, refused}
-use Rattle.sserial.specs.Table.{Table, unreadable, fields, Checked, laid, checked, checkedAt, overfull, standsIn, directed, tableAt, withField, withEntry}
+use Rattle.lbp16.specs.Answer.{accepted, refused}
+use Rattle.sserial.specs.Table.{Table, unreadable, fields, checkedAt, standsIn, directed, tableAt, withField, withEntry}
 use Rattle.sserial.specs.Calls.{front, indexed, shown, counted}
 use Rattle.sserial.specs.Inside.{entryAt, Readable, fieldsIn, fieldsLeft}
 use Rattle.sserial.specs.declared.table.Field.{Field}

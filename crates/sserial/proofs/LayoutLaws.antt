@@ -1,17 +1,16 @@
 -- Packing and unpacking the fields of one direction are inverse both ways; words and their number too.
 use Prim.Native.Nat.{ℕ, zero, suc, _+_, _-_, _*_, _/_, _%_, _^_, _≤_, _<_}
 use mathlib.Core.Path.{_≡_, refl, sym, ap, ap₂, _∙_}
-use mathlib.Core.Bool.{Bool, true, false, _||_, _&&_, cond}
+use mathlib.Core.Bool.{true}
 use mathlib.Core.List.{List, [], _∷_}
 use native.Mathlib.Omega.{arith}
-use native.Mathlib.Nat.{mod-eq-of-lt, mod-lt, div-eq-of-lt, add-mul-mod-self-left, add-mul-div-left, mul-comm, mul-suc, mul-le-mul-left, add-zero, suc-mul}
+use native.Mathlib.Nat.{mod-eq-of-lt, mod-lt, div-eq-of-lt, add-mul-mod-self-left, add-mul-div-left, mul-comm, mul-suc, mul-le-mul-left, suc-mul}
 use lib.Pow.{pow-pos, pow-add, mod-pow-add, shr-lt}
 use lib.ListN.{length}
-use lib.Dec.{ltb, leb}
 use Rattle.lbp16.proofs.BoolLaws.{and-true}
 use Rattle.sserial.specs.Table.{bits}
 use Rattle.sserial.specs.Layout.{joined, wordsOf, valueOf, bitsOf, inRange, packed, unpacked, fitting}
-use Rattle.sserial.specs.Inside.{Each, Wide, AllWide}
+use Rattle.sserial.specs.Inside.{Each, AllWide}
 use Rattle.sserial.specs.declared.table.Field.{Field}
 use Rattle.sserial.proofs.ValueLaws.{value-back, bits-back}
 

@@ -1,23 +1,22 @@
 -- What order 1 claims of tables, packing and unpacking, over all card memories.
-use Prim.Native.Nat.{ℕ, zero, suc, _+_, _*_, _/_, _%_, _^_, _≤_, _<_}
-use mathlib.Core.Path.{_≡_, refl, sym, ap, _∙_}
+use Prim.Native.Nat.{ℕ, suc, _+_, _*_, _/_, _%_, _^_, _≤_, _<_}
+use mathlib.Core.Path.{_≡_, refl, ap, _∙_}
 use mathlib.Core.Bool.{Bool, true, false, not, _||_, cond}
 use mathlib.Core.List.{List, [], _∷_, _++_, append-assoc}
-use mathlib.Core.Logic.{_⊎_, ⊎-elim, inl, inr, _≢_}
+use mathlib.Core.Logic.{_⊎_, ⊎-elim, inl, inr}
 use native.Mathlib.Omega.{arith}
 use native.Mathlib.Nat.{lt-of-lt-of-le}
 use lib.ListN.{length, getD, take, drop, set}
 use lib.Seq.{sets, sets-eq, length-sets, getD-set-other, take-at, drop-at, length-take-le}
 use lib.Pow.{pow-mono}
 use lib.Dec.{eqb}
-use Rattle.lbp16.specs.Answer.{Answer, accepted, refused}
-use Rattle.lbp16.proofs.BoolLaws.{or-false}
-use borrow.Author.Tests.{not-false, eqb-true}
+use Rattle.lbp16.specs.Answer.{accepted, refused}
+use borrow.Author.Tests.{eqb-true}
 use Rattle.sserial.specs.Table.{Table, unreadable, fields, Checked, laid, checked, checkedAt, tableAt, directed, bits, overfull}
 use Rattle.sserial.specs.Table as table
 use Rattle.sserial.specs.Layout.{joined, wordsOf, packed, unpacked, fitting}
 use Rattle.sserial.specs.Calls.{noChannel, packedBy, packedTo, Outcome, unpackedBy, unpackedTo, counted, indexed}
-use Rattle.sserial.specs.Inside.{Each, Wide, AllWide}
+use Rattle.sserial.specs.Inside.{Each, AllWide}
 use Rattle.sserial.specs.declared.table.Field.{Field}
 use Rattle.sserial.specs.declared.table.Direction.{Direction}
 use Rattle.sserial.proofs.LayoutLaws.{pack-back, unpack-back, unpacked-fits, packed-below, words-length, joined-words}

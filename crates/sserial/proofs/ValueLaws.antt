@@ -3,13 +3,13 @@ use Prim.Native.Nat.{ℕ, zero, suc, _+_, _-_, _*_, _/_, _%_, _^_, _≤_, _<_}
 use mathlib.Core.Path.{_≡_, refl, sym, ap, _∙_}
 use mathlib.Core.Bool.{Bool, true, false, _||_, _&&_, cond}
 use native.Mathlib.Omega.{arith}
-use native.Mathlib.Nat.{mod-eq-of-lt, mod-lt, pow-suc, mul-comm, div-lt-iff-lt-mul}
+use native.Mathlib.Nat.{mod-eq-of-lt, mod-lt, pow-suc, div-lt-iff-lt-mul}
 use mathlib.Core.Logic.{_↔_}
 use Rattle.lbp16.proofs.BoolLaws.{same-ltb, and-true}
 use native.Mathlib.Numerals.{sub-one}
 use lib.Pow.{pow-pos, pow-mono, mod-pow-add, high-ones, low}
 use lib.Dec.{ltb, leb}
-use borrow.Author.Tests.{ltb-true, ltb-false, leb-true, leb-false, lt-ltb, le-ltb, le-leb, lt-leb}
+use borrow.Author.Tests.{ltb-true, leb-true, leb-false, lt-ltb, le-ltb, le-leb, lt-leb}
 use Rattle.sserial.specs.Layout.{isSigned, valueOf, bitsOf, inRange}
 use Rattle.sserial.specs.Inside.{Wide}
 use Rattle.sserial.specs.declared.table.Field.{Field}

@@ -1,14 +1,14 @@
 -- The fields of one direction one after the other: `fs` are those still to come, `fs₀` all of them.
-use Prim.Native.Nat.{ℕ, zero, suc, _+_, _-_, _*_, _/_, _%_, _^_, _≤_, _<_}
+use Prim.Native.Nat.{ℕ, suc, _+_, _-_, _*_, _/_, _%_, _^_, _≤_, _<_}
 use mathlib.Core.Path.{_≡_, refl, sym, ap, ap₂, _∙_}
-use mathlib.Core.Bool.{Bool, true, false, _&&_, cond}
+use mathlib.Core.Bool.{Bool, true, false, _&&_}
 use mathlib.Core.List.{List, [], _∷_, _++_, append-nil, append-assoc}
 use native.Mathlib.Omega.{arith}
-use native.Mathlib.Nat.{add-zero, mul-comm, mul-assoc, mul-add, one-mul, mul-zero}
+use native.Mathlib.Nat.{mul-comm, mul-assoc, mul-add, mul-zero}
 use native.Mathlib.Numerals.{add-one}
 use lib.ListN.{length, getD, take, drop, set, length-set}
-use lib.Seq.{drop-cons, drop-length, take-suc-set, take-length, take-all, append-snoc}
-use lib.Pow.{pow-pos, pow-add, shr-shr}
+use lib.Seq.{drop-cons, drop-length, take-suc-set, take-all}
+use lib.Pow.{pow-add, shr-shr}
 use Rattle.sserial.specs.Table.{bits}
 use Rattle.sserial.specs.Layout.{joined, wordsOf, valueOf, bitsOf, inRange, packed, unpacked, fitting}
 use Rattle.sserial.specs.Inside.{Each, Wide, AllWide}

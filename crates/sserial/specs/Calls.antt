@@ -6,7 +6,7 @@ use lib.ListN.{length, take, drop}
 use lib.Seq.{sets}
 use lib.Dec.{eqb, ltb}
 use Rattle.lbp16.specs.Answer.{Answer, accepted, refusal}
-use Rattle.sserial.specs.Table.{Checked, refused, laid, checkedAt, directed}
+use Rattle.sserial.specs.Table.{Checked, refused, laid, directed}
 use Rattle.sserial.specs.Layout.{joined, wordsOf, packed, unpacked, fitting}
 use Rattle.sserial.specs.declared.table.Field.{Field}
 use Rattle.sserial.specs.declared.table.Direction.{Direction}

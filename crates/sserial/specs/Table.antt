@@ -1,7 +1,7 @@
 -- A card's process table, read from the card's memory. Document 000's descriptor section decides the layout.
 use Prim.Native.Nat.{ℕ, _+_, _*_}
 use mathlib.Core.List.{List, [], _∷_}
-use mathlib.Core.Bool.{Bool, true, false, _||_, _&&_, cond}
+use mathlib.Core.Bool.{Bool, false, _||_, _&&_, cond}
 use lib.ListN.{length, drop, getD}
 use lib.Dec.{eqb, ltb}
 use Rattle.sserial.specs.declared.table.Field.{Field}

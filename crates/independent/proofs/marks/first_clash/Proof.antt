@@ -1,7 +1,7 @@
 use Rattle.independent.proofs.marks.first_clash.Statement.{statement}
 use Rattle.independent.proofs.marks.first_clash.Tie as tie
 use borrow.Author.Needs.{needs}
-use Prim.Native.Nat.{_≤_, _<_}
+use Prim.Native.Nat.{_≤_}
 use native.Mathlib.Omega.{arith}
 use lib.ListN.{length}
 use Rattle.independent.proofs.WalkLaws.{place-inside-here, whole-here, shorter}

@@ -1,4 +1,3 @@
-use native.Mathlib.Omega.{arith}
 use Rattle.recording.proofs.PairLaws.{ran-refused, ran-fits, ran-lent, ran-accepted}
 use borrow.Author.Needs.{needs}
 use Rattle.recording.proofs.pair.whole_at.Statement.{statement}

@@ -1,7 +1,7 @@
 use Prim.Native.Nat.{_-_, _≤_, _<_}
-use mathlib.Core.Path.{_≡_, refl, ap, _∙_}
+use mathlib.Core.Path.{_≡_, refl, _∙_}
 use native.Mathlib.Omega.{arith}
-use lib.ListN.{length, take, set, length-set}
+use lib.ListN.{length, take, length-set}
 use lib.Seq.{sets}
 use Rattle.salvage.proofs.WriteLaws.{copy-more}
 use Rattle.salvage.proofs.write.copy.Statement.{statement}

@@ -1,11 +1,9 @@
 use borrow.Author.Needs.{needs}
 use Rattle.sserial.proofs.bits.chunk_at.Statement.{statement}
 use Rattle.sserial.proofs.bits.chunk_at.Tie as tie
-use Rattle.sserial.proofs.bits.power.Reads as power-reads
-use Prim.Native.Nat.{ℕ, _<_, _^_, _/_}
-use mathlib.Core.Path.{_≡_, _∙_}
+use mathlib.Core.Path.{_≡_}
 use native.Mathlib.Omega.{arith}
-use lib.ListN.{length, getD}
+use lib.ListN.{length}
 use lib.Pow.{pow-pos}
 use Rattle.sserial.proofs.BitLaws.{chunk-got}
 

@@ -1,18 +1,12 @@
 use Rattle.sserial.proofs.bits.get.Statement.{statement}
 use Rattle.sserial.proofs.bits.get.Tie as tie
-use Rattle.sserial.proofs.bits.chunk_at.Reads as chunk-at-reads
-use Rattle.sserial.proofs.bits.power.Reads as power-reads
-use Rattle.sserial.proofs.bits.within.Reads as within-reads
 use borrow.Author.Needs.{needs}
-use Prim.Native.Nat.{ℕ, _+_, _-_, _*_, _<_, _≤_, _^_, _/_, _%_}
-use mathlib.Core.Path.{_≡_, refl, _∙_}
+use Prim.Native.Nat.{_+_, _-_, _*_, _<_, _≤_, _^_, _/_, _%_}
+use mathlib.Core.Path.{_≡_}
 use native.Mathlib.Omega.{arith}
-use lib.ListN.{length, getD}
-use lib.Pow.{pow-pos, pow-mono}
+use lib.Pow.{pow-mono}
 use Rattle.sserial.specs.Layout.{joined}
-use Rattle.sserial.specs.Inside.{Each}
 use Rattle.sserial.proofs.BitLaws.{got-more, got-fits}
-use native.Mathlib.Nat.{mod-lt}
 
 abbrev Inv-loop : tie.InvT-loop
 Inv-loop words low width bits₀ done₀ bits done = (done ≤ width) × (bits ≡ joined words / 2 ^ low % 2 ^ done)

@@ -1,16 +1,11 @@
 use Rattle.sserial.proofs.bits.put.Statement.{statement}
 use Rattle.sserial.proofs.bits.put.Tie as tie
-use Rattle.sserial.proofs.bits.power.Reads as power-reads
-use Rattle.sserial.proofs.bits.put_chunk.Reads as put-chunk-reads
-use Rattle.sserial.proofs.bits.within.Reads as within-reads
 use borrow.Author.Needs.{needs}
-use Prim.Native.Nat.{ℕ, _+_, _*_, _<_, _≤_, _^_, _/_, _%_}
-use mathlib.Core.Path.{_≡_, refl, _∙_}
+use Prim.Native.Nat.{_+_, _≤_}
+use mathlib.Core.Path.{refl}
 use native.Mathlib.Omega.{arith}
 use native.Mathlib.Nat.{mod-lt}
-use lib.ListN.{length, getD}
 use lib.Pow.{pow-pos}
-use Rattle.sserial.specs.Inside.{Each}
 use Rattle.sserial.proofs.BitLaws.{Putting, put-more, put-done}
 
 abbrev Inv-loop : tie.InvT-loop

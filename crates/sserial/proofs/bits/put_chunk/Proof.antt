@@ -1,12 +1,10 @@
 use borrow.Author.Needs.{needs}
 use Rattle.sserial.proofs.bits.put_chunk.Statement.{statement}
 use Rattle.sserial.proofs.bits.put_chunk.Tie as tie
-use Rattle.sserial.proofs.bits.power.Reads as power-reads
-use Prim.Native.Nat.{ℕ, _+_, _*_, _<_, _^_, _/_, _%_}
-use mathlib.Core.Path.{_≡_, _∙_}
+use Prim.Native.Nat.{_+_, _*_, _<_, _^_, _/_}
+use mathlib.Core.Path.{_≡_}
 use native.Mathlib.Omega.{arith}
 use lib.ListN.{length, getD}
-use lib.Pow.{pow-pos}
 use Rattle.sserial.proofs.BitLaws.{word-fits, chunk-put}
 use Rattle.sserial.proofs.BitLaws.{each-set}
 

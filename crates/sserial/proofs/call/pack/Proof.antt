@@ -1,9 +1,6 @@
 use borrow.Author.Needs.{needs}
 use Rattle.sserial.proofs.call.pack.Statement.{statement}
 use Rattle.sserial.proofs.call.pack.Tie as tie
-use Rattle.sserial.proofs.call.fields_of.Reads as fields-of-reads
-use Rattle.sserial.proofs.call.pack_fields.Reads as pack-fields-reads
-use Rattle.sserial.proofs.count.count_fields.Reads as count-fields-reads
 use mathlib.Core.Path.{sym}
 use Rattle.sserial.specs.Table.{checkedAt}
 use Rattle.sserial.specs.Calls.{tableListed, callListed}

@@ -1,14 +1,7 @@
 use borrow.Author.Needs.{needs}
 use Rattle.sserial.proofs.call.pack_fields.Statement.{statement}
 use Rattle.sserial.proofs.call.pack_fields.Tie as tie
-use Rattle.sserial.proofs.call.bad_call.Reads as bad-call-reads
-use Rattle.sserial.proofs.call.no_channel.Reads as no-channel-reads
-use Rattle.sserial.proofs.channels.channels_of.Reads as channels-of-reads
-use Rattle.sserial.proofs.channels.put_channels.Reads as put-channels-reads
-use Rattle.sserial.proofs.channels.with_channel.Reads as with-channel-reads
-use Rattle.sserial.proofs.pack.pack_values.Reads as pack-values-reads
 use mathlib.Core.Path.{sym, _∙_}
-use native.Mathlib.Omega.{arith}
 use borrow.Author.Tests.{not-true, not-false}
 use Rattle.sserial.specs.Calls.{callListed}
 use Rattle.sserial.proofs.CallLaws.{refused-by, left-by, channel-there, pack-refused, no-channel-refused, unfit-refused, uncounted-refused, pack-done, put-back}

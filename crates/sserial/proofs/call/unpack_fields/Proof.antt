@@ -1,10 +1,6 @@
 use borrow.Author.Needs.{needs}
 use Rattle.sserial.proofs.call.unpack_fields.Statement.{statement}
 use Rattle.sserial.proofs.call.unpack_fields.Tie as tie
-use Rattle.sserial.proofs.call.bad_call.Reads as bad-call-reads
-use Rattle.sserial.proofs.call.no_channel.Reads as no-channel-reads
-use Rattle.sserial.proofs.channels.channels_of.Reads as channels-of-reads
-use Rattle.sserial.proofs.pack.read.Reads as read-reads
 use mathlib.Core.Path.{sym, _∙_}
 use native.Mathlib.Omega.{arith}
 use Rattle.sserial.specs.Calls.{callListed}

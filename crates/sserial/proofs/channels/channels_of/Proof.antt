@@ -1,7 +1,6 @@
 use borrow.Author.Needs.{needs}
 use Rattle.sserial.proofs.channels.channels_of.Statement.{statement}
 use Rattle.sserial.proofs.channels.channels_of.Tie as tie
-use Rattle.sserial.proofs.channels.row_of.Reads as row-of-reads
 use Rattle.sserial.specs.Inside.{rowsFrom}
 
 row-of-requires : tie.Need-row-of-requires

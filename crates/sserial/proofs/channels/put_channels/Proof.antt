@@ -1,12 +1,8 @@
 use Rattle.sserial.proofs.channels.put_channels.Statement.{statement}
 use Rattle.sserial.proofs.channels.put_channels.Tie as tie
-use Rattle.sserial.proofs.channels.put_row.Reads as put-row-reads
 use borrow.Author.Needs.{needs}
-use Prim.Native.Nat.{ℕ, _-_, _*_, _+_, _≤_}
-use mathlib.Core.Path.{_≡_, refl}
-use mathlib.Core.List.{[]}
+use Prim.Native.Nat.{_-_}
 use native.Mathlib.Omega.{arith}
-use lib.ListN.{length, getD}
 use Rattle.sserial.proofs.ChannelLaws.{Rows, rows-first, rows-more, rows-all}
 
 abbrev Inv-loop : tie.InvT-loop

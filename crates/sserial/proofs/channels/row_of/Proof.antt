@@ -1,7 +1,6 @@
 use borrow.Author.Needs.{needs}
 use Rattle.sserial.proofs.channels.row_of.Statement.{statement}
 use Rattle.sserial.proofs.channels.row_of.Tie as tie
-use native.Mathlib.Omega.{arith}
 use Rattle.sserial.proofs.ChannelLaws.{row-is}
 
 mul-at : tie.Need-mul-at

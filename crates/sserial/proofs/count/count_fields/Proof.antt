@@ -1,21 +1,17 @@
 use Rattle.sserial.proofs.count.count_fields.Statement.{statement}
 use Rattle.sserial.proofs.count.count_fields.Tie as tie
-use Rattle.sserial.proofs.count.answered.Reads as answered-reads
-use Rattle.sserial.proofs.count.sums_with.Reads as sums-with-reads
-use Rattle.sserial.proofs.table.entry_at.Reads as entry-at-reads
 use borrow.Author.Needs.{needs}
 use Prim.Native.Nat.{_-_}
 use native.Mathlib.Omega.{arith}
 use lib.ListN.{length}
 use Rattle.sserial.proofs.CountLaws.{Counting}
-use mathlib.Core.Path.{refl, ap, _∙_}
+use mathlib.Core.Path.{ap, _∙_}
 use mathlib.Core.Logic.{⊎-elim}
 use Prim.Native.Nat.{_+_, _≤_}
 use denote.Ref.{now}
 use Rattle.sserial.specs.Calls.{tableListed}
 use Rattle.sserial.proofs.TableLaws.{readable, entry-lent}
 use Rattle.sserial.proofs.CountLaws.{counting-first, count-ended, count-cut, count-mode, count-more}
-use Rattle.sserial.specs.declared.table.Entry.the-variants.{Mode}
 
 abbrev Inv-loop : tie.InvT-loop
 Inv-loop memory table at₀ s₀ at s = Counting memory table at s

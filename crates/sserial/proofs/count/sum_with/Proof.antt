@@ -1,7 +1,6 @@
 use borrow.Author.Needs.{needs}
 use Rattle.sserial.proofs.count.sum_with.Statement.{statement}
 use Rattle.sserial.proofs.count.sum_with.Tie as tie
-use Rattle.sserial.proofs.table.stands_in.Reads as stands-in-reads
 use mathlib.Core.Path.{refl, sym, _∙_}
 use Rattle.sserial.specs.Inside.{sumWith}
 

@@ -1,8 +1,7 @@
 use borrow.Author.Needs.{needs}
 use Rattle.sserial.proofs.count.sums_with.Statement.{statement}
 use Rattle.sserial.proofs.count.sums_with.Tie as tie
-use Rattle.sserial.proofs.count.sum_with.Reads as sum-with-reads
-use mathlib.Core.Path.{refl, sym, _∙_}
+use mathlib.Core.Path.{refl}
 use Rattle.sserial.specs.Inside.{sumsWith}
 
 sum-with-requires : tie.Need-sum-with-requires

@@ -1,9 +1,7 @@
 use borrow.Author.Needs.{needs}
 use Rattle.sserial.proofs.field.field.Statement.{statement}
 use Rattle.sserial.proofs.field.field.Tie as tie
-use Rattle.sserial.proofs.field.find.Reads as find-reads
-use Rattle.sserial.proofs.count.count_fields.Reads as count-fields-reads
-use mathlib.Core.Path.{sym, _∙_}
+use mathlib.Core.Path.{_∙_}
 use Rattle.sserial.specs.Table.{checkedAt}
 use Rattle.sserial.specs.Calls.{tableListed, fieldListed}
 use Rattle.sserial.proofs.CheckedLaws.{accepted-checked}

@@ -1,10 +1,8 @@
 use Rattle.sserial.proofs.field.find.Statement.{statement}
 use Rattle.sserial.proofs.field.find.Tie as tie
-use Rattle.sserial.proofs.field.past_last.Reads as past-last-reads
-use Rattle.sserial.proofs.table.entry_at.Reads as entry-at-reads
 use borrow.Author.Needs.{needs}
-use Prim.Native.Nat.{_+_, _-_, _≤_, _<_}
-use mathlib.Core.Path.{_≡_, refl, sym, ap, _∙_}
+use Prim.Native.Nat.{_+_, _-_, _≤_}
+use mathlib.Core.Path.{refl, ap, _∙_}
 use mathlib.Core.Logic.{⊎-elim}
 use native.Mathlib.Omega.{arith}
 use lib.ListN.{length}

@@ -1,9 +1,7 @@
 use Rattle.sserial.proofs.field.next_field.Statement.{statement}
 use Rattle.sserial.proofs.field.next_field.Tie as tie
-use Rattle.sserial.proofs.table.entry_at.Reads as entry-at-reads
-use Rattle.sserial.proofs.table.stands_in.Reads as stands-in-reads
 use borrow.Author.Needs.{needs}
-use Prim.Native.Nat.{_+_, _-_, _≤_, _<_}
+use Prim.Native.Nat.{_+_, _-_, _<_}
 use mathlib.Core.Path.{_≡_, refl, sym, _∙_}
 use native.Mathlib.Omega.{arith}
 use lib.ListN.{length}

@@ -1,14 +1,9 @@
 use Rattle.sserial.proofs.pack.pack_values.Statement.{statement}
 use Rattle.sserial.proofs.pack.pack_values.Tie as tie
-use Rattle.sserial.proofs.bits.put.Reads as put-reads
-use Rattle.sserial.proofs.field.next_field.Reads as next-field-reads
-use Rattle.sserial.proofs.value.bits_of.Reads as bits-of-reads
-use Rattle.sserial.proofs.value.in_range.Reads as in-range-reads
 use borrow.Author.Needs.{needs}
-use Prim.Native.Nat.{ℕ, _-_, _*_, _+_, _≤_, _<_, _^_}
-use mathlib.Core.Path.{_≡_, refl}
+use Prim.Native.Nat.{_-_}
 use native.Mathlib.Omega.{arith}
-use lib.ListN.{length, getD}
+use lib.ListN.{length}
 use Rattle.sserial.specs.Inside.{fieldsLeft}
 use Rattle.sserial.proofs.LayoutLaws.{bits-below}
 use Rattle.sserial.proofs.WalkLaws.{Packing, packing-first, packing-some, packing-wide, packing-room, packing-more, packing-done}

@@ -1,14 +1,11 @@
 use Rattle.sserial.proofs.pack.read.Statement.{statement}
 use Rattle.sserial.proofs.pack.read.Tie as tie
-use Rattle.sserial.proofs.bits.get.Reads as get-reads
-use Rattle.sserial.proofs.field.next_field.Reads as next-field-reads
-use Rattle.sserial.proofs.value.value_of.Reads as value-of-reads
 use borrow.Author.Needs.{needs}
-use Prim.Native.Nat.{ℕ, _-_, _*_, _+_, _≤_, _<_, _^_}
+use Prim.Native.Nat.{_-_}
 use mathlib.Core.Path.{_≡_, refl}
 use native.Mathlib.Omega.{arith}
 use native.Mathlib.Nat.{mod-lt}
-use lib.ListN.{length, getD}
+use lib.ListN.{length}
 use lib.Pow.{pow-pos}
 use Rattle.sserial.specs.Layout.{joined}
 use Rattle.sserial.specs.Inside.{fieldsLeft}

@@ -1,9 +1,7 @@
 use borrow.Author.Needs.{needs}
 use Rattle.sserial.proofs.table.entry_at.Statement.{statement}
 use Rattle.sserial.proofs.table.entry_at.Tie as tie
-use Rattle.sserial.proofs.table.pair_at.Reads as pair-at-reads
-use Rattle.sserial.proofs.table.record_at.Reads as record-at-reads
-use mathlib.Core.Path.{refl, sym, _∙_}
+use mathlib.Core.Path.{sym, _∙_}
 use native.Mathlib.Omega.{arith}
 use Rattle.sserial.proofs.TableLaws.{entry-cut, entry-end, entry-record}
 

@@ -1,18 +1,10 @@
 use borrow.Author.Needs.{needs}
 use Rattle.sserial.proofs.table.field_record.Statement.{statement}
 use Rattle.sserial.proofs.table.field_record.Tie as tie
-use Rattle.sserial.proofs.table.is_direction.Reads as is-direction-reads
-use Rattle.sserial.proofs.table.nul_of.Reads as nul-of-reads
-use Rattle.sserial.proofs.table.quad_at.Reads as quad-at-reads
-use Prim.Native.Nat.{_+_, _≤_, _<_}
-use mathlib.Core.Path.{_≡_, refl, sym, _∙_}
+use mathlib.Core.Path.{sym}
 use native.Mathlib.Omega.{arith}
-use denote.Ref.{now}
-use lib.ListN.{length}
-use Rattle.sserial.specs.Table.{nulOf}
 use Rattle.sserial.proofs.TableLaws.{unit-cut, name-cut, field-lent, unlisted, listed}
 use Rattle.sserial.specs.Table.{fieldOf, namePlace}
-use borrow.Author.Tests.{not-true, not-false}
 
 add-unit : tie.Need-add-unit
 add-unit c = search needs

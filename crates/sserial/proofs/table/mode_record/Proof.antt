@@ -1,14 +1,11 @@
 use borrow.Author.Needs.{needs}
 use Rattle.sserial.proofs.table.mode_record.Statement.{statement}
 use Rattle.sserial.proofs.table.mode_record.Tie as tie
-use Rattle.sserial.proofs.table.nul_of.Reads as nul-of-reads
-use Prim.Native.Nat.{_+_, _≤_, _<_}
-use mathlib.Core.Path.{_≡_, refl, sym, _∙_}
+use Prim.Native.Nat.{_+_}
+use mathlib.Core.Path.{sym, _∙_}
 use native.Mathlib.Omega.{arith}
 use borrow.Author.Tests.{lt-ltb, le-ltb}
 use denote.Ref.{now}
-use lib.ListN.{length}
-use Rattle.sserial.specs.Table.{nulOf}
 use Rattle.sserial.proofs.TableLaws.{nul-from, mode-cut, mode-read}
 
 add-nul-of : tie.Need-add-nul-of

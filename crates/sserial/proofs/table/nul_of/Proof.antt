@@ -1,6 +1,5 @@
 use Rattle.sserial.proofs.table.nul_of.Statement.{statement}
 use Rattle.sserial.proofs.table.nul_of.Tie as tie
-use borrow.Author.Needs.{needs}
 use Prim.Native.Nat.{_-_}
 use mathlib.Core.Path.{_≡_, refl, sym, _∙_}
 use native.Mathlib.Omega.{arith}
@@ -14,31 +13,24 @@ Inv-loop memory at i₀ i = nulOf memory i ≡ nulOf memory at
 abbrev μ-loop : tie.MeasureT-loop
 μ-loop memory at i₀ i = length memory - i
 
--- src/table.rt:59:5
 loop-holds : tie.Need-loop-holds Inv-loop μ-loop
 loop-holds c = refl
 
--- src/table.rt:60:12
 shared-slice-read-if1 : tie.Need-shared-slice-read-if1 Inv-loop μ-loop
 shared-slice-read-if1 c = omega arith
 
--- src/table.rt:61:13
 returns : tie.Need-returns Inv-loop μ-loop
 returns c = sym (nul-here _ _ (c .before .before .loop-test .taken) (c .if1 .taken)) ∙ c .before .before .before .loop .inv
 
--- src/table.rt:63:9
 add-i : tie.Need-add-i Inv-loop μ-loop
 add-i c = omega arith
 
--- src/table.rt:59:5
 loop-less : tie.Need-loop-less Inv-loop μ-loop
 loop-less c = omega arith
 
--- src/table.rt:59:5
 loop-again : tie.Need-loop-again Inv-loop μ-loop
 loop-again c = nul-later _ _ (c .before .before .loop-test .taken) (c .if1 .left) ∙ c .before .before .before .loop .inv
 
--- src/table.rt:55:1
 returns-2 : tie.Need-returns-2 Inv-loop μ-loop
 returns-2 c = sym (nul-past _ _ (c .loop-test .left)) ∙ c .before .loop .inv
 

@@ -1,13 +1,11 @@
 use borrow.Author.Needs.{needs}
 use Rattle.sserial.proofs.table.record_at.Statement.{statement}
 use Rattle.sserial.proofs.table.record_at.Tie as tie
-use Rattle.sserial.proofs.table.field_record.Reads as field-record-reads
-use Rattle.sserial.proofs.table.mode_record.Reads as mode-record-reads
-use mathlib.Core.Path.{refl, sym, _∙_}
+use mathlib.Core.Path.{refl}
 use Rattle.sserial.specs.Table.{recordAt}
 use Rattle.sserial.specs.Inside.{fieldRecord, modeRecord}
 use lib.ListN.{List·getD-eq-default}
-use borrow.Author.Tests.{eq-eqb, ne-eqb}
+use borrow.Author.Tests.{ne-eqb}
 use denote.Ref.{now}
 
 returns : tie.Need-returns

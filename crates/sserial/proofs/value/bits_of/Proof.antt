@@ -1,7 +1,6 @@
 use borrow.Author.Needs.{needs}
 use Rattle.sserial.proofs.value.bits_of.Statement.{statement}
 use Rattle.sserial.proofs.value.bits_of.Tie as tie
-use Rattle.sserial.proofs.value.half_of.Reads as half-of-reads
 use native.Mathlib.Omega.{arith}
 use Rattle.sserial.proofs.ValueLaws.{half-positive, bits-by-half, bits-fit}
 

@@ -1,10 +1,7 @@
 use borrow.Author.Needs.{needs}
 use Rattle.sserial.proofs.value.in_range.Statement.{statement}
 use Rattle.sserial.proofs.value.in_range.Tie as tie
-use Rattle.sserial.proofs.value.half_of.Reads as half-of-reads
-use Rattle.sserial.proofs.value.is_signed.Reads as is-signed-reads
 use mathlib.Core.Path.{sym, _∙_}
-use native.Mathlib.Omega.{arith}
 use Rattle.sserial.proofs.ValueLaws.{half-positive, range-signed, range-plain}
 
 half-of-requires : tie.Need-half-of-requires

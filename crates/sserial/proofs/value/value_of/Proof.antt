@@ -1,10 +1,6 @@
 use borrow.Author.Needs.{needs}
 use Rattle.sserial.proofs.value.value_of.Statement.{statement}
 use Rattle.sserial.proofs.value.value_of.Tie as tie
-use Rattle.sserial.proofs.value.half_of.Reads as half-of-reads
-use Rattle.sserial.proofs.value.is_signed.Reads as is-signed-reads
-use Prim.Native.Nat.{_≤_}
-use mathlib.Core.Path.{sym, _∙_}
 use native.Mathlib.Omega.{arith}
 use Rattle.sserial.proofs.ValueLaws.{half-twice, half-under, value-above, value-negative, value-plain}
 
