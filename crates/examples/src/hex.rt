@@ -1,12 +1,18 @@
-// Hexadecimal digits as bytes and words.
+// Hexadecimal digits as bytes.
 ghost use Prim.Native.Nat.{_≤_};
 ghost use lib.ListN.{length};
 
-// What a text's digits make: bytes of two digits, and words of eight.
+// The bytes of so many digits.
 pub(crate) struct Data {
-    pub(crate) bytes: [u8; 256],
-    pub(crate) words: [u32; 64],
+    pub(crate) bytes: [u8; 8192],
     pub(crate) digits: usize,
+}
+
+pub(crate) fn none() -> Data {
+    Data {
+        bytes: [0; 8192],
+        digits: 0,
+    }
 }
 
 // The bytes before the first b: all of them where there is none.
@@ -23,46 +29,54 @@ pub(crate) fn before(s: &[u8], b: u8) -> usize
     i
 }
 
-// A digit more. Other bytes are passed over, and so is what there is no room for.
-fn with_digit(d: Data, c: u8) -> Data {
-    let v = before(b"0123456789ABCDEF", c);
-    let n = d.digits;
-    let mut bytes = d.bytes;
-    let mut words = d.words;
-    if 16 <= v {
-        return d;
-    }
-    if 512 <= n {
-        return d;
-    }
-    bytes[n / 2] = bytes[n / 2] % 16 * 16 + v as u8;
-    words[n / 8] = words[n / 8] % 0x10000000 * 16 + v as u32;
-    Data {
-        bytes,
-        words,
-        digits: n + 1,
+// A byte after the digit v: 16 and 17 are the letters of LL and HH, the bytes of an address, and 18 is no digit.
+fn with_value(byte: u8, v: usize, address: u16) -> u8 {
+    match v {
+        16 => (address % 256) as u8,
+        17 => (address / 256) as u8,
+        18 => byte,
+        _ => byte % 16 * 16 + (v % 16) as u8,
     }
 }
 
-pub(crate) fn data_of(text: &[u8]) -> Data {
-    let mut data = Data {
-        bytes: [0; 256],
-        words: [0; 64],
-        digits: 0,
-    };
+fn is_digit(v: usize) -> usize
+    ensures { λ r. ⌜ r ≤ 1 ⌝ }
+{
+    if v < 18 { 1 } else { 0 }
+}
+
+// The digits with a letter more, if it is one. Past 8,192 bytes they start again.
+fn with_letter(d: Data, c: u8, address: u16) -> Data {
+    let v = before(b"0123456789ABCDEFLH", c);
+    let n = d.digits % 16384;
+    let mut bytes = d.bytes;
+    bytes[n / 2] = with_value(bytes[n / 2], v, address);
+    Data {
+        bytes,
+        digits: n + is_digit(v),
+    }
+}
+
+// A text's digits behind those that there are.
+pub(crate) fn with_text(front: Data, text: &[u8], address: u16) -> Data {
+    let mut data = front;
     let mut i: usize = 0;
     while i < text.len() {
-        let next = with_digit(data, text[i]);
+        let next = with_letter(data, text[i], address);
         data = next;
         i += 1;
     }
     data
 }
 
-// How many words bytes make, at most 8.
-pub(crate) fn word_count(s: &[u8]) -> usize
-    ensures { λ r. ⌜ r ≤ 8 ⌝ }
-{
-    let n = s.len() / 4;
-    if n < 8 { n } else { 8 }
+// The same so many times, the address rising by 4.
+pub(crate) fn with_texts(front: Data, text: &[u8], times: u16) -> Data {
+    let mut data = front;
+    let mut i: u16 = 0;
+    while i < times {
+        let next = with_text(data, text, i % 16384 * 4);
+        data = next;
+        i += 1;
+    }
+    data
 }

@@ -1,101 +1,102 @@
 // Examples as text, a line for each:
 //
-//     # TITLE        a new part, with a fresh card and room for 64 bytes and 8 numbers
-//     p NAME= HEX    a packet's bytes, in the order of the wire
+//     # TITLE        a fresh card
+//     " TEXT         the text alone
+//     += HEX         bytes of the list for the next line; + TIMES= HEX puts them so often, LL HH being an address that rises
+//     p NAME= HEX    a packet, its bytes in the order of the wire
 //     b NAME= HEX    a burst's words, at most 8
+//     n= HEX         the card's name, the first bytes of space 7, which no packet can set
 //     w NAME= HEX    a command word, in the order of the wire
 //     h NAME= HEX    an SPI header
-//     l NAME= HEX    a cue list, compiled
-//     d NAME= HEX    a damaged cue list, salvaged
-//     r NAME= HEX    room for what the lists of this part put out: bytes, and numbers of the log
-//     n NAME= HEX    the card's name, the first bytes of space 7, which no packet can set
+//     j NAME= HEX    a recorded show, judged
+//     l NAME= HEX    the list, compiled with so many bytes of room
+//     d NAME= HEX    the list, damaged, salvaged with room for so many bytes and numbers of the log
+//     2= HEX         the list and another, in either order
+//     t NAME=        the list, compiled and tightened
+//     s NAME=        the list, played both ways
+//     m NAME=        the list for a packet, told by the elements that it moves
 //
-// Any other line is passed over.
+// A name is written before the answer. A line that begins with = is passed over.
 use crate::hex;
-use crate::repair;
+use crate::hex::Data;
+use crate::list;
+use crate::pair;
 use crate::show;
-use crate::show::Card;
-use lines::answer;
-use lines::slice;
-use lines::text;
+use crate::slice;
+use crate::text;
+use crate::wire;
+use crate::wire::Card;
+use crate::word;
 use packet::bytes;
 ghost use Prim.Native.Nat.{_≤_};
 ghost use lib.ListN.{length};
 
-// Where the card's name stands in the store.
-const NAME: usize = 65696;
-
-// A title is a whole line, with its end.
-fn part(title: &[u8]) -> Card {
-    text::say(b"\n");
-    text::say(title);
-    show::fresh()
-}
-
-fn byte_at(s: &[u8], i: usize) -> u8 {
-    if i < s.len() { s[i] } else { 0 }
-}
-
-fn named(name: &[u8], card: Card) -> Card {
-    let mut store = card.store;
-    let mut i: usize = 0;
-    while i < 32 {
-        store[NAME + i] = byte_at(name, i);
-        i += 1;
-    }
-    let pointers = card.pointers;
-    Card {
-        pointers,
-        store,
-        room: card.room,
-        log: card.log,
-    }
-}
-
-fn with_room(n: u16, card: Card) -> Card {
-    let pointers = card.pointers;
-    let store = card.store;
-    Card {
-        pointers,
-        store,
-        room: (n % 256) as u8,
-        log: (n / 256) as u8,
-    }
+// The card, and the list for the next line.
+struct State {
+    card: Card,
+    list: Data,
 }
 
 // The examples that leave the card as it is.
-fn apart(kind: u8, name: &[u8], data: &[u8], word: u32, room: u8, log: u8) {
+fn apart(kind: u8, list: &[u8], data: &[u8]) {
     match kind {
-        b'w' => answer::word(name, bytes::pair_at(data, 0)),
-        b'h' => answer::header(name, word),
-        b'l' => show::list(name, data, room),
-        b'd' => repair::list(name, data, room, log),
+        b'w' => word::word(data),
+        b'h' => word::header(wire::word_at(data, 0)),
+        b'j' => list::judged(data),
+        b'l' => {
+            list::compiled(list, bytes::pair_at(data, 0) as u64);
+        }
+        b'd' => list::salvaged(list, data),
+        b'2' => pair::pair(list, data),
+        b't' => list::tightened(list),
+        b's' => show::show(list),
         _ => {}
     }
 }
 
-fn example(kind: u8, name: &[u8], data: &[u8], words: [u32; 64], card: Card) -> Card {
+fn on_card(kind: u8, list: &[u8], data: &[u8], card: Card) -> Card {
     match kind {
-        b'#' => part(name),
-        b'p' => show::packet(name, data, card),
-        b'b' => show::burst(name, words, hex::word_count(data), card),
-        b'n' => named(data, card),
-        b'r' => with_room(bytes::pair_at(data, 0), card),
-        _ => {
-            apart(kind, name, data, words[0], card.room, card.log);
-            card
-        }
+        b'#' => wire::fresh(),
+        b'p' => wire::packet(data, card),
+        b'm' => wire::moving(list, card),
+        b'b' => wire::burst(data, card),
+        b'n' => wire::named(data, card),
+        _ => card,
     }
 }
 
-fn line(s: &[u8], card: Card) -> Card {
-    let head = hex::before(s, b'=');
-    let data = hex::data_of(&s[head..]);
-    let n = (data.digits / 2) as u64;
-    let words = data.words;
+fn example(kind: u8, before: Data, own: Data, card: Card) -> Card {
+    let list = slice::part(&before.bytes, 0, (before.digits / 2) as u64);
+    let data = slice::part(&own.bytes, 0, (own.digits / 2) as u64);
+    apart(kind, list, data);
+    on_card(kind, list, data, card)
+}
+
+// How often a line's bytes are put: once where it does not say.
+fn times(name: &[u8]) -> u16 {
+    let own = hex::with_text(hex::none(), name, 0);
+    let n = bytes::pair_at(&own.bytes, 0);
+    if n == 0 { 1 } else { n }
+}
+
+fn next(kind: u8, name: &[u8], text: &[u8], state: State) -> State {
+    if kind == b'+' {
+        let card = state.card;
+        let list = hex::with_texts(state.list, text, times(name));
+        return State { card, list };
+    }
+    text::say(name);
+    let own = hex::with_text(hex::none(), text, 0);
+    let card = example(kind, state.list, own, state.card);
+    let list = hex::none();
+    State { card, list }
+}
+
+fn line(s: &[u8], state: State) -> State {
     let kind = (bytes::pair_at(s, 0) % 256) as u8;
-    let name = slice::part(slice::part(s, 0, head as u64), 2, head as u64);
-    example(kind, name, slice::part(&data.bytes, 0, n), words, card)
+    let head = hex::before(s, b'=') as u64;
+    let name = slice::part(slice::part(s, 0, head), 2, head);
+    next(kind, name, slice::part(s, head, 32768), state)
 }
 
 // The first line, with its end.
@@ -108,12 +109,14 @@ fn line_bytes(rest: &[u8]) -> usize
 }
 
 pub(crate) fn play(script: &[u8]) {
-    let mut card = show::fresh();
+    let card = wire::fresh();
+    let list = hex::none();
+    let mut state = State { card, list };
     let mut rest = script;
     while 1 <= rest.len() {
         let k = line_bytes(rest);
-        let next = line(slice::part(rest, 0, k as u64), card);
-        card = next;
+        let next = line(slice::part(rest, 0, k as u64), state);
+        state = next;
         rest = &rest[k..];
     }
 }

@@ -1,88 +1,126 @@
-// One packet, burst or cue list, run through the public functions and written as a line: its name, what was sent, and the answer.
-use card::check;
-use card::run;
-use card::spi;
-use lbp16::pointer::Pointers;
-use lines::answer;
-use lines::list;
-use lines::text;
+// Shows played end to end: a list's packets run on one card, and its records done one by one on another.
+use crate::list;
+use crate::slice;
+use crate::slice::Bytes;
+use crate::text;
+use crate::wire;
+use crate::wire::Card;
+use cue::records;
+use lbp16::space;
+use packet::bytes;
 ghost use Prim.Native.Nat.{_≤_};
+ghost use lib.ListN.{length};
 
-// A card, and the room for what is put out: bytes, and numbers of a log.
-pub(crate) struct Card {
-    pub(crate) pointers: Pointers,
-    pub(crate) store: [u8; 65728],
-    pub(crate) room: u8,
-    pub(crate) log: u8,
+// A packet behind its mark and length.
+fn played(frame: &[u8], before: Card) -> Card {
+    text::say(b"packet");
+    wire::packet(slice::part(frame, 4, 1472), before)
 }
 
-pub(crate) fn fresh() -> Card {
-    let pointers = Pointers::fresh();
-    Card {
-        pointers,
-        store: [0; 65728],
-        room: 64,
-        log: 8,
+// Runs the packets of an output in order, and keeps what they read.
+pub(crate) fn play(out: Bytes, before: Card) -> Card {
+    let mut left = wire::unread(before);
+    let mut rest = slice::part(&out.bytes, 0, out.n);
+    while 4 <= rest.len() {
+        let k = text::frame_bytes(rest);
+        let next = played(&rest[..k], left);
+        left = next;
+        rest = &rest[k..];
     }
+    left
 }
 
-// A packet checked and run on the store: one that is refused changes nothing.
-pub(crate) fn packet(name: &[u8], sent: &[u8], card: Card) -> Card {
-    let mut reply = [0u8; 1472];
-    let mut store = card.store;
-    answer::sent(name, b", packet", sent);
-    let checked = check::check(sent, &store, card.pointers);
-    let ran = run::run(sent, &mut store, card.pointers, &mut reply);
-    answer::ran(checked, &reply);
-    let pointers = ran.pointers;
-    Card {
-        pointers,
-        store,
-        room: card.room,
-        log: card.log,
-    }
-}
-
-fn burst_words(name: &[u8], sent: &[u32], store: &mut [u8], room: &mut [u32]) {
-    text::say(name);
-    text::say(b", burst");
-    text::spi_words(sent);
-    text::say(b":");
-    let outcome = spi::burst(sent, store, room);
-    answer::burst(outcome, room);
-}
-
-// A burst of the first n words.
-pub(crate) fn burst(name: &[u8], words: [u32; 64], n: usize, card: Card) -> Card
-    requires { ⌜ n ≤ 8 ⌝ }
+// What follows gets the list's bytes from a record on.
+fn record_bytes(rest: &[u8]) -> usize
+    requires { ⌜ 1 ≤ length (now rest) ⌝ }
+    ensures { λ r. ⌜ (1 ≤ r) × (r ≤ length (now (rest .entry))) ⌝ }
 {
-    let mut store = card.store;
-    let mut room = [0u32; 8];
-    burst_words(name, &words[..n], &mut store, &mut room[..n]);
-    let pointers = card.pointers;
-    Card {
-        pointers,
-        store,
-        room: card.room,
-        log: card.log,
+    if bytes::pair_at(rest, 0) == records::WRITE_MARK {
+        return slice::within(10, rest);
+    }
+    slice::within(6, rest)
+}
+
+// Where a record's element stands, and how many bytes of it are read or written.
+struct Element {
+    at: u64,
+    read: u64,
+    written: u64,
+}
+
+fn element_of(rest: &[u8]) -> Element {
+    let r = records::record_at(rest);
+    let row = space::row_of(r.space);
+    let at = row.place as u64 + r.address as u64;
+    let n = row.element as u64;
+    if r.write {
+        return Element {
+            at,
+            read: 0,
+            written: n,
+        };
+    }
+    Element {
+        at,
+        read: n,
+        written: 0,
     }
 }
 
-pub(crate) fn at_most(n: u8, most: u8) -> usize
-    ensures { λ r. ⌜ r ≤ most ⌝ }
-{
-    if n < most { n as usize } else { most as usize }
+// One record alone: its element is read or written straight in the store.
+fn record_alone(rest: &[u8], before: Card) -> Card {
+    let mut store = before.store;
+    let e = element_of(rest);
+    slice::put(&mut store, e.at, slice::part(rest, 6, e.written));
+    let read = slice::with(before.read, slice::part(&store, e.at, e.read));
+    let pointers = before.pointers;
+    Card {
+        store,
+        pointers,
+        read,
+    }
 }
 
-fn list_in(records: &[u8], room: &mut [u8]) {
-    let given = cue::compile(records, room);
-    list::compiled(given, room);
+// The records of a list one by one.
+fn alone(list: &[u8]) -> Card {
+    let mut left = wire::fresh();
+    let mut rest = list;
+    while 1 <= rest.len() {
+        let next = record_alone(rest, left);
+        left = next;
+        let k = record_bytes(rest);
+        rest = &rest[k..];
+    }
+    left
 }
 
-// A cue list compiled into so many bytes of room.
-pub(crate) fn list(name: &[u8], records: &[u8], room: u8) {
-    let mut bytes = [0u8; 64];
-    let n = at_most(room, 64);
-    answer::sent(name, b", list", records);
-    list_in(records, &mut bytes[..n]);
+fn values(read: Bytes) {
+    let s = slice::part(&read.bytes, 0, read.n);
+    text::fill_with(b"records one by one, values read:&\n", [0; 9], s, s);
+}
+
+fn compared(packets: Card, records: Card) {
+    text::fill(
+        b"replies and values read: [equal|different]; stores but for the unlock cell and the packet count: [equal|different]; packet count after the records #, after the packets #\n",
+        [
+            slice::same_bytes(packets.read, records.read),
+            wire::same_stores(packets, records, true),
+            wire::count(records),
+            wire::count(packets),
+            0,
+            0,
+            0,
+            0,
+            0,
+        ],
+    );
+}
+
+// A list compiled, and done both ways.
+pub(crate) fn show(list: &[u8]) {
+    let out = list::compiled(list, 8192);
+    let packets = play(out, wire::fresh());
+    let records = alone(list);
+    values(records.read);
+    compared(packets, records);
 }

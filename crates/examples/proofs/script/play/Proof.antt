@@ -6,13 +6,16 @@ use Rattle.examples.proofs.script.play.Statement.{statement}
 use Rattle.examples.proofs.script.play.Tie as tie
 
 abbrev Inv-loop : tie.InvT-loop
-Inv-loop script card₀ rest₀ card rest = length rest ≤ length script
+Inv-loop script state₀ rest₀ state rest = length rest ≤ length script
 
 abbrev μ-loop : tie.MeasureT-loop
-μ-loop script card₀ rest₀ card rest = length rest
+μ-loop script state₀ rest₀ state rest = length rest
 
 fresh-requires : tie.Need-fresh-requires Inv-loop μ-loop
 fresh-requires c κs = search needs
+
+none-requires : tie.Need-none-requires Inv-loop μ-loop
+none-requires c κs = search needs
 
 loop-holds : tie.Need-loop-holds Inv-loop μ-loop
 loop-holds c = search needs
@@ -51,6 +54,7 @@ play-spec =
     Inv-loop
     μ-loop
     fresh-requires
+    none-requires
     loop-holds
     line-bytes-requires
     part-requires

@@ -1,0 +1,201 @@
+// A card, and what is sent to it.
+use crate::answer;
+use crate::slice;
+use crate::slice::Bytes;
+use crate::text;
+use card::check;
+use card::run;
+use card::spi;
+use packet::bytes;
+use packet::judge::Verdict;
+ghost use Prim.Native.Nat.{_≤_};
+
+// Where the packet count and the card's name stand in the store.
+const COUNT: usize = 65674;
+
+const NAME: u64 = 65696;
+
+// A card, and the values that were read from it.
+pub(crate) struct Card {
+    pub(crate) store: [u8; 65728],
+    pub(crate) pointers: [u32; 8],
+    pub(crate) read: Bytes,
+}
+
+pub(crate) fn fresh() -> Card {
+    let read = slice::empty();
+    Card {
+        store: [0; 65728],
+        pointers: [0; 8],
+        read,
+    }
+}
+
+fn with_store(store: [u8; 65728], card: Card) -> Card {
+    let pointers = card.pointers;
+    let read = card.read;
+    Card {
+        store,
+        pointers,
+        read,
+    }
+}
+
+// The same with the values put away.
+pub(crate) fn unread(card: Card) -> Card {
+    let store = card.store;
+    let pointers = card.pointers;
+    let read = slice::empty();
+    Card {
+        store,
+        pointers,
+        read,
+    }
+}
+
+pub(crate) fn count(card: Card) -> u64 {
+    bytes::pair_at(&card.store, COUNT) as u64
+}
+
+pub(crate) fn same_stores(a: Card, b: Card, but: bool) -> u64 {
+    slice::same(&a.store, &b.store, but) as u64
+}
+
+// What a packet did.
+struct Done {
+    card: Card,
+    values: [u64; 9],
+    reply: [u8; 1472],
+}
+
+fn checked(sent: &[u8], card: Card) -> Verdict {
+    let pointers = card.pointers;
+    check::check_list(sent, &card.store, &pointers)
+}
+
+// Checks and runs a packet: one that is refused changes nothing.
+fn run_on(sent: &[u8], before: Card) -> Done {
+    let mut reply = [0u8; 1472];
+    let mut store = before.store;
+    let mut pointers = before.pointers;
+    let ran = run::run_list(sent, &mut store, &mut pointers, &mut reply);
+    let values = answer::of_packet(checked(sent, before), ran.elements);
+    let read = before.read;
+    let card = Card {
+        store,
+        pointers,
+        read,
+    };
+    Done {
+        card,
+        values,
+        reply,
+    }
+}
+
+fn answered(form: &[u8], sent: &[u8], values: [u64; 9], reply: [u8; 1472]) {
+    text::fill_with(form, values, sent, slice::part(&reply, 0, values[3]));
+}
+
+// The reply behind what was read before.
+fn replied(card: Card, n: u64, reply: [u8; 1472]) -> Card {
+    let store = card.store;
+    let pointers = card.pointers;
+    let read = slice::with(card.read, slice::part(&reply, 0, n));
+    Card {
+        store,
+        pointers,
+        read,
+    }
+}
+
+// A packet, and its answer in a form.
+fn told(form: &[u8], sent: &[u8], before: Card) -> Card {
+    let done = run_on(sent, before);
+    let reply = done.reply;
+    let values = done.values;
+    answered(form, sent, values, reply);
+    replied(done.card, values[3], reply)
+}
+
+pub(crate) fn packet(sent: &[u8], before: Card) -> Card {
+    told(
+        b"*:[ refused # at #| accepted, # bytes][:|]&\n",
+        sent,
+        before,
+    )
+}
+
+pub(crate) fn moving(sent: &[u8], before: Card) -> Card {
+    told(
+        b" ^:[ refused # at #| accepted, reply of # bytes][|], elements moved #\n",
+        sent,
+        before,
+    )
+}
+
+// Four bytes, high byte first.
+pub(crate) fn word_at(s: &[u8], at: usize) -> u32
+    requires { ⌜ at ≤ 28 ⌝ }
+{
+    let high = bytes::pair_at(s, at) as u32;
+    let low = bytes::pair_at(s, at + 2) as u32;
+    high % 256 * 16777216 + high / 256 * 65536 + low % 256 * 256 + low / 256
+}
+
+fn words_of(s: &[u8]) -> [u32; 8] {
+    let mut words = [0u32; 8];
+    let mut i: usize = 0;
+    while i < 8 {
+        words[i] = word_at(s, 4 * i);
+        i += 1;
+    }
+    words
+}
+
+fn word(w: u32) {
+    text::fill(b" @@", [(w / 65536) as u64, w as u64, 0, 0, 0, 0, 0, 0, 0]);
+}
+
+fn words(all: [u32; 8], n: usize)
+    requires { ⌜ n ≤ 8 ⌝ }
+{
+    let mut i: usize = 0;
+    while i < n {
+        word(all[i]);
+        i += 1;
+    }
+}
+
+fn burst_answered(values: [u64; 9], room: [u32; 8], n: usize)
+    requires { ⌜ n ≤ 8 ⌝ }
+{
+    text::fill(b":[ refused # at #| accepted:]", values);
+    if values[0] == 0 {
+        words(room, n);
+    }
+    text::say(b"\n");
+}
+
+// A burst of the first n words.
+fn burst_of(sent: [u32; 8], n: usize, before: Card) -> Card
+    requires { ⌜ n ≤ 8 ⌝ }
+{
+    let mut store = before.store;
+    let mut room = [0u32; 8];
+    words(sent, n);
+    let given = spi::burst(&sent[..n], &mut store, &mut room[..n]);
+    burst_answered(answer::of_burst(given), room, n);
+    with_store(store, before)
+}
+
+pub(crate) fn burst(sent: &[u8], before: Card) -> Card {
+    burst_of(words_of(sent), slice::at_most_8(sent.len() / 4), before)
+}
+
+// The card with a name, which no packet can set.
+pub(crate) fn named(name: &[u8], before: Card) -> Card {
+    let mut store = before.store;
+    slice::put(&mut store, NAME, name);
+    with_store(store, before)
+}

@@ -1,0 +1,58 @@
+// Command words and SPI headers: their fields, and what these are written as.
+use crate::answer;
+use crate::text;
+use card::spi;
+use card::spi::Header;
+use lbp16::word;
+use lbp16::word::Fields;
+use packet::bytes;
+
+fn of_fields(f: Fields) -> [u64; 9] {
+    [
+        f.write as u64,
+        f.address as u64,
+        f.info as u64,
+        f.space as u64,
+        1 << (f.size % 4),
+        f.increment as u64,
+        f.count as u64,
+        0,
+        0,
+    ]
+}
+
+pub(crate) fn word(sent: &[u8]) {
+    let f = word::fields_of(bytes::pair_at(sent, 0));
+    text::fill_with(
+        b"*: [write|read],[| no] address,[ info,|] space #, # bytes,[| no] increment, count #;",
+        of_fields(f),
+        sent,
+        sent,
+    );
+    let written = answer::of_word(word::word_of(f));
+    text::fill(b"[ refused # at #| written back%%]\n", written);
+}
+
+fn of_header(w: u32, h: Header) -> [u64; 9] {
+    [
+        (w / 65536) as u64,
+        w as u64,
+        (h.command == 0xA) as u64,
+        (h.command == 0xB) as u64,
+        ((h.command != 0xA) & (h.command != 0xB)) as u64,
+        h.command as u64,
+        h.address as u64,
+        h.increment as u64,
+        h.count as u64,
+    ]
+}
+
+pub(crate) fn header(w: u32) {
+    let h = spi::header_of(w);
+    text::fill(
+        b" @@:[ read|][ write|][ command #|], address @,[| no] increment, count #;",
+        of_header(w, h),
+    );
+    let written = answer::of_header(spi::header_word(h));
+    text::fill(b"[ refused # at #| written back @@]\n", written);
+}

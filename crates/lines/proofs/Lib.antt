@@ -1,2 +1,0 @@
--- Laws that functions of this crate use.
-mod PartLaws
