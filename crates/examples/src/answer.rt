@@ -1,4 +1,5 @@
 // Answers as the values of a form: 1, number and place of a refusal, or 0, two values to pass over, and those of the answer.
+use card::run::RanList;
 use card::spi::BurstAnswer;
 use card::spi::HeaderWritten;
 use cue::CompileAnswer;
@@ -8,14 +9,24 @@ use lbp16::word::Written;
 use packet::judge::Verdict;
 use salvage::SalvageAnswer;
 
+// The first value of an answer.
+pub(crate) fn first(values: [u64; 9]) -> u64 {
+    values[3]
+}
+
+pub(crate) fn is_set(values: [u64; 9]) -> bool {
+    values[0] == 1
+}
+
 fn refused(r: Refusal) -> [u64; 9] {
     [1, r.number as u64, r.place, 0, 0, 0, 0, 0, 0]
 }
 
 // The reply's bytes twice, and the elements moved.
-pub(crate) fn of_packet(answer: Verdict, elements: u64) -> [u64; 9] {
+pub(crate) fn of_packet(ran: RanList) -> [u64; 9] {
+    let answer = ran.answer;
     match answer {
-        Verdict::Accepted(n) => [0, 0, 0, n, n, elements, 0, 0, 0],
+        Verdict::Accepted(n) => [0, 0, 0, n, n, ran.elements, 0, 0, 0],
         Verdict::Refused(r) => refused(r),
     }
 }

@@ -29,31 +29,27 @@ pub(crate) fn before(s: &[u8], b: u8) -> usize
     i
 }
 
-// A byte after the digit v: 16 and 17 are the letters of LL and HH, the bytes of an address, and 18 is no digit.
+// A byte after the digit v: 16 and 17 are the letters of LL and HH, the bytes of an address.
 fn with_value(byte: u8, v: usize, address: u16) -> u8 {
     match v {
         16 => (address % 256) as u8,
         17 => (address / 256) as u8,
-        18 => byte,
         _ => byte % 16 * 16 + (v % 16) as u8,
     }
-}
-
-fn is_digit(v: usize) -> usize
-    ensures { λ r. ⌜ r ≤ 1 ⌝ }
-{
-    if v < 18 { 1 } else { 0 }
 }
 
 // The digits with a letter more, if it is one. Past 8,192 bytes they start again.
 fn with_letter(d: Data, c: u8, address: u16) -> Data {
     let v = before(b"0123456789ABCDEFLH", c);
+    if 18 <= v {
+        return d;
+    }
     let n = d.digits % 16384;
     let mut bytes = d.bytes;
     bytes[n / 2] = with_value(bytes[n / 2], v, address);
     Data {
         bytes,
-        digits: n + is_digit(v),
+        digits: n + 1,
     }
 }
 

@@ -6,18 +6,21 @@ use crate::text;
 use packet::bytes;
 ghost use Prim.Native.Nat.{_≤_};
 
-// A list, and the output at the front of the room.
+// A form with what stands at the front of the room.
+fn told(form: &[u8], values: [u64; 9], list: &[u8], room: [u8; 8192]) {
+    let out = slice::part(&room, 0, answer::first(values));
+    text::fill_with(form, values, list, out);
+}
+
 fn output(list: &[u8], values: [u64; 9], room: [u8; 8192]) -> Bytes {
-    text::fill_with(
+    told(
         b"*:[ refused # at #| compiled, # bytes, # packet][s|][, lengths|]~[:|]$\n",
         values,
         list,
-        slice::part(&room, 0, values[3]),
+        room,
     );
-    Bytes {
-        bytes: room,
-        n: values[3],
-    }
+    let n = answer::first(values);
+    Bytes { bytes: room, n }
 }
 
 // A list, and what it compiles to with so many bytes of room.
@@ -37,22 +40,31 @@ pub(crate) fn tightened(list: &[u8]) {
     output(b"", answer::of_list(given), room);
 }
 
-// The log's entry i: place and number of bytes of a stretch that was skipped, no bytes where there is none.
-fn entry(log: [u64; 8], i: usize)
-    requires { ⌜ i ≤ 3 ⌝ }
+fn log_at(log: [u64; 8], i: usize) -> u64
+    requires { ⌜ i ≤ 7 ⌝ }
 {
-    let n = log[2 * i + 1];
-    text::fill(b"[, skipped # at #|]", [n, n, log[2 * i], 0, 0, 0, 0, 0, 0]);
+    log[i]
+}
+
+// The log's entry at i: place and number of bytes of a stretch that was skipped, no bytes where there is none.
+fn entry(log: [u64; 8], i: usize)
+    requires { ⌜ i ≤ 6 ⌝ }
+{
+    let n = log_at(log, i + 1);
+    text::fill(
+        b"[, skipped # at #|]",
+        [n, n, log_at(log, i), 0, 0, 0, 0, 0, 0],
+    );
 }
 
 fn entries(log: [u64; 8]) {
     entry(log, 0);
-    entry(log, 1);
     entry(log, 2);
-    entry(log, 3);
+    entry(log, 4);
+    entry(log, 6);
 }
 
-fn kept(damaged: &[u8], values: [u64; 9], log: [u64; 8], room: [u8; 64]) {
+fn kept(damaged: &[u8], values: [u64; 9], log: [u64; 8], room: [u8; 8192]) {
     text::fill_with(
         b"*:[ refused # at #| kept # bytes]",
         values,
@@ -60,18 +72,25 @@ fn kept(damaged: &[u8], values: [u64; 9], log: [u64; 8], room: [u8; 64]) {
         damaged,
     );
     entries(log);
-    let out = slice::part(&room, 0, values[3]);
-    text::fill_with(b"[|:]$\n", values, damaged, out);
+    told(b"[|:]$\n", values, damaged, room);
+}
+
+fn salvaged_in(damaged: &[u8], k: usize, m: usize)
+    requires { ⌜ (k ≤ 8192) × (m ≤ 8) ⌝ }
+{
+    let mut room = [0u8; 8192];
+    let mut log = [0u64; 8];
+    let given = salvage::salvage(damaged, &mut room[..k], &mut log[..m]);
+    kept(damaged, answer::of_salvage(given), log, room);
 }
 
 // A damaged list salvaged, with room for so many bytes and numbers of the log.
 pub(crate) fn salvaged(damaged: &[u8], rooms: &[u8]) {
-    let mut room = [0u8; 64];
-    let mut log = [0u64; 8];
-    let k = slice::within(bytes::pair_at(rooms, 0) as u64, &room);
-    let m = slice::at_most_8(bytes::pair_at(rooms, 2) as usize);
-    let given = salvage::salvage(damaged, &mut room[..k], &mut log[..m]);
-    kept(damaged, answer::of_salvage(given), log, room);
+    salvaged_in(
+        damaged,
+        slice::at_most(bytes::pair_at(rooms, 0) as usize, 8192),
+        slice::at_most(bytes::pair_at(rooms, 2) as usize, 8),
+    );
 }
 
 fn found(room: [u8; 256], n: usize) {

@@ -55,7 +55,7 @@ fn answered(first: &[u8], second: &[u8]) -> bool {
         b"[independent|][list #: refused # at #|][not independent: the second list's record # clashes with the first list|]\n",
         values,
     );
-    values[0] == 1
+    answer::is_set(values)
 }
 
 pub(crate) fn pair(first: &[u8], second: &[u8]) {

@@ -25,10 +25,10 @@ pub(crate) fn within(n: u64, s: &[u8]) -> usize
     if n < most as u64 { n as usize } else { most }
 }
 
-pub(crate) fn at_most_8(n: usize) -> usize
-    ensures { λ r. ⌜ r ≤ 8 ⌝ }
+pub(crate) fn at_most(n: usize, most: usize) -> usize
+    ensures { λ r. ⌜ r ≤ most ⌝ }
 {
-    if n < 8 { n } else { 8 }
+    if n < most { n } else { most }
 }
 
 // Up to n bytes from a place on.

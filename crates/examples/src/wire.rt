@@ -3,11 +3,9 @@ use crate::answer;
 use crate::slice;
 use crate::slice::Bytes;
 use crate::text;
-use card::check;
 use card::run;
 use card::spi;
 use packet::bytes;
-use packet::judge::Verdict;
 ghost use Prim.Native.Nat.{_≤_};
 
 // Where the packet count and the card's name stand in the store.
@@ -68,18 +66,13 @@ struct Done {
     reply: [u8; 1472],
 }
 
-fn checked(sent: &[u8], card: Card) -> Verdict {
-    let pointers = card.pointers;
-    check::check_list(sent, &card.store, &pointers)
-}
-
-// Checks and runs a packet: one that is refused changes nothing.
+// Runs a packet: one that is refused changes nothing.
 fn run_on(sent: &[u8], before: Card) -> Done {
     let mut reply = [0u8; 1472];
     let mut store = before.store;
     let mut pointers = before.pointers;
     let ran = run::run_list(sent, &mut store, &mut pointers, &mut reply);
-    let values = answer::of_packet(checked(sent, before), ran.elements);
+    let values = answer::of_packet(ran);
     let read = before.read;
     let card = Card {
         store,
@@ -93,15 +86,16 @@ fn run_on(sent: &[u8], before: Card) -> Done {
     }
 }
 
-fn answered(form: &[u8], sent: &[u8], values: [u64; 9], reply: [u8; 1472]) {
-    text::fill_with(form, values, sent, slice::part(&reply, 0, values[3]));
-}
-
-// The reply behind what was read before.
-fn replied(card: Card, n: u64, reply: [u8; 1472]) -> Card {
+// Writes the answer in a form, and keeps the reply behind what was read before.
+fn replied(form: &[u8], sent: &[u8], done: Done) -> Card {
+    let reply = done.reply;
+    let values = done.values;
+    let got = slice::part(&reply, 0, answer::first(values));
+    text::fill_with(form, values, sent, got);
+    let card = done.card;
     let store = card.store;
     let pointers = card.pointers;
-    let read = slice::with(card.read, slice::part(&reply, 0, n));
+    let read = slice::with(card.read, got);
     Card {
         store,
         pointers,
@@ -109,28 +103,19 @@ fn replied(card: Card, n: u64, reply: [u8; 1472]) -> Card {
     }
 }
 
-// A packet, and its answer in a form.
-fn told(form: &[u8], sent: &[u8], before: Card) -> Card {
-    let done = run_on(sent, before);
-    let reply = done.reply;
-    let values = done.values;
-    answered(form, sent, values, reply);
-    replied(done.card, values[3], reply)
-}
-
 pub(crate) fn packet(sent: &[u8], before: Card) -> Card {
-    told(
+    replied(
         b"*:[ refused # at #| accepted, # bytes][:|]&\n",
         sent,
-        before,
+        run_on(sent, before),
     )
 }
 
 pub(crate) fn moving(sent: &[u8], before: Card) -> Card {
-    told(
+    replied(
         b" ^:[ refused # at #| accepted, reply of # bytes][|], elements moved #\n",
         sent,
-        before,
+        run_on(sent, before),
     )
 }
 
@@ -171,7 +156,7 @@ fn burst_answered(values: [u64; 9], room: [u32; 8], n: usize)
     requires { ⌜ n ≤ 8 ⌝ }
 {
     text::fill(b":[ refused # at #| accepted:]", values);
-    if values[0] == 0 {
+    if !answer::is_set(values) {
         words(room, n);
     }
     text::say(b"\n");
@@ -190,7 +175,7 @@ fn burst_of(sent: [u32; 8], n: usize, before: Card) -> Card
 }
 
 pub(crate) fn burst(sent: &[u8], before: Card) -> Card {
-    burst_of(words_of(sent), slice::at_most_8(sent.len() / 4), before)
+    burst_of(words_of(sent), slice::at_most(sent.len() / 4, 8), before)
 }
 
 // The card with a name, which no packet can set.
