@@ -38,12 +38,8 @@ fn with_value(byte: u8, v: usize, address: u16) -> u8 {
     }
 }
 
-// The digits with a letter more, if it is one. Past 8,192 bytes they start again.
-fn with_letter(d: Data, c: u8, address: u16) -> Data {
-    let v = before(b"0123456789ABCDEFLH", c);
-    if 18 <= v {
-        return d;
-    }
+// A digit more. Past 8,192 bytes they start again.
+fn with_digit(d: Data, v: usize, address: u16) -> Data {
     let n = d.digits % 16384;
     let mut bytes = d.bytes;
     bytes[n / 2] = with_value(bytes[n / 2], v, address);
@@ -51,6 +47,14 @@ fn with_letter(d: Data, c: u8, address: u16) -> Data {
         bytes,
         digits: n + 1,
     }
+}
+
+fn with_letter(d: Data, c: u8, address: u16) -> Data {
+    let v = before(b"0123456789ABCDEFLH", c);
+    if v < 18 {
+        return with_digit(d, v, address);
+    }
+    d
 }
 
 // A text's digits behind those that there are.

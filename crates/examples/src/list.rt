@@ -31,13 +31,17 @@ pub(crate) fn compiled(list: &[u8], most: u64) -> Bytes {
     output(list, answer::of_list(given), room)
 }
 
-// The same, and what the planner puts out.
-pub(crate) fn tightened(list: &[u8]) {
+fn tighter(list: &[u8]) {
     let mut room = [0u8; 8192];
-    compiled(list, 8192);
-    text::say(b"tighter");
     let given = planner::tighten(list, &mut room);
     output(b"", answer::of_list(given), room);
+}
+
+// A list compiled, and what the planner puts out.
+pub(crate) fn tightened(list: &[u8]) {
+    compiled(list, 8192);
+    text::say(b"tighter");
+    tighter(list);
 }
 
 fn log_at(log: [u64; 8], i: usize) -> u64

@@ -65,11 +65,15 @@ fn on_card(kind: u8, list: &[u8], data: &[u8], card: Card) -> Card {
     }
 }
 
-fn example(kind: u8, before: Data, own: Data, card: Card) -> Card {
+fn with_list(kind: u8, before: Data, data: &[u8], card: Card) -> Card {
     let list = slice::part(&before.bytes, 0, (before.digits / 2) as u64);
-    let data = slice::part(&own.bytes, 0, (own.digits / 2) as u64);
     apart(kind, list, data);
     on_card(kind, list, data, card)
+}
+
+fn example(kind: u8, before: Data, own: Data, card: Card) -> Card {
+    let data = slice::part(&own.bytes, 0, (own.digits / 2) as u64);
+    with_list(kind, before, data, card)
 }
 
 // How often a line's bytes are put: once where it does not say.

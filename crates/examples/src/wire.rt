@@ -86,13 +86,7 @@ fn run_on(sent: &[u8], before: Card) -> Done {
     }
 }
 
-// Writes the answer in a form, and keeps the reply behind what was read before.
-fn replied(form: &[u8], sent: &[u8], done: Done) -> Card {
-    let reply = done.reply;
-    let values = done.values;
-    let got = slice::part(&reply, 0, answer::first(values));
-    text::fill_with(form, values, sent, got);
-    let card = done.card;
+fn with_read(card: Card, got: &[u8]) -> Card {
     let store = card.store;
     let pointers = card.pointers;
     let read = slice::with(card.read, got);
@@ -101,6 +95,15 @@ fn replied(form: &[u8], sent: &[u8], done: Done) -> Card {
         pointers,
         read,
     }
+}
+
+// Writes the answer in a form, and keeps the reply behind what was read before.
+fn replied(form: &[u8], sent: &[u8], done: Done) -> Card {
+    let reply = done.reply;
+    let values = done.values;
+    let got = slice::part(&reply, 0, answer::first(values));
+    text::fill_with(form, values, sent, got);
+    with_read(done.card, got)
 }
 
 pub(crate) fn packet(sent: &[u8], before: Card) -> Card {

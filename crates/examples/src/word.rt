@@ -21,6 +21,11 @@ fn of_fields(f: Fields) -> [u64; 9] {
     ]
 }
 
+fn word_back(f: Fields) {
+    let written = answer::of_word(word::word_of(f));
+    text::fill(b"[ refused # at #| written back%%]\n", written);
+}
+
 pub(crate) fn word(sent: &[u8]) {
     let f = word::fields_of(bytes::pair_at(sent, 0));
     text::fill_with(
@@ -29,8 +34,7 @@ pub(crate) fn word(sent: &[u8]) {
         sent,
         sent,
     );
-    let written = answer::of_word(word::word_of(f));
-    text::fill(b"[ refused # at #| written back%%]\n", written);
+    word_back(f);
 }
 
 fn of_header(w: u32, h: Header) -> [u64; 9] {
@@ -47,12 +51,16 @@ fn of_header(w: u32, h: Header) -> [u64; 9] {
     ]
 }
 
+fn header_back(h: Header) {
+    let written = answer::of_header(spi::header_word(h));
+    text::fill(b"[ refused # at #| written back @@]\n", written);
+}
+
 pub(crate) fn header(w: u32) {
     let h = spi::header_of(w);
     text::fill(
         b" @@:[ read|][ write|][ command #|], address @,[| no] increment, count #;",
         of_header(w, h),
     );
-    let written = answer::of_header(spi::header_word(h));
-    text::fill(b"[ refused # at #| written back @@]\n", written);
+    header_back(h);
 }
