@@ -29,14 +29,17 @@ pub(crate) fn fresh() -> Card {
     }
 }
 
-fn with_store(store: [u8; 65728], card: Card) -> Card {
-    let pointers = card.pointers;
-    let read = card.read;
+fn with_state(store: [u8; 65728], pointers: [u32; 8], read: Bytes) -> Card {
     Card {
         store,
         pointers,
         read,
     }
+}
+
+fn with_store(store: [u8; 65728], card: Card) -> Card {
+    let pointers = card.pointers;
+    with_state(store, pointers, card.read)
 }
 
 // The same with the values put away.
@@ -73,12 +76,7 @@ fn run_on(sent: &[u8], before: Card) -> Done {
     let mut pointers = before.pointers;
     let ran = run::run_list(sent, &mut store, &mut pointers, &mut reply);
     let values = answer::of_packet(ran);
-    let read = before.read;
-    let card = Card {
-        store,
-        pointers,
-        read,
-    };
+    let card = with_state(store, pointers, before.read);
     Done {
         card,
         values,
@@ -122,13 +120,17 @@ pub(crate) fn moving(sent: &[u8], before: Card) -> Card {
     )
 }
 
+// The two bytes the other way round.
+fn turned(n: u16) -> u16 {
+    n % 256 * 256 + n / 256
+}
+
 // Four bytes, high byte first.
 pub(crate) fn word_at(s: &[u8], at: usize) -> u32
     requires { ⌜ at ≤ 28 ⌝ }
 {
-    let high = bytes::pair_at(s, at) as u32;
-    let low = bytes::pair_at(s, at + 2) as u32;
-    high % 256 * 16777216 + high / 256 * 65536 + low % 256 * 256 + low / 256
+    let high = turned(bytes::pair_at(s, at)) as u32;
+    high * 65536 + turned(bytes::pair_at(s, at + 2)) as u32
 }
 
 fn words_of(s: &[u8]) -> [u32; 8] {
@@ -171,14 +173,16 @@ fn burst_of(sent: [u32; 8], n: usize, before: Card) -> Card
 {
     let mut store = before.store;
     let mut room = [0u32; 8];
-    words(sent, n);
     let given = spi::burst(&sent[..n], &mut store, &mut room[..n]);
     burst_answered(answer::of_burst(given), room, n);
     with_store(store, before)
 }
 
 pub(crate) fn burst(sent: &[u8], before: Card) -> Card {
-    burst_of(words_of(sent), slice::at_most(sent.len() / 4, 8), before)
+    let all = words_of(sent);
+    let n = slice::at_most(sent.len() / 4, 8);
+    words(all, n);
+    burst_of(all, n, before)
 }
 
 // The card with a name, which no packet can set.

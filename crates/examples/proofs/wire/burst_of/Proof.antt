@@ -5,9 +5,6 @@ use borrow.Author.Needs.{needs}
 use Rattle.examples.proofs.wire.burst_of.Statement.{statement}
 use Rattle.examples.proofs.wire.burst_of.Tie as tie
 
-words-requires : tie.Need-words-requires
-words-requires c κs = search needs
-
 array-share-prefix-sent : tie.Need-array-share-prefix-sent
 array-share-prefix-sent c = search needs
 
@@ -42,7 +39,6 @@ pub burst-of-spec : {M : Type 1} → statement M
 burst-of-spec =
     tie.close
     (tie.spec
-    words-requires
     array-share-prefix-sent
     slice-aggregate-burst
     slice-aggregate-burst-2
