@@ -98,27 +98,23 @@ present rest e =
     let b = misaligned (row (x .space)) (x .address) in
     or-false a b (or-false (a || b) (pastEnd x) (or-false (a || b || pastEnd x) (barred x) (or-false _ (reserved x) e .0) .0) .0) .0
 
+-- rule 22 as the code tests it
+abbrev cut : List ℕ → Bool
+cut rest =
+    (not (eqb (markAt rest) readMark) && not (eqb (markAt rest) writeMark))
+    || ltb (length rest) (recordBytes (pickKind (eqb (markAt rest) writeMark)))
+
 -- The chain of tests, where that of rule 24 is the definition's wherever rule 23 does not hold.
 pub chain-is : (index : ℕ) (rest : List ℕ) (w : Bool) → (isAbsent (recordSpace rest) ≡ false → w ≡ not (eqb (upperHalf rest) 0))
     → first (recordRefusals index rest)
     ≡ cond (eqb index mostRecords) 21
-    (cond
-    ((not (eqb (markAt rest) readMark) && not (eqb (markAt rest) writeMark))
-    || ltb (length rest) (recordBytes (pickKind (eqb (markAt rest) writeMark))))
-    22
+    (cond (cut rest) 22
     (cond (badElement (recordStep rest)) 23
     (cond (not (eqb (getD rest 3 0) 0) || (eqb (markAt rest) writeMark && w)) 24 0)))
 unfolding recordRefusals first recordKind
 chain-is index rest w h =
     rw (write-of)
-    (ap
-    (λ (n : ℕ). cond (eqb index mostRecords) 21
-    (cond
-    ((not (eqb (markAt rest) readMark) && not (eqb (markAt rest) writeMark))
-    || ltb (length rest) (recordBytes (pickKind (eqb (markAt rest) writeMark))))
-    22
-    n))
-    (go (badElement (recordStep rest)) refl))
+    (ap (λ (n : ℕ). cond (eqb index mostRecords) 21 (cond (cut rest) 22 n)) (go (badElement (recordStep rest)) refl))
   where
     test : Bool → ℕ
     test u = cond (not (eqb (getD rest 3 0) 0) || (eqb (markAt rest) writeMark && u)) 24 0
@@ -128,12 +124,7 @@ chain-is index rest w h =
     go true e = refl
     go false e = ap test (sym (h (present rest e)))
 
--- The chain, test by test; `cut`: rule 22.
-abbrev cut : List ℕ → Bool
-cut rest =
-    (not (eqb (markAt rest) readMark) && not (eqb (markAt rest) writeMark))
-    || ltb (length rest) (recordBytes (pickKind (eqb (markAt rest) writeMark)))
-
+-- the chain, test by test
 pub is-cut : (rest : List ℕ) → length rest < 6 → cut rest ≡ true
 unfolding recordBytes isWrite
 is-cut rest h = short (eqb (markAt rest) writeMark) (not (eqb (markAt rest) readMark) && not (eqb (markAt rest) writeMark))

@@ -118,6 +118,7 @@ fn plain_register(rest: &[u8]) -> bool
         & (address % 4 == 0)
 }
 
+// The number that the table gives, found without it for a plain register.
 pub fn record_refusal(rest: &[u8], index: usize) -> u32
     ensures { λ r. ⌜ r ≡ first (recordRefusals index (now (rest .entry))) ⌝ }
 {

@@ -121,7 +121,7 @@ pub(crate) fn moving(sent: &[u8], before: Card) -> Card {
 }
 
 // The two bytes the other way round.
-fn turned(n: u16) -> u16 {
+fn swapped(n: u16) -> u16 {
     n % 256 * 256 + n / 256
 }
 
@@ -129,8 +129,8 @@ fn turned(n: u16) -> u16 {
 pub(crate) fn word_at(s: &[u8], at: usize) -> u32
     requires { ⌜ at ≤ 28 ⌝ }
 {
-    let high = turned(bytes::pair_at(s, at)) as u32;
-    high * 65536 + turned(bytes::pair_at(s, at + 2)) as u32
+    let high = swapped(bytes::pair_at(s, at)) as u32;
+    high * 65536 + swapped(bytes::pair_at(s, at + 2)) as u32
 }
 
 fn words_of(s: &[u8]) -> [u32; 8] {

@@ -11,7 +11,7 @@ use Rattle.lbp16.specs.Space.{Space, spaceOf}
 use Rattle.lbp16.specs.declared.word.Fields.{Fields}
 use Rattle.lbp16.specs.declared.pointer.Pointers.{Pointers}
 use Rattle.packet.specs.Step.{Kind, read, write, infoRead, isInfo, isWrite, rowBy, carried, answered}
-use Rattle.lbp16.proofs.SpaceLaws.{area-element-le, area-element-nonzero}
+use Rattle.lbp16.proofs.SpaceLaws.{area-element-le}
 use Rattle.packet.proofs.StepLaws.{carried-row, carried-none, answered-row}
 use Rattle.packet.specs.Rules.{pastEnd, barred, any}
 use Rattle.packet.specs.Command.{Progress}
@@ -41,11 +41,7 @@ info-kind f = go (f .write) (f .info)
     go false true = refl
     go false false = refl
 
--- an element of the command has 1 to 4 bytes
-pub row-some : (f : Fields) → 0 < rowOf f .element
-unfolding rowOf rowBy
-row-some f = area-element-nonzero _ _
-
+-- an element of the command has at most 4 bytes
 pub row-le : (f : Fields) → rowOf f .element ≤ 4
 unfolding rowOf rowBy
 row-le f = area-element-le _ _
