@@ -2,7 +2,7 @@
 use Prim.Native.Nat.{ℕ, _≤_, _<_}
 use mathlib.Core.Path.{_≡_, refl, sym, ap, _∙_}
 use mathlib.Core.List.{List, [], _∷_}
-use mathlib.Core.Bool.{Bool, true, false}
+use mathlib.Core.Bool.{Bool, true, false, cond}
 use native.Mathlib.Omega.{arith}
 use lib.ListN.{length}
 use lib.Dec.{eqb}
@@ -14,14 +14,15 @@ use Rattle.lbp16.specs.declared.pointer.Pointers.{Pointers}
 use Rattle.packet.specs.Command.{limit}
 use Rattle.packet.specs.Judge.{Verdict, judge, accepted, refused}
 use Rattle.packet.specs.Verdict.{answerTo, verdictListed}
+use Rattle.packet.specs.Counts.{elementsMoved}
 use Rattle.card.specs.Run.{Outcome, cleared, counted, badState, checked, outcome, runVerdict, runPacket, ran}
-use Rattle.card.specs.Run.{checkedList, ListOutcome, asList, runList, ranList}
+use Rattle.card.specs.Run.{checkedList, ListOutcome, asList, runList, ranList, mostElements}
 use Rattle.lbp16.specs.Pointer.{pointersOf, pointerList}
 use Rattle.lbp16.proofs.PointerLaws.{list-back, list-length, back-list}
 use Rattle.card.specs.Inside.{IsAccepted, Performed}
 use Rattle.card.specs.declared.run.Ran.{Ran}
 use Rattle.card.specs.declared.run.RanList.{RanList}
-use Rattle.card.proofs.RunLaws.{checked-cases, run-checked, good-state}
+use Rattle.card.proofs.RunLaws.{checked-cases, run-checked, good-state, elements-summed, at-most}
 
 module _ (packet store : List ℕ) (p : Pointers) where
   pub check-state : badState store p ≡ true → checked packet store p ≡ refused 1 0
@@ -138,6 +139,38 @@ module _ (packet store list reply : List ℕ) where
         let w = sym (checked-eight packet store list (m .0)) ∙ v in
         listed r store′ list′ reply′ _ (m .0) (run-checked packet store (pointersOf list) reply room)
         (rw (w, a, e, ap answerTo v, q, d .stored, d .replied, d .pointed, d .moved) refl)
+
+-- the refusal of another count of pointers than eight
+abbrev notEight : List ℕ → List ℕ → List ℕ → ListOutcome
+notEight store list reply = record { answer = Answer.refused 1 0; elements = 0; store = store; reply = reply; pointers = list }
+
+-- What a run answers has the number of elements moved, and that is bounded.
+module _ (packet store list reply : List ℕ) where
+  list-cases : (P : ListOutcome → Type 0) → P (asList (runPacket packet store (pointersOf list) reply)) → P (notEight store list reply)
+      → P (runList packet store list reply)
+  unfolding runList
+  list-cases P eight other = go (eqb (length list) 8)
+    where
+      go : (b : Bool) → P (cond b (asList (runPacket packet store (pointersOf list) reply)) (notEight store list reply))
+      go true = eight
+      go false = other
+
+  pub list-work : (r : RanList) (store′ list′ reply′ : List ℕ) → ranList r store′ list′ reply′ ≡ runList packet store list reply
+      → (ranList r store′ list′ reply′ ≡ runList packet store list reply)
+      × ((r .elements ≡ elementsMoved (verdictListed (r .answer)) packet) × (r .elements ≤ mostElements))
+  unfolding ranList asList elementsMoved
+  list-work r store′ list′ reply′ h =
+      let summed = list-cases (λ o. o .elements ≡ elementsMoved (o .answer) packet) (elements-summed packet store _ reply) refl in
+      let bounded = list-cases (λ o. o .elements ≤ mostElements) (at-most packet store _ reply) (omega arith) in
+      (h, (rw (← h) at summed, rw (← h) at bounded))
+
+pub ran-work : (packet store reply : List ℕ) (p : Pointers) (r : Ran) (store′ reply′ : List ℕ)
+    → ran r store′ reply′ ≡ runPacket packet store p reply
+    → (ran r store′ reply′ ≡ runPacket packet store p reply)
+    × ((r .elements ≡ elementsMoved (verdictListed (r .answer)) packet) × (r .elements ≤ mostElements))
+unfolding ran
+ran-work packet store reply p r store′ reply′ h =
+    (h, (rw (← h) at (elements-summed packet store p reply), rw (← h) at (at-most packet store p reply)))
 
 -- pointers by value, checked as their list
 pub check-listed : (packet store : List ℕ) (p : Pointers) (list : List ℕ) (a : Answer) → list ≡ pointerList p

@@ -21,11 +21,12 @@ use Rattle.packet.specs.Step.{at, isInfo, rowBy, statusWrite, storeAfter, value
 use Rattle.packet.specs.Command.{limit}
 use Rattle.packet.specs.Judge.{Carried, Verdict, refused, accepted, judge}
 use Rattle.packet.specs.Verdict.{answerTo}
+use Rattle.packet.specs.Counts.{elementsMoved}
 use Rattle.packet.specs.Bytes.{number, bytesOf}
 use Rattle.packet.proofs.StoreLaws.{Spared, getD-sets, slice-sets, spared-byte, length-after, length-values}
 use Rattle.packet.proofs.InfoLaws.{accepted-whole}
 use Rattle.packet.proofs.JudgeLaws.{pointers-kept}
-use Rattle.packet.proofs.CountLaws.{few-elements}
+use Rattle.packet.proofs.CountLaws.{steps-counted, few-elements}
 use Rattle.packet.proofs.RefusalLaws.{RefusedAt, refused-in-table, accepted-within, accepted-inside}
 use Rattle.card.specs.Run.{unlockCell, countCell, cleared, countBytes, counted, badState, checked, outcome, runVerdict, runPacket, mostElements}
 
@@ -251,24 +252,32 @@ module _ (packet store : List ℕ) (p : Pointers) (reply : List ℕ) where
       (λ _ _ e. let z : _≡_ {A = ℕ} 0 1 = cc in absurd (omega arith))
       (λ state _ e. good-state store p state .0)
 
+  -- What holds of every refusal, and of a packet whose commands are accepted, holds of every run.
+  run-cases : (P : Verdict → Type 0) → ((n place : ℕ) → P (refused n place))
+      → ((c : Carried) → length packet ≤ limit → judge p packet ≡ accepted c → P (accepted c)) → P (runVerdict packet store p reply)
+  unfolding runVerdict
+  run-cases P refuses accepts = go (eqb (length reply) limit)
+    where
+      judged : (v : Verdict) → length packet ≤ limit → judge p packet ≡ v → P v
+      judged (refused n place) l e = refuses n place
+      judged (accepted c) l e = accepts c l e
+
+      go : (b : Bool) → P (cond b (checked packet store p) (refused 1 0))
+      go true = checked-cases packet store p P (λ _. refuses 1 0) (λ _ _. refuses 2 0) (λ _ l. judged (judge p packet) l refl)
+      go false = refuses 1 0
+
+  -- The elements moved are as many as the packet's commands count together, and none of a refused packet.
+  pub elements-summed : runPacket packet store p reply .elements ≡ elementsMoved (runPacket packet store p reply .answer) packet
+  unfolding runPacket outcome answerTo elementsMoved
+  elements-summed =
+      run-cases (λ v. outcome v store p reply .elements ≡ elementsMoved (outcome v store p reply .answer) packet) (λ n place. refl)
+      (λ c l e. steps-counted p packet c e)
+
   -- Never more than 1,460 elements are moved.
   pub at-most : runPacket packet store p reply .elements ≤ mostElements
-  unfolding runPacket runVerdict outcome
-  at-most = go (eqb (length reply) limit)
-    where
-      checked-most : outcome (checked packet store p) store p reply .elements ≤ mostElements
-      checked-most =
-          checked-cases packet store p (λ v. outcome v store p reply .elements ≤ mostElements) (λ _. omega arith)
-          (λ _ _. omega arith)
-          (λ _ l. judged (judge p packet) l refl)
-        where
-          judged : (v : Verdict) → length packet ≤ limit → judge p packet ≡ v → outcome v store p reply .elements ≤ mostElements
-          judged (refused n place) l e = omega arith
-          judged (accepted c) l e = few-elements p packet c l e
-
-      go : (b : Bool) → outcome (cond b (checked packet store p) (refused 1 0)) store p reply .elements ≤ mostElements
-      go true = checked-most
-      go false = omega arith
+  unfolding runPacket outcome
+  at-most =
+      run-cases (λ v. outcome v store p reply .elements ≤ mostElements) (λ n place. omega arith) (λ c l e. few-elements p packet c l e)
 
   module _ (room : length reply ≡ limit) where
     -- The reply past the answered length is unchanged.

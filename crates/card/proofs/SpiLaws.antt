@@ -23,7 +23,8 @@ use Rattle.packet.proofs.StoreLaws.{length-after}
 use Rattle.card.specs.declared.spi.Header.{Header}
 use Rattle.card.specs.Spi.{readCommand, writeCommand, headerOf, headerWord, otherCommand, answerOf, headerWritten}
 use Rattle.card.specs.Spi.{firstWord, bytesOfWords, wordsOfBytes, burstKind, burstSteps, came, burstRefusals, burstWords}
-use Rattle.card.specs.Spi.{burstOutcome, runBurst}
+use Rattle.card.specs.Spi.{Burst, burstOutcome, runBurst, burstListed, burstLeft, mostInBurst}
+use Rattle.card.specs.declared.spi.BurstAnswer.{BurstAnswer}
 use Rattle.card.specs.Cells.{Cells, cells, filled}
 use Rattle.packet.proofs.CountLaws.{length-elements}
 use Rattle.card.proofs.CellLaws.{steps-within, cells-fewer, reads-cells, writes-fill, filled-outside}
@@ -331,6 +332,13 @@ unfolding burstOutcome
 accepted-passed zero words store room e = refl
 accepted-passed (suc k) words store room e = let z : _≡_ {A = ℕ} 0 1 = cc in absurd (omega arith)
 
+-- A header promises at most 127 elements, and no more than it promises are done.
+few-came : (k : ℕ) (words store room : List ℕ) → (k ≡ 0 → Sound words store room) → (n : ℕ)
+    → burstOutcome k words store room .answer ≡ Answer.accepted (n ∷ []) → n ≤ mostInBurst
+unfolding burstOutcome headerOf
+few-came zero words store room s n e = let q : came words ≡ n = cc in omega (arith, s refl .sent)
+few-came (suc k) words store room s n e = let z : _≡_ {A = ℕ} 0 1 = cc in absurd (omega arith)
+
 -- P holds of each rule's number
 abbrev AllNumbers : (ℕ → Type 0) → List Rule → Type 0
 AllNumbers P [] = Unit
@@ -413,6 +421,15 @@ module _ (words store room : List ℕ) where
   unfolding burstSteps
   burst-elements = length-elements _ _ _ _ _ _
 
-  pub burst-at-most : runBurst words store room .answer ≡ Answer.accepted (came words ∷ []) → came words ≤ 127
-  unfolding headerOf
-  burst-at-most e = omega (arith, accepted-sound e .sent)
+  pub burst-at-most : (n : ℕ) → runBurst words store room .answer ≡ Answer.accepted (n ∷ []) → n ≤ mostInBurst
+  unfolding runBurst
+  burst-at-most = few-came (first (burstRefusals words store room)) words store room (sound words store room)
+
+  -- as the code answers and leaves it
+  pub burst-bounded : (a : BurstAnswer) (store′ room′ : List ℕ) (b : Answer) → burstListed a ≡ b
+      → runBurst words store room ≡ record { answer = b; store = store′; room = room′ }
+      → (burstLeft a store′ room′ ≡ runBurst words store room)
+      × ((n : ℕ) → burstListed a ≡ Answer.accepted (n ∷ []) → n ≤ mostInBurst)
+  unfolding burstLeft
+  burst-bounded a store′ room′ b e h =
+      (rw (h, e) refl, λ n q. burst-at-most n (ap (λ (x : Burst). x .answer) h ∙ sym e ∙ q))

@@ -127,3 +127,7 @@ burstListed (burst-answer.Refused r) = refusal r
 -- what a burst of the code answers and leaves
 unfoldable pub burstLeft : BurstAnswer → List ℕ → List ℕ → Burst
 burstLeft a store room = record { answer = burstListed a; store = store; room = room }
+
+-- the most elements that a burst can move
+abbrev pub mostInBurst : ℕ
+mostInBurst = 127

@@ -20,9 +20,11 @@ ghost use Rattle.lbp16.specs.Space.{spaceOf, storeBytes};
 ghost use Rattle.packet.specs.Step.{answered, storeAfter, valuesRead};
 ghost use Rattle.packet.specs.Command.{limit, kindOf, stepsAt};
 ghost use Rattle.packet.specs.Judge.{judge};
+ghost use Rattle.packet.specs.Verdict.{verdictListed};
+ghost use Rattle.packet.specs.Counts.{elementsMoved};
 ghost use Rattle.packet.specs.Reach.{reachAt};
 ghost use Rattle.lbp16.specs.Pointer.{pointersOf};
-ghost use Rattle.card.specs.Run.{cleared, counted, runPacket, ran, runList, ranList};
+ghost use Rattle.card.specs.Run.{cleared, counted, runPacket, ran, runList, ranList, mostElements};
 ghost use Rattle.card.specs.Inside.{IsAccepted, Ready, Performed, Within, moved, laid, spanAt};
 
 // A command's elements in the store or in the info area: the first one's place, from one to the next, their bytes, and
@@ -183,7 +185,9 @@ fn not_run(answer: Verdict) -> RanList
 // Runs one packet: the whole of it is checked, on the state that the run finds, before anything is done. The pointers are lent as a
 // list, as for a check.
 pub fn run_list(packet: &[u8], store: &mut [u8], list: &mut [u32], reply: &mut [u8]) -> RanList
-    ensures { λ r. ⌜ ranList r (now (store .exit)) (now (list .exit)) (now (reply .exit)) ≡ runList (now (packet .entry)) (now (store .entry)) (now (list .entry)) (now (reply .entry)) ⌝ }
+    ensures ran { λ r. ⌜ ranList r (now (store .exit)) (now (list .exit)) (now (reply .exit)) ≡ runList (now (packet .entry)) (now (store .entry)) (now (list .entry)) (now (reply .entry)) ⌝ }
+    ensures summed { λ r. ⌜ r .elements ≡ elementsMoved (verdictListed (r .answer)) (now (packet .entry)) ⌝ }
+    ensures bounded { λ r. ⌜ r .elements ≤ mostElements ⌝ }
 {
     if reply.len() != command::LIMIT {
         return not_run(judge::refused(1, 0));
@@ -210,7 +214,9 @@ pub struct Ran {
 
 // The same, on pointers by value.
 pub fn run(packet: &[u8], store: &mut [u8], p: Pointers, reply: &mut [u8]) -> Ran
-    ensures { λ r. ⌜ ran r (now (store .exit)) (now (reply .exit)) ≡ runPacket (now (packet .entry)) (now (store .entry)) p (now (reply .entry)) ⌝ }
+    ensures ran { λ r. ⌜ ran r (now (store .exit)) (now (reply .exit)) ≡ runPacket (now (packet .entry)) (now (store .entry)) p (now (reply .entry)) ⌝ }
+    ensures summed { λ r. ⌜ r .elements ≡ elementsMoved (verdictListed (r .answer)) (now (packet .entry)) ⌝ }
+    ensures bounded { λ r. ⌜ r .elements ≤ mostElements ⌝ }
 {
     let mut list = p.listed();
     let done = run_list(packet, store, &mut list, reply);

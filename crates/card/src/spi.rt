@@ -6,13 +6,14 @@ use lbp16::pointer::Pointer;
 use packet::rule;
 ghost use mathlib.Core.Path.{_≡_};
 ghost use mathlib.Core.Bool.{_||_, cond};
-ghost use mathlib.Core.List.{List, _∷_};
+ghost use mathlib.Core.List.{List, [], _∷_};
 ghost use Prim.Native.Nat.{ℕ, _+_, _-_, _*_, _≤_};
 ghost use lib.ListN.{length, drop, replicate};
+ghost use Rattle.lbp16.specs.Answer.{Answer};
 ghost use Rattle.lbp16.specs.Space.{registers, row, storeBytes};
 ghost use Rattle.lbp16.specs.Word.{bit};
 ghost use Rattle.packet.specs.Rules.{first, misaligned, pastEnd, any};
-ghost use Rattle.card.specs.Spi.{headerOf, headerWritten, headerListed, otherCommand, firstWord, burstSteps, burstRefusals, runBurst, burstLeft};
+ghost use Rattle.card.specs.Spi.{headerOf, headerWritten, headerListed, otherCommand, firstWord, burstSteps, burstRefusals, runBurst, burstListed, burstLeft, mostInBurst};
 ghost use Rattle.card.specs.Cells.{Cells, cells, filled};
 
 const READ: u8 = 0xA;
@@ -177,7 +178,8 @@ fn write_cells(words: &[u32], store: &mut [u8], from: usize, stride: usize, answ
 
 // The whole burst is checked before anything is done. Where fewer words came than promised, those are done.
 pub fn burst(words: &[u32], store: &mut [u8], answer: &mut [u32]) -> BurstAnswer
-    ensures { λ r. ⌜ burstLeft r (now (store .exit)) (now (answer .exit)) ≡ runBurst (now (words .entry)) (now (store .entry)) (now (answer .entry)) ⌝ }
+    ensures left { λ r. ⌜ burstLeft r (now (store .exit)) (now (answer .exit)) ≡ runBurst (now (words .entry)) (now (store .entry)) (now (answer .entry)) ⌝ }
+    ensures bounded { λ r. ⌜ ((n : ℕ) → burstListed r ≡ Answer.accepted (n ∷ []) → n ≤ mostInBurst) ⌝ }
 {
     let refused = refusal_of(words, store, answer);
     if refused != 0 {

@@ -2,10 +2,10 @@
 -- which has two bytes.
 use Prim.Native.Nat.{ℕ, zero, suc, _+_, _*_, _%_, _≤_}
 use mathlib.Core.Path.{_≡_, refl, ap, sym, _∙_}
-use mathlib.Core.List.{List, []}
+use mathlib.Core.List.{List, [], _∷_}
 use mathlib.Core.Bool.{Bool, true, false, cond}
 use native.Mathlib.Omega.{arith}
-use native.Mathlib.Nat.{zero-mul, mul-zero}
+use native.Mathlib.Nat.{zero-add, zero-mul, mul-zero}
 use lib.Dec.{ltb}
 use lib.ListN.{length, take, drop, length-append, length-drop}
 use Rattle.lbp16.specs.Space.{Space, registers, eeprom, status, information, absent, isAbsent, row, areaRow, infoRow, spaceOf}
@@ -15,9 +15,11 @@ use Rattle.lbp16.specs.declared.word.Fields.{Fields}
 use Rattle.packet.specs.Bytes.{number}
 use Rattle.packet.specs.Step.{Kind, read, write, infoRead, isInfo, rowBy, carried, answered, replyBytes}
 use Rattle.packet.specs.Command.{limit, fieldsAt, kindOf, headerBytes, commandBytes, elements, stepsAt}
-use Rattle.packet.specs.Judge.{Carried, begin, carry, judge, accepted}
+use Rattle.packet.specs.Judge.{Carried, begin, carry, judgeFrom, judge, accepted}
+use Rattle.packet.specs.Counts.{countsFrom, countsOf, sum}
 use Rattle.packet.proofs.StepLaws.{reply-append}
 use Rattle.packet.proofs.CommandLaws.{Passed, reply-of-command}
+use Rattle.packet.proofs.JudgeLaws.{accepted-past}
 use Rattle.packet.proofs.RefusalLaws.{all-passed, reaches-keeps, accepted-within}
 
 pub length-elements : (k : Kind) (s : Space) (n a d : ℕ) (bs : List ℕ) → length (elements k s n a d bs) ≡ n
@@ -29,6 +31,23 @@ length-elements k s (suc n) a d bs = ap suc (length-elements k s n (a + d) d _)
 pub command-elements : (p : Pointers) (f : Fields) (rest : List ℕ) → length (stepsAt p f rest) ≡ f .count
 unfolding stepsAt
 command-elements p f rest = length-elements _ _ _ _ _ _
+
+-- from any place of a packet on
+counted-from : (fuel : ℕ) (c : Carried) (rest : List ℕ) (end : Carried) → judgeFrom fuel c rest ≡ accepted end
+    → length (end .steps) ≡ length (c .steps) + sum (countsFrom fuel rest)
+unfolding judgeFrom carry countsFrom sum
+counted-from zero c rest end e = let q : c ≡ end = cc in rw (← q) (omega arith)
+counted-from (suc fuel) c [] end e = let q : c ≡ end = cc in rw (← q) (omega arith)
+counted-from (suc fuel) c (b ∷ bs) end e =
+    let (next, on) = accepted-past fuel c b bs end e in
+    let n = command-elements (c .pointers) (fieldsAt (b ∷ bs)) (b ∷ bs) in
+    rw (counted-from fuel (carry c (b ∷ bs)) _ end on, length-append, n) (omega arith)
+
+-- An accepted packet's steps are as many as its commands count together.
+pub steps-counted : (p : Pointers) (packet : List ℕ) (c : Carried) → judge p packet ≡ accepted c
+    → length (c .steps) ≡ sum (countsOf packet)
+unfolding judge begin countsOf
+steps-counted p packet c e = counted-from (length packet) (begin p) packet c e ∙ zero-add _
 
 -- a command counts at most 127
 pub few : (rest : List ℕ) → fieldsAt rest .count ≤ 127

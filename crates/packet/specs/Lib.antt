@@ -3,5 +3,6 @@ pub mod Step
 pub mod Rules
 pub mod Command
 pub mod Judge
+pub mod Counts
 pub mod Verdict
 pub mod Reach

@@ -22,7 +22,7 @@ same-length-3 : tie.Need-same-length-3
 same-length-3 c = search needs
 
 returns : tie.Need-returns
-returns c = ran-left _ _ _ _ _ _ _ _ _ _ (c .before .before .before .before .before .before .before .before .run-list .ensures) (c .before .verdict-value .ensures) (c .verdict-number .ensures)
+returns c = ran-left _ _ _ _ _ _ _ _ _ _ (c .before .before .before .before .before .before .before .before .run-list .ensures .0) (c .before .verdict-value .ensures) (c .verdict-number .ensures)
 
 pub head-run-spec : {M : Type 1} → statement M
 head-run-spec =

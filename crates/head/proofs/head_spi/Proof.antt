@@ -19,7 +19,7 @@ same-length-2 : tie.Need-same-length-2
 same-length-2 c = search needs
 
 returns : tie.Need-returns
-returns c = spi-left _ _ _ _ _ _ _ _ (c .before .before .before .before .before .before .burst .ensures) (c .before .burst-value .ensures) (c .burst-number .ensures)
+returns c = spi-left _ _ _ _ _ _ _ _ (c .before .before .before .before .before .before .burst .ensures .0) (c .before .burst-value .ensures) (c .burst-number .ensures)
 
 pub head-spi-spec : {M : Type 1} → statement M
 head-spi-spec =

@@ -1,5 +1,5 @@
 use mathlib.Core.Path.{refl}
-use Rattle.card.proofs.AnswerLaws.{ran-listed}
+use Rattle.card.proofs.AnswerLaws.{ran-listed, ran-work}
 use borrow.Author.Needs.{needs}
 use Rattle.card.proofs.run.run.Statement.{statement}
 use Rattle.card.proofs.run.run.Tie as tie
@@ -27,7 +27,7 @@ same-length-2 c = search needs
 
 returns : tie.Need-returns
 returns c =
-    ran-listed _ _ _ _ (c .before .before .before .before .before .before .before .run-list .result) _ _ _ _ _ (c .before .before .before .before .before .before .before .before .before .before .before .listed .ensures) (c .before .before .before .before .before .before .before .run-list .ensures) refl refl (c .from-list .ensures)
+    ran-work _ _ _ _ _ _ _ (ran-listed _ _ _ _ (c .before .before .before .before .before .before .before .run-list .result) _ _ _ _ _ (c .before .before .before .before .before .before .before .before .before .before .before .listed .ensures) (c .before .before .before .before .before .before .before .run-list .ensures .0) refl refl (c .from-list .ensures))
 
 pub run-spec : {M : Type 1} → statement M
 run-spec =

@@ -1,7 +1,7 @@
 use mathlib.Core.Path.{refl, sym, ap, _∙_}
 use Rattle.packet.specs.Verdict.{verdictListed}
 use Rattle.card.specs.Run.{counted}
-use Rattle.card.proofs.AnswerLaws.{may-run-list, other-room, run-refused, run-done}
+use Rattle.card.proofs.AnswerLaws.{may-run-list, other-room, run-refused, run-done, list-work}
 use borrow.Author.Needs.{needs}
 use Rattle.card.proofs.run.run_list.Statement.{statement}
 use Rattle.card.proofs.run.run_list.Tie as tie
@@ -13,7 +13,7 @@ not-run-requires : tie.Need-not-run-requires
 not-run-requires c κs = search needs
 
 returns : tie.Need-returns
-returns c = other-room _ _ _ _ (c .before .before .if1 .taken) _ (ap verdictListed (c .not-run .ensures .0) ∙ c .before .refused .ensures) (c .not-run .ensures .1)
+returns c = list-work _ _ _ _ _ _ _ _ (other-room _ _ _ _ (c .before .before .if1 .taken) _ (ap verdictListed (c .not-run .ensures .0) ∙ c .before .refused .ensures) (c .not-run .ensures .1))
 
 check-list-requires : tie.Need-check-list-requires
 check-list-requires c κs = search needs
@@ -35,7 +35,7 @@ same-length-2 c = search needs
 
 returns-2 : tie.Need-returns-2
 unfolding verdictListed
-returns-2 c = run-refused _ _ _ _ (c .before .before .before .before .before .before .if1 .left) _ _ _ (ap verdictListed (c .not-run2 .ensures .0 ∙ c .before .enum-told .given .1)) (ap verdictListed (sym (c .before .enum-told .given .1)) ∙ c .before .before .before .check-list .ensures) (c .not-run2 .ensures .1)
+returns-2 c = list-work _ _ _ _ _ _ _ _ (run-refused _ _ _ _ (c .before .before .before .before .before .before .if1 .left) _ _ _ (ap verdictListed (c .not-run2 .ensures .0 ∙ c .before .enum-told .given .1)) (ap verdictListed (sym (c .before .enum-told .given .1)) ∙ c .before .before .before .check-list .ensures) (c .not-run2 .ensures .1))
 
 perform-requires : tie.Need-perform-requires
 unfolding verdictListed
@@ -61,11 +61,11 @@ same-length-5 c = search needs
 returns-3 : tie.Need-returns-3
 unfolding verdictListed
 returns-3 c =
-    run-done _ _ _ _ (c .before .before .before .before .before .before .before .before .before .before .before .before .before .before .before .before .before .before .before .before .before .before .before .before .if1 .left) (c .before .before .before .before .before .before .before .before .before .before .before .before .before .before .before .before .before .before .before .answer .given .0 .0) _ _ _ _ refl
+    list-work _ _ _ _ _ _ _ _ (run-done _ _ _ _ (c .before .before .before .before .before .before .before .before .before .before .before .before .before .before .before .before .before .before .before .before .before .before .before .before .if1 .left) (c .before .before .before .before .before .before .before .before .before .before .before .before .before .before .before .before .before .before .before .answer .given .0 .0) _ _ _ _ refl
     (ap verdictListed (sym (c .before .before .before .before .before .before .before .before .before .before .before .before .before .before .before .before .before .before .before .answer .given .1)) ∙ c .before .before .before .before .before .before .before .before .before .before .before .before .before .before .before .before .before .before .before .before .before .check-list .ensures)
     (c .before .before .before .before .before .before .before .before .before .before .before .before .before .before .perform .ensures)
     _
-    (c .before .before .count-packet .ensures ∙ ap counted (c .before .before .before .before .before .before .clear-unlock .ensures))
+    (c .before .before .count-packet .ensures ∙ ap counted (c .before .before .before .before .before .before .clear-unlock .ensures)))
 
 pub run-list-spec : {M : Type 1} → statement M
 run-list-spec =

@@ -4,8 +4,8 @@ use Rattle.card.proofs.spi.burst.Tie as tie
 use denote.Ref.{now}
 use mathlib.Core.Path.{sym, ap, _∙_, refl}
 use native.Mathlib.Omega.{arith}
-use Rattle.card.specs.Spi.{headerOf, burstListed, burstLeft}
-use Rattle.card.proofs.SpiLaws.{Ready, ready-lengths, ready-within, burst-refused, burst-reads, burst-writes}
+use Rattle.card.specs.Spi.{headerOf, burstListed}
+use Rattle.card.proofs.SpiLaws.{Ready, ready-lengths, ready-within, burst-refused, burst-reads, burst-writes, burst-bounded}
 
 refusal-of-requires : tie.Need-refusal-of-requires
 refusal-of-requires c κs = search needs
@@ -17,8 +17,8 @@ same-length-2 : tie.Need-same-length-2
 same-length-2 c = search needs
 
 returns : tie.Need-returns
-unfolding burstLeft burstListed
-returns c = rw (burst-refused _ _ _ _ (c .before .refusal-of .ensures) (c .if1 .taken)) refl
+unfolding burstListed
+returns c = burst-bounded _ _ _ _ _ _ _ refl (burst-refused _ _ _ _ (c .before .refusal-of .ensures) (c .if1 .taken))
 
 first-word-requires : tie.Need-first-word-requires
 first-word-requires c κs = search needs
@@ -58,8 +58,8 @@ same-length-4 : tie.Need-same-length-4
 same-length-4 c = search needs
 
 returns-2 : tie.Need-returns-2
-unfolding burstLeft burstListed
-returns-2 c = rw (burst-writes _ _ _ _ _ (ready (c .before .before .before .before .before .before .before .before .before)) (c .before .before .before .before .before .before .before .if2 .taken) _ _ (c .before .before .before .before .write-cells .ensures .0) (c .before .before .before .before .write-cells .ensures .1)) refl
+unfolding burstListed
+returns-2 c = burst-bounded _ _ _ _ _ _ _ refl (burst-writes _ _ _ _ _ (ready (c .before .before .before .before .before .before .before .before .before)) (c .before .before .before .before .before .before .before .if2 .taken) _ _ (c .before .before .before .before .write-cells .ensures .0) (c .before .before .before .before .write-cells .ensures .1))
 
 same-length-5 : tie.Need-same-length-5
 same-length-5 c = search needs
@@ -68,8 +68,8 @@ same-length-6 : tie.Need-same-length-6
 same-length-6 c = search needs
 
 returns-3 : tie.Need-returns-3
-unfolding burstLeft burstListed
-returns-3 c = rw (burst-reads _ _ _ _ _ (ready (c .before .before .before .before .before .before .before)) (c .before .before .before .before .before .if2 .left) _ (c .before .before .read-cells .ensures)) refl
+unfolding burstListed
+returns-3 c = burst-bounded _ _ _ _ _ _ _ refl (burst-reads _ _ _ _ _ (ready (c .before .before .before .before .before .before .before)) (c .before .before .before .before .before .if2 .left) _ (c .before .before .read-cells .ensures))
 
 pub burst-spec : {M : Type 1} → statement M
 burst-spec =
