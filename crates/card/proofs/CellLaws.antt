@@ -13,7 +13,7 @@ use Rattle.lbp16.specs.Space.{registers, row, areaRow, storeBytes}
 use Rattle.packet.specs.Bytes.{number, bytesOf}
 use Rattle.packet.specs.Step.{Kind, read, write, isInfo, rowBy, at, carried, answered, source, stored, after, seen}
 use Rattle.packet.specs.Step.{storeAfter, valuesRead}
-use Rattle.packet.specs.Rules.{any, pastEnd}
+use Rattle.packet.specs.Rules.{anyStep, pastEnd}
 use Rattle.packet.specs.Command.{payload, elements}
 use Rattle.packet.proofs.StepLaws.{row-plain}
 use Rattle.packet.proofs.ByteLaws.{length-bytes}
@@ -25,7 +25,7 @@ use Rattle.card.proofs.StepBlockLaws.{within-bytes}
 
 -- The cells are the burst's steps.
 pub steps-within : (k : Kind) (n a d : ℕ) (bs : List ℕ) → isInfo k ≡ false
-    → any pastEnd (elements k registers n a d bs) ≡ false → Cells n a d
+    → anyStep pastEnd (elements k registers n a d bs) ≡ false → Cells n a d
 unfolding row
 steps-within k n a d bs p e =
     let r = row-plain k registers p in

@@ -15,7 +15,7 @@ use Rattle.lbp16.specs.Answer.{Answer}
 use Rattle.lbp16.specs.Space.{Space, registers, row, storeBytes}
 use Rattle.packet.specs.Bytes.{number, bytesOf}
 use Rattle.packet.specs.Step.{Kind, read, write, infoRead, Step, isInfo, isWrite, carried, answered, storeAfter, valuesRead}
-use Rattle.packet.specs.Rules.{any, misaligned, pastEnd}
+use Rattle.packet.specs.Rules.{anyStep, misaligned, pastEnd}
 use Rattle.packet.specs.Command.{payload, elements}
 use Rattle.packet.proofs.ByteLaws.{length-bytes}
 use Rattle.packet.proofs.StoreLaws.{length-after, length-values, store-after-append, values-read-append}
@@ -84,12 +84,12 @@ module _ (h : Header) (w w' : ℕ) (xs ys : List ℕ) where
   values-split store = rw steps-split (values-read-append _ _ store)
 
 -- Where a burst's elements end.
-end-within : (h : Header) (n : ℕ) (words : List ℕ) → 1 ≤ n → any pastEnd (burstSteps h n words) ≡ false
+end-within : (h : Header) (n : ℕ) (words : List ℕ) → 1 ≤ n → anyStep pastEnd (burstSteps h n words) ≡ false
     → h .address + cond (h .increment) (n * 4) 4 ≤ 65536
 end-within h n words some e = ltb-false _ _ (rw (past-quick h n words, ne-eqb n 0 (omega arith)) at e)
 
 within-end : (h : Header) (n : ℕ) (words : List ℕ) → h .address + cond (h .increment) (n * 4) 4 ≤ 65536
-    → any pastEnd (burstSteps h n words) ≡ false
+    → anyStep pastEnd (burstSteps h n words) ≡ false
 within-end h n words l =
     rw (past-quick h n words, le-ltb 65536 (h .address + cond (h .increment) (n * 4) 4) l) (go (not (eqb n 0)))
   where

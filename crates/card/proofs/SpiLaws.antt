@@ -14,7 +14,7 @@ use Rattle.lbp16.specs.Answer.{Answer}
 use Rattle.lbp16.specs.Space.{registers, row, storeBytes}
 use Rattle.lbp16.specs.Word.{bit}
 use Rattle.packet.specs.Step.{Kind, read, write, infoRead, isInfo, isWrite, storeAfter, valuesRead}
-use Rattle.packet.specs.Rules.{Rule, first, any, misaligned, pastEnd}
+use Rattle.packet.specs.Rules.{Rule, first, anyStep, misaligned, pastEnd}
 use Rattle.packet.specs.Command.{elements}
 use Rattle.packet.proofs.RuleLaws.{none-holds, first-of-none, FirstHolds, first-holds, Lowest, first-lowest}
 use Rattle.packet.proofs.ElementLaws.{past-span}
@@ -150,7 +150,7 @@ burst-plain h = pick-plain (eqb (h .command) writeCommand)
 
 -- Rule 35 as the code tests it.
 pub past-quick : (h : Header) (n : ℕ) (words : List ℕ)
-    → any pastEnd (burstSteps h n words) ≡ (not (eqb n 0) && ltb 65536 (h .address + cond (h .increment) (n * 4) 4))
+    → anyStep pastEnd (burstSteps h n words) ≡ (not (eqb n 0) && ltb 65536 (h .address + cond (h .increment) (n * 4) 4))
 unfolding burstSteps row
 past-quick h n words =
     let r = row-plain (burstKind h) registers (burst-plain h) in
@@ -169,7 +169,7 @@ pub record Sound (words store room : List ℕ) : Type 0 where
   pub headed : 1 ≤ length words
   pub sent : came words ≤ headerIn words .count
   pub aligned : misaligned (row registers) (headerIn words .address) ≡ false
-  pub inside : any pastEnd (burstSteps (headerIn words) (headerIn words .count) words) ≡ false
+  pub inside : anyStep pastEnd (burstSteps (headerIn words) (headerIn words .count) words) ≡ false
 
 module _ (words store room : List ℕ) where
   pub sound : first (burstRefusals words store room) ≡ 0 → Sound words store room

@@ -13,7 +13,7 @@ use Rattle.lbp16.specs.Space.{Space, registers, eeprom, status, information, ab
 use Rattle.lbp16.proofs.BoolLaws.{or-false}
 use Rattle.packet.specs.Step.{Kind, read, write, infoRead, isInfo, isWrite, rowBy, carried, answered, at, source, after, seen}
 use Rattle.packet.specs.Step.{stored, storeAfter, valuesRead}
-use Rattle.packet.specs.Rules.{pastEnd, any}
+use Rattle.packet.specs.Rules.{pastEnd, anyStep}
 use Rattle.packet.specs.Command.{payload, elements}
 use Rattle.packet.proofs.StepLaws.{carried-none, answered-row}
 use Rattle.packet.proofs.StoreLaws.{stored-read}
@@ -31,9 +31,9 @@ element-wide false information e = refl
 element-wide false absent e = let z : _≡_ {A = ℕ} 0 1 = cc in absurd (omega arith)
 
 -- elements that are not past the end of their space or area stand within bytes that reach to it
-pub within-bytes : (k : Kind) (s : Space) (n a d bytes : ℕ) (bs : List ℕ) → any pastEnd (elements k s n a d bs) ≡ false
+pub within-bytes : (k : Kind) (s : Space) (n a d bytes : ℕ) (bs : List ℕ) → anyStep pastEnd (elements k s n a d bs) ≡ false
     → rowBy k s .place + rowBy k s .bytes ≤ bytes → Within n (rowBy k s .place + a) d (rowBy k s .element) bytes
-unfolding any pastEnd elements
+unfolding anyStep pastEnd elements
 within-bytes k s zero a d bytes bs e h = tt
 within-bytes k s (suc n) a d bytes bs e h =
     let (now, later) = or-false _ _ e in

@@ -10,7 +10,7 @@ use Rattle.lbp16.specs.Space.{registers, row, storeBytes}
 use Rattle.lbp16.specs.Word.{bit}
 use Rattle.packet.specs.Bytes.{number, bytesOf}
 use Rattle.packet.specs.Step.{Kind, Step, isWrite, storeAfter, valuesRead}
-use Rattle.packet.specs.Rules.{Rule, first, misaligned, pastEnd, any}
+use Rattle.packet.specs.Rules.{Rule, first, misaligned, pastEnd, anyStep}
 use Rattle.packet.specs.Command.{elements, pickKind}
 use Rattle.card.specs.declared.spi.Header.{Header}
 use Rattle.card.specs.declared.spi.HeaderWritten.{HeaderWritten}
@@ -93,7 +93,7 @@ burstRefusals words store room =
     ∷ record { number = 32; holds = otherCommand h }
     ∷ record { number = 33; holds = eqb (h .count) 0 }
     ∷ record { number = 34; holds = ltb (1 + h .count) (length words) }
-    ∷ record { number = 35; holds = misaligned (row registers) (h .address) || any pastEnd (burstSteps h (h .count) words) }
+    ∷ record { number = 35; holds = misaligned (row registers) (h .address) || anyStep pastEnd (burstSteps h (h .count) words) }
     ∷ []
 
 pub record Burst : Type 0 where

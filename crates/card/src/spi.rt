@@ -12,7 +12,7 @@ ghost use lib.ListN.{length, drop, replicate};
 ghost use Rattle.lbp16.specs.Answer.{Answer};
 ghost use Rattle.lbp16.specs.Space.{registers, row, storeBytes};
 ghost use Rattle.lbp16.specs.Word.{bit};
-ghost use Rattle.packet.specs.Rules.{first, misaligned, pastEnd, any};
+ghost use Rattle.packet.specs.Rules.{first, misaligned, pastEnd, anyStep};
 ghost use Rattle.card.specs.Spi.{headerOf, headerWritten, headerListed, otherCommand, firstWord, burstSteps, burstRefusals, runBurst, burstListed, burstLeft, mostInBurst};
 ghost use Rattle.card.specs.Cells.{Cells, cells, filled};
 
@@ -100,7 +100,7 @@ fn span_of(h: Header) -> u32
 
 // Refusal 35, of all promised cells. They rise from the address, so the last is the furthest.
 fn out_of_place(h: Header) -> bool
-    ensures { λ r. ⌜ ((words : List ℕ) → r ≡ (misaligned (row registers) (h .address) || any pastEnd (burstSteps h (h .count) words))) ⌝ }
+    ensures { λ r. ⌜ ((words : List ℕ) → r ≡ (misaligned (row registers) (h .address) || anyStep pastEnd (burstSteps h (h .count) words))) ⌝ }
 {
     let address = h.address as u32;
     (address % 4 != 0) | ((h.count != 0) & (Pointer::REGISTERS < address + span_of(h)))

@@ -14,7 +14,7 @@ use Rattle.lbp16.specs.Space.{Space, registers, eeprom, status, information, ab
 use Rattle.packet.specs.Step.{Kind, read, write, infoRead, Step, isInfo, rowBy, carried, answered, isWrite, isStatus, namesUnlock, replyBytes}
 use Rattle.packet.specs.Step.{turned, unlocked}
 use Rattle.packet.specs.Bytes.{number}
-use Rattle.packet.specs.Rules.{misaligned, pastEnd, barred, any}
+use Rattle.packet.specs.Rules.{misaligned, pastEnd, barred, anyStep}
 use Rattle.packet.specs.Command.{pickKind, limit}
 use Rattle.packet.proofs.StepLaws.{unlocked-append, reply-append, any-append, any-one, carried-le, answered-le, pick-again, row-plain}
 use Rattle.cue.specs.Records.{badElement, recordBytes}
@@ -170,7 +170,7 @@ and-false true = refl
 and-false false = refl
 
 unlock-sound : (open? : Bool) → Sound open? unlockCommand
-unfolding unlockCommand isAbsent isInfo carried rowBy areaRow row misaligned commandSteps elementSteps any pastEnd barred isWrite
+unfolding unlockCommand isAbsent isInfo carried rowBy areaRow row misaligned commandSteps elementSteps anyStep pastEnd barred isWrite
 unlock-sound open? =
     record {
       plain = refl;

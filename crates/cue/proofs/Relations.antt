@@ -9,7 +9,7 @@ use Rattle.lbp16.specs.Pointer.{aboveSize}
 use Rattle.lbp16.specs.declared.pointer.Pointers.{Pointers}
 use Rattle.packet.specs.Bytes.{number}
 use Rattle.packet.specs.Step.{Step, isInfo, carried, isWrite, statusWrite, unlocked}
-use Rattle.packet.specs.Rules.{misaligned, pastEnd, barred, any}
+use Rattle.packet.specs.Rules.{misaligned, pastEnd, barred, anyStep}
 use Rattle.packet.specs.Command.{limit}
 use Rattle.packet.specs.Judge.{Carried, accepted, judge}
 use Rattle.cue.specs.Records.{badElement}
@@ -29,8 +29,8 @@ pub record Sound (open? : Bool) (c : Command) : Type 0 where
   pub wide : Wide (carried (c .kind) (c .space)) (c .elements)
   pub address : c .address < 65536
   pub aligned : misaligned (row (c .space)) (c .address) ≡ false
-  pub inside : any pastEnd (commandSteps c) ≡ false
-  pub allowed : any barred (commandSteps c) ≡ false
+  pub inside : anyStep pastEnd (commandSteps c) ≡ false
+  pub allowed : anyStep barred (commandSteps c) ≡ false
   pub unlocks : (isWrite (c .kind) && row (c .space) .locked && not open?) ≡ false
 
 -- the commands of a packet, each sound after those before it

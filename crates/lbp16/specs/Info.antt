@@ -1,8 +1,10 @@
 -- What a space's info area shows, as the INFO AREA sections of document 001 lay it out.
 use Prim.Native.Nat.{ℕ, _+_, _*_, _%_}
 use mathlib.Core.List.{List, [], _∷_}
+use mathlib.Core.Bool.{cond}
 use lib.Dec.{ltb}
-use Rattle.lbp16.specs.Space.{Space, registers, eeprom, status, information, absent, spaceNumber, row}
+use lib.ListN.{replicate}
+use Rattle.lbp16.specs.Space.{Space, registers, eeprom, status, information, absent, spaceNumber, isAbsent, row}
 use Rattle.lbp16.specs.Word.{bit}
 
 -- 01 registers, 0E EEPROM; the document fixes no type for space 7
@@ -26,7 +28,9 @@ memRanges status = 5
 memRanges information = 5
 memRanges absent = 0
 
--- The area's eight numbers: cookie, sizes, ranges, the low sixteen bits of the space's pointer, and no name.
+-- The area's eight numbers: cookie, sizes, ranges, the low sixteen bits of the space's pointer, and no name. An absent space
+-- has no area: all are 0.
 unfoldable pub areaWords : Space → ℕ → List ℕ
 areaWords s pointer =
-    (0x5A00 + spaceNumber s) ∷ memSizes s ∷ memRanges s ∷ pointer % 65536 ∷ 0 ∷ 0 ∷ 0 ∷ 0 ∷ []
+    cond (isAbsent s) (replicate 8 0)
+    ((0x5A00 + spaceNumber s) ∷ memSizes s ∷ memRanges s ∷ pointer % 65536 ∷ 0 ∷ 0 ∷ 0 ∷ 0 ∷ [])

@@ -18,7 +18,7 @@ use Rattle.lbp16.proofs.PointerLaws.{with-pointer-kept, advanced-exact}
 use Rattle.lbp16.proofs.SpaceLaws.{area-bytes-le}
 use Rattle.packet.specs.Bytes.{bytesOf}
 use Rattle.packet.specs.Step.{Kind, isInfo, rowBy, carried, answered, replyBytes}
-use Rattle.packet.specs.Rules.{first, misaligned, pastEnd, barred, any}
+use Rattle.packet.specs.Rules.{first, misaligned, pastEnd, barred, anyStep}
 use Rattle.packet.specs.Command.{limit, fieldsAt, kindOf, rowOf, headerBytes, commandBytes, addressUsed, stride}
 use Rattle.packet.specs.Command.{elements, stepsAt, outOfPlace, refusals, pointersAfter}
 use Rattle.packet.proofs.ByteLaws.{length-bytes, number-of-bytes}
@@ -33,8 +33,8 @@ pub record Passed (p : Pointers) (open? : Bool) (reply : ℕ) (f : Fields) (rest
   pub sized : f .size ≡ rowOf f .size
   pub some : 1 ≤ f .count
   pub aligned : misaligned (rowOf f) (addressUsed p f rest) ≡ false
-  pub inside : any pastEnd (stepsAt p f rest) ≡ false
-  pub allowed : any barred (stepsAt p f rest) ≡ false
+  pub inside : anyStep pastEnd (stepsAt p f rest) ≡ false
+  pub allowed : anyStep barred (stepsAt p f rest) ≡ false
   pub unlocks : (f .write && rowOf f .locked && not open?) ≡ false
   pub whole : commandBytes f ≤ length rest
   pub answers : reply + f .count * answered (kindOf f) (spaceOf (f .space)) ≤ limit
@@ -106,7 +106,7 @@ reply-of-command p f rest = reply-of-elements _ _ _ _ _ _
 
 -- If no element is past the end, the last one ends within the space.
 pub last-inside : (k : Kind) (s : Space) (n a d : ℕ) (bytes : List ℕ)
-    → any pastEnd (elements k s (suc n) a d bytes) ≡ false → a + n * d + rowBy k s .element ≤ rowBy k s .bytes
+    → anyStep pastEnd (elements k s (suc n) a d bytes) ≡ false → a + n * d + rowBy k s .element ≤ rowBy k s .bytes
 last-inside k s n a d bytes e = ltb-false _ _ (sym (past-last k s n a d bytes) ∙ e)
 
 -- elements stand at most an element's size apart
@@ -120,7 +120,7 @@ stride-le f = go (f .increment) (rowOf f .element)
 
 -- If they stand at most an element's size apart, the address past them all is within the space or at its end.
 pub all-inside : (k : Kind) (s : Space) (n a d : ℕ) (bytes : List ℕ) → 1 ≤ n → d ≤ rowBy k s .element
-    → any pastEnd (elements k s n a d bytes) ≡ false → a + n * d ≤ rowBy k s .bytes
+    → anyStep pastEnd (elements k s n a d bytes) ≡ false → a + n * d ≤ rowBy k s .bytes
 all-inside k s zero a d bytes l w e = absurd (omega arith)
 all-inside k s (suc n) a d bytes l w e = rw suc-mul (omega (arith, last-inside k s n a d bytes e))
 

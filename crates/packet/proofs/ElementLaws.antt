@@ -13,7 +13,7 @@ use Rattle.lbp16.specs.declared.pointer.Pointers.{Pointers}
 use Rattle.packet.specs.Step.{Kind, read, write, infoRead, isInfo, isWrite, rowBy, carried, answered}
 use Rattle.lbp16.proofs.SpaceLaws.{area-element-le}
 use Rattle.packet.proofs.StepLaws.{carried-row, carried-none, answered-row}
-use Rattle.packet.specs.Rules.{pastEnd, barred, any}
+use Rattle.packet.specs.Rules.{pastEnd, barred, anyStep}
 use Rattle.packet.specs.Command.{Progress}
 use Rattle.packet.specs.declared.command.Which.the-variants.{Read, Write, Refused}
 use Rattle.packet.specs.Command.{elements, kindOf, rowOf, whichOf, nextBy, stepsAt, addressUsed, stride, handed}
@@ -79,8 +79,8 @@ lower a b n h e = lt-ltb a n (let l : b < n = ltb-true b n e in omega arith)
 
 -- Of elements that rise, the last is the furthest.
 pub past-last : (k : Kind) (s : Space) (n a d : ℕ) (bs : List ℕ)
-    → any pastEnd (elements k s (suc n) a d bs) ≡ ltb (rowBy k s .bytes) (a + n * d + rowBy k s .element)
-unfolding any pastEnd elements
+    → anyStep pastEnd (elements k s (suc n) a d bs) ≡ ltb (rowBy k s .bytes) (a + n * d + rowBy k s .element)
+unfolding anyStep pastEnd elements
 past-last k s zero a d bs = or-none _ ∙ ap (ltb (rowBy k s .bytes)) (rw zero-mul (omega arith))
 past-last k s (suc n) a d bs =
     ap (λ (t : Bool). ltb (rowBy k s .bytes) (a + rowBy k s .element) || t) (past-last k s n (a + d) d _)
@@ -89,8 +89,8 @@ past-last k s (suc n) a d bs =
 
 -- and the first is the lowest
 pub barred-first : (k : Kind) (s : Space) (n a d : ℕ) (bs : List ℕ)
-    → any barred (elements k s (suc n) a d bs) ≡ (ltb a (rowBy k s .«read_only») && isWrite k)
-unfolding any barred elements
+    → anyStep barred (elements k s (suc n) a d bs) ≡ (ltb a (rowBy k s .«read_only») && isWrite k)
+unfolding anyStep barred elements
 barred-first k s zero a d bs = or-none _
 barred-first k s (suc n) a d bs =
     ap (λ (t : Bool). (ltb a (rowBy k s .«read_only») && isWrite k) || t) (barred-first k s n (a + d) d _)
@@ -105,9 +105,9 @@ barred-first k s (suc n) a d bs =
 
 -- Rules 8 and 35 without a walk: with increment or without, the furthest element against the space's end.
 pub past-span : (k : Kind) (s : Space) (n a : ℕ) (i : Bool) (bs : List ℕ)
-    → any pastEnd (elements k s n a (cond i (rowBy k s .element) 0) bs)
+    → anyStep pastEnd (elements k s n a (cond i (rowBy k s .element) 0) bs)
     ≡ (not (eqb n 0) && ltb (rowBy k s .bytes) (a + cond i (n * rowBy k s .element) (rowBy k s .element)))
-unfolding any elements
+unfolding anyStep elements
 past-span k s zero a i bs = refl
 past-span k s (suc n) a true bs =
     past-last k s n a _ bs ∙ rw (eqb·suc-zero n) (ap (ltb (rowBy k s .bytes)) (rw suc-mul (omega arith)))
@@ -116,7 +116,7 @@ past-span k s (suc n) a false bs =
 
 -- Rules 8 and 9 as the code tests them.
 pub past-quick : (p : Pointers) (f : Fields) (rest : List ℕ)
-    → any pastEnd (stepsAt p f rest)
+    → anyStep pastEnd (stepsAt p f rest)
     ≡ (not (eqb (f .count) 0)
     && ltb (rowOf f .bytes)
     (addressUsed p f rest
@@ -125,13 +125,13 @@ unfolding stepsAt stride rowOf
 past-quick p f rest = past-span _ _ _ _ (f .increment) _
 
 pub barred-quick : (p : Pointers) (f : Fields) (rest : List ℕ)
-    → any barred (stepsAt p f rest)
+    → anyStep barred (stepsAt p f rest)
     ≡ (not (eqb (f .count) 0) && (ltb (addressUsed p f rest) (rowOf f .«read_only») && f .write))
-unfolding stepsAt any elements rowOf
+unfolding stepsAt anyStep elements rowOf
 barred-quick p f rest = go (f .count)
   where
     go : (n : ℕ)
-        → any barred (elements (kindOf f) (spaceOf (f .space)) n (addressUsed p f rest) (stride f) (handed p f rest))
+        → anyStep barred (elements (kindOf f) (spaceOf (f .space)) n (addressUsed p f rest) (stride f) (handed p f rest))
         ≡ (not (eqb n 0) && (ltb (addressUsed p f rest) (rowOf f .«read_only») && f .write))
     go zero = refl
     go (suc n) = barred-first _ _ n _ _ _ ∙ rw (eqb·suc-zero n, write-kind f) refl

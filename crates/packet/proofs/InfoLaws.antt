@@ -1,11 +1,11 @@
 -- Laws of info reads: what they show, and what they leave alone.
 use Prim.Native.Nat.{ℕ, zero, suc, _+_, _≤_}
 use mathlib.Core.Path.{_≡_, refl}
-use mathlib.Core.List.{List}
-use mathlib.Core.Bool.{true, false}
-use lib.ListN.{length}
+use mathlib.Core.List.{List, [], _∷_}
+use mathlib.Core.Bool.{Bool, true, false, cond}
+use lib.ListN.{length, replicate}
 use native.Mathlib.Omega.{arith}
-use Rattle.lbp16.specs.Space.{Space, spaceOf, infoRow, storeBytes}
+use Rattle.lbp16.specs.Space.{Space, spaceOf, isAbsent, infoRow, storeBytes}
 use Rattle.lbp16.specs.Info.{areaWords}
 use Rattle.lbp16.specs.Pointer.{pointerOf, withPointer}
 use Rattle.lbp16.specs.declared.word.Fields.{Fields}
@@ -46,7 +46,12 @@ area-alone p q f rest other e h = rw (e, h)
 -- An area has 16 bytes,
 pub area-length : (s : Space) (n : ℕ) → length (areaBytes s n) ≡ infoRow .bytes
 unfolding areaBytes areaWords pairsOf bytesOf infoRow
-area-length s n = refl
+area-length s n = go (isAbsent s) _ _ _ _
+  where
+    go : (b : Bool) (cookie sizes ranges pointer : ℕ)
+        → length (pairsOf (cond b (replicate 8 0) (cookie ∷ sizes ∷ ranges ∷ pointer ∷ 0 ∷ 0 ∷ 0 ∷ 0 ∷ []))) ≡ infoRow .bytes
+    go true cookie sizes ranges pointer = refl
+    go false cookie sizes ranges pointer = refl
 
 -- and every info read has a whole one.
 elements-whole : (k : Kind) (s : Space) (n a d : ℕ) (bytes : List ℕ) → (isInfo k ≡ true → length bytes ≡ infoRow .bytes)

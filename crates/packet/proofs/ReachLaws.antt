@@ -17,7 +17,7 @@ use Rattle.lbp16.specs.declared.pointer.Pointers.{Pointers}
 use Rattle.lbp16.proofs.PointerLaws.{slot-read}
 use Rattle.packet.specs.Bytes.{number}
 use Rattle.packet.specs.Step.{read, write, isInfo, rowBy, carried, answered}
-use Rattle.packet.specs.Rules.{Rule, first, misaligned, any, barred}
+use Rattle.packet.specs.Rules.{Rule, first, misaligned, anyStep, barred}
 use Rattle.packet.specs.Command.{fieldsAt, kindOf, rowOf, headerBytes, commandBytes, addressUsed, stride, stepsAt, refusals, whichOf, found}
 use Rattle.packet.specs.Reach.{reachFrom, reachAt, Ruled, JudgedAt, ForRegisters}
 use Rattle.packet.specs.declared.command.Reach.{Reach}
@@ -70,7 +70,7 @@ module _ (f : Fields) (h : ForRegisters f) where
   unfolding row
   sized = rw (← plain-row) (eq-eqb _ _ (h .size))
 
-  free : (p : Pointers) (rest : List ℕ) → any barred (stepsAt p f rest) ≡ false
+  free : (p : Pointers) (rest : List ℕ) → anyStep barred (stepsAt p f rest) ≡ false
   unfolding row
   free p rest = rw (barred-quick, ← plain-row) (go (not (eqb (f .count) 0)))
     where

@@ -13,7 +13,7 @@ use Rattle.lbp16.specs.declared.word.Fields.{Fields}
 use Rattle.lbp16.specs.declared.pointer.Pointers.{Pointers}
 use Rattle.lbp16.proofs.PointerLaws.{with-pointer-other}
 use Rattle.packet.specs.Step.{Kind, read, write, infoRead, Step, isInfo, unlocked, replyBytes}
-use Rattle.packet.specs.Rules.{Rule, first, any, pastEnd}
+use Rattle.packet.specs.Rules.{Rule, first, anyStep, pastEnd}
 use Rattle.packet.specs.Command.{limit, fieldsAt, kindOf, headerBytes, commandBytes, elements, stepsAt}
 use Rattle.packet.specs.Command.{refusals, whichOf, found, pointersAfter}
 use Rattle.packet.specs.Judge.{Carried, Verdict, refused, accepted, begin, foundNext, carry, verdictAt, judgeFrom, judge}
@@ -152,10 +152,10 @@ accepted-within p packet end e =
 
 -- None of its steps is past its space's end.
 pub accepted-inside : (p : Pointers) (packet : List ℕ) (end : Carried) → judge p packet ≡ accepted end
-    → any pastEnd (end .steps) ≡ false
-unfolding begin any carry
+    → anyStep pastEnd (end .steps) ≡ false
+unfolding begin anyStep carry
 accepted-inside p packet end e =
-    reaches-keeps (λ c _. any pastEnd (c .steps) ≡ false) (λ c rest n h. any-append pastEnd (c .steps) _ h (n .inside))
+    reaches-keeps (λ c _. anyStep pastEnd (c .steps) ≡ false) (λ c rest n h. any-append pastEnd (c .steps) _ h (n .inside))
     (all-passed p packet end e)
     refl
 

@@ -8,7 +8,7 @@ use Rattle.lbp16.proofs.SpaceLaws.{element-le, area-element-le}
 use Rattle.lbp16.specs.Space.{Space, row, areaRow}
 use Rattle.packet.specs.Step.{Kind, read, write, infoRead, Step, isInfo, isWrite, rowBy, carried, answered}
 use Rattle.packet.specs.Step.{replyBytes, turned, unlocked}
-use Rattle.packet.specs.Rules.{any}
+use Rattle.packet.specs.Rules.{anyStep}
 use Rattle.packet.specs.Command.{pickKind}
 
 pub unlocked-append : (open? : Bool) (ss ts : List Step) → unlocked open? (ss ++ ts) ≡ unlocked (unlocked open? ss) ts
@@ -21,18 +21,18 @@ unfolding replyBytes
 reply-append [] ts = omega arith
 reply-append (s ∷ ss) ts = rw (reply-append ss ts) (omega arith)
 
-pub any-append : (f : Step → Bool) (ss ts : List Step) → any f ss ≡ false → any f ts ≡ false → any f (ss ++ ts) ≡ false
-unfolding any
+pub any-append : (f : Step → Bool) (ss ts : List Step) → anyStep f ss ≡ false → anyStep f ts ≡ false → anyStep f (ss ++ ts) ≡ false
+unfolding anyStep
 any-append f [] ts h k = k
 any-append f (s ∷ ss) ts h k = go (f s) (any-append f ss ts) h
   where
-    go : (b : Bool) → (any f ss ≡ false → any f ts ≡ false → any f (ss ++ ts) ≡ false) → (b || any f ss) ≡ false
-        → (b || any f (ss ++ ts)) ≡ false
+    go : (b : Bool) → (anyStep f ss ≡ false → anyStep f ts ≡ false → anyStep f (ss ++ ts) ≡ false) → (b || anyStep f ss) ≡ false
+        → (b || anyStep f (ss ++ ts)) ≡ false
     go true rest e = e
     go false rest e = rest e k
 
-pub any-one : (f : Step → Bool) (s : Step) → f s ≡ false → any f (s ∷ []) ≡ false
-unfolding any
+pub any-one : (f : Step → Bool) (s : Step) → f s ≡ false → anyStep f (s ∷ []) ≡ false
+unfolding anyStep
 any-one f s e = rw e
 
 -- an element has at most 4 bytes, in its command and in the reply

@@ -16,7 +16,7 @@ use Rattle.lbp16.proofs.BoolLaws.{or-false}
 use Rattle.lbp16.proofs.SpaceLaws.{row-end}
 use Rattle.packet.specs.Step.{Kind, read, write, infoRead, Step, isInfo, isWrite, rowBy, at, source, stored, answered, after, seen, storeAfter, valuesRead}
 use Rattle.packet.specs.Step.{replyBytes}
-use Rattle.packet.specs.Rules.{pastEnd, any}
+use Rattle.packet.specs.Rules.{pastEnd, anyStep}
 
 -- the n places from i on and the m places from j on do not overlap
 abbrev pub Apart : ℕ → ℕ → ℕ → ℕ → Type 0
@@ -141,9 +141,9 @@ source-end write s bs store e h = rw e (row-end s)
 source-end infoRead s bs store e h = rw (h refl) (omega arith)
 
 -- Steps that are inside their spaces read as many bytes of a whole store as their reply has.
-pub length-values : (ss : List Step) (store : List ℕ) → length store ≡ storeBytes → AllWhole ss → any pastEnd ss ≡ false
+pub length-values : (ss : List Step) (store : List ℕ) → length store ≡ storeBytes → AllWhole ss → anyStep pastEnd ss ≡ false
     → length (valuesRead ss store) ≡ replyBytes ss
-unfolding valuesRead replyBytes any pastEnd seen at after
+unfolding valuesRead replyBytes anyStep pastEnd seen at after
 length-values [] store e w h = refl
 length-values (s ∷ ss) store e w h =
     let r = rowBy (s .kind) (s .space) in

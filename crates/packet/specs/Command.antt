@@ -14,7 +14,7 @@ use Rattle.lbp16.specs.declared.pointer.Pointers.{Pointers}
 use Rattle.packet.specs.Bytes.{number, pairsOf}
 use Rattle.packet.specs.Step.{Kind, read, write, infoRead, Step, isInfo, rowBy, carried, answered}
 use Rattle.packet.specs.Step.{unlocked, replyBytes}
-use Rattle.packet.specs.Rules.{Rule, first, misaligned, pastEnd, barred, any}
+use Rattle.packet.specs.Rules.{Rule, first, misaligned, pastEnd, barred, anyStep}
 use Rattle.packet.specs.declared.command.Found.{Found}
 use Rattle.packet.specs.declared.command.Which.{Which}
 use Rattle.packet.specs.declared.command.Which.the-variants.{Read, Write, Refused}
@@ -83,7 +83,7 @@ stepsAt p f rest =
 
 -- Refusal 8: the address used is misaligned, or some element stands past the end.
 unfoldable pub outOfPlace : Pointers → Fields → List ℕ → Bool
-outOfPlace p f rest = misaligned (rowOf f) (addressUsed p f rest) || any pastEnd (stepsAt p f rest)
+outOfPlace p f rest = misaligned (rowOf f) (addressUsed p f rest) || anyStep pastEnd (stepsAt p f rest)
 
 -- Refusals 3 to 12. `open?`: whether the unlock is open; `reply`: the reply's bytes so far.
 unfoldable pub refusals : Pointers → Bool → ℕ → Fields → List ℕ → List Rule
@@ -96,7 +96,7 @@ refusals p open? reply f rest =
     ∷ record { number = 6; holds = not (eqb (f .size) (rowOf f .size)) }
     ∷ record { number = 7; holds = eqb (f .count) 0 }
     ∷ record { number = 8; holds = outOfPlace p f rest }
-    ∷ record { number = 9; holds = any barred (stepsAt p f rest) }
+    ∷ record { number = 9; holds = anyStep barred (stepsAt p f rest) }
     ∷ record { number = 10; holds = f .write && rowOf f .locked && not open? }
     ∷ record { number = 11; holds = ltb (length rest) (commandBytes f) }
     ∷ record { number = 12; holds = ltb limit (reply + f .count * answered k s) }

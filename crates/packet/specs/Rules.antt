@@ -27,6 +27,7 @@ pastEnd s = let r = rowBy (s .kind) (s .space) in ltb (r .bytes) (s .address + r
 unfoldable pub barred : Step → Bool
 barred s = ltb (s .address) (rowBy (s .kind) (s .space) .«read_only») && isWrite (s .kind)
 
-unfoldable pub any : (Step → Bool) → List Step → Bool
-any f [] = false
-any f (s ∷ ss) = f s || any f ss
+-- whether the test holds of some step
+unfoldable pub anyStep : (Step → Bool) → List Step → Bool
+anyStep f [] = false
+anyStep f (s ∷ ss) = f s || anyStep f ss

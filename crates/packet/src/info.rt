@@ -31,7 +31,7 @@ fn area(cookie: u16, sizes: u16, ranges: u16, pointer: u32) -> [u8; 16]
     ]
 }
 
-// The area of a space whose pointer stands at `pointer`: cookie, MEMSIZES, MEMRANGES, pointer and name.
+// The area of a space whose pointer stands at `pointer`: cookie, MEMSIZES, MEMRANGES, pointer and name; zeros of an absent one.
 pub fn area_bytes(space: u8, pointer: u32) -> [u8; 16]
     ensures { λ r. ⌜ r ≡ areaBytes (spaceOf space) pointer ⌝ }
 {
@@ -40,6 +40,6 @@ pub fn area_bytes(space: u8, pointer: u32) -> [u8; 16]
         2 => area(0x5A02, 0x8E02, 7, pointer),
         6 => area(0x5A06, 0x8102, 5, pointer),
         7 => area(0x5A07, 0x0002, 5, pointer),
-        _ => area(0x5A01, 0x0001, 0, pointer),
+        _ => [0; 16],
     }
 }

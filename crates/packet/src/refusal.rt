@@ -20,7 +20,7 @@ ghost use Rattle.lbp16.specs.Word.{fieldsOf};
 ghost use Rattle.lbp16.specs.Pointer.{pointersOf};
 ghost use Rattle.lbp16.specs.declared.pointer.Pointers.{Pointers};
 ghost use Rattle.packet.specs.Bytes.{number};
-ghost use Rattle.packet.specs.Rules.{first, any, barred};
+ghost use Rattle.packet.specs.Rules.{first, anyStep, barred};
 ghost use Rattle.packet.specs.Command.{limit, fieldsAt, kindOf, rowOf, headerBytes, addressUsed, stepsAt, outOfPlace, refusals, whichOf};
 ghost use Rattle.packet.specs.Reach.{reachAt, ForRegisters, Ruled, JudgedAt};
 
@@ -72,7 +72,7 @@ fn out_of_place(f: Fields, row: Row, used: u32) -> bool
 // Refusal 9. The first element is the lowest.
 fn read_only(f: Fields, row: Row, used: u32) -> bool
     requires { ⌜ row ≡ rowOf f ⌝ }
-    ensures { λ r. ⌜ ((p : Pointers) (rest : List ℕ) → used ≡ addressUsed p f rest → r ≡ any barred (stepsAt p f rest)) ⌝ }
+    ensures { λ r. ⌜ ((p : Pointers) (rest : List ℕ) → used ≡ addressUsed p f rest → r ≡ anyStep barred (stepsAt p f rest)) ⌝ }
 {
     (f.count != 0) & ((used < row.read_only) & f.write)
 }

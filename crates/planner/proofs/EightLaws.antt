@@ -12,7 +12,7 @@ use Rattle.lbp16.specs.Word.{wordOf}
 use Rattle.lbp16.proofs.SpaceLaws.{bytes-le, element-nonzero, element-le}
 use Rattle.packet.specs.Bytes.{bytesOf}
 use Rattle.packet.specs.Step.{Kind, read, write, infoRead, Step, isInfo, isWrite, carried, answered, rowBy, replyBytes}
-use Rattle.packet.specs.Rules.{pastEnd, barred, any}
+use Rattle.packet.specs.Rules.{pastEnd, barred, anyStep}
 use Rattle.packet.specs.Command.{limit}
 use Rattle.packet.proofs.StepLaws.{row-plain}
 use Rattle.cue.specs.Records.{badElement, records}
@@ -46,8 +46,8 @@ unfolding commandSteps stillCommand
 still-steps n x = repeated n (x .kind) (x .space) (x .address) (x .bytes)
 
 -- what no record is, none of the n is
-never : (f : Step → Bool) (x : Step) (n : ℕ) → f x ≡ false → any f (replicate n x) ≡ false
-unfolding any
+never : (f : Step → Bool) (x : Step) (n : ℕ) → f x ≡ false → anyStep f (replicate n x) ≡ false
+unfolding anyStep
 never f x zero e = refl
 never f x (suc n) e = rw (e, never f x n e)
 

@@ -14,7 +14,7 @@ use Rattle.lbp16.specs.declared.word.Fields.{Fields}
 use Rattle.lbp16.specs.declared.pointer.Pointers.{Pointers}
 use Rattle.lbp16.proofs.BoolLaws.{or-false}
 use Rattle.packet.specs.Step.{Kind, read, write, infoRead, Step, isInfo, isWrite, carried}
-use Rattle.packet.specs.Rules.{any}
+use Rattle.packet.specs.Rules.{anyStep}
 use Rattle.packet.specs.Command.{fieldsAt, kindOf, headerBytes, commandBytes, addressUsed, stride, payload, elements, areaBytes}
 use Rattle.packet.specs.Command.{handed, stepsAt}
 use Rattle.packet.specs.Judge.{Carried, accepted, begin, carry, judgeFrom, judge}
@@ -26,22 +26,22 @@ use Rattle.packet.proofs.RefusalLaws.{all-passed, reaches-keeps}
 unfoldable pub infoStep : Step → Bool
 infoStep s = isInfo (s .kind)
 
-any-joined : (f : Step → Bool) (ss ts : List Step) → any f (ss ++ ts) ≡ (any f ss || any f ts)
-unfolding any
+any-joined : (f : Step → Bool) (ss ts : List Step) → anyStep f (ss ++ ts) ≡ (anyStep f ss || anyStep f ts)
+unfolding anyStep
 any-joined f [] ts = refl
-any-joined f (s ∷ ss) ts = rw (any-joined f ss ts) (assoc (f s) (any f ss) (any f ts))
+any-joined f (s ∷ ss) ts = rw (any-joined f ss ts) (assoc (f s) (anyStep f ss) (anyStep f ts))
   where
     assoc : (a b c : Bool) → (a || (b || c)) ≡ ((a || b) || c)
     assoc true b c = refl
     assoc false b c = refl
 
 -- What none of the steps does, none of their parts does.
-pub any-split : (f : Step → Bool) (ss ts : List Step) → any f (ss ++ ts) ≡ false → (any f ss ≡ false) × (any f ts ≡ false)
-any-split f ss ts e = or-false (any f ss) (any f ts) (sym (any-joined f ss ts) ∙ e)
+pub any-split : (f : Step → Bool) (ss ts : List Step) → anyStep f (ss ++ ts) ≡ false → (anyStep f ss ≡ false) × (anyStep f ts ≡ false)
+any-split f ss ts e = or-false (anyStep f ss) (anyStep f ts) (sym (any-joined f ss ts) ∙ e)
 
 -- what holds of no step at the end holds of none before
 none-before : (f : Step → Bool) (fuel : ℕ) (c : Carried) (rest : List ℕ) (end : Carried)
-    → judgeFrom fuel c rest ≡ accepted end → any f (end .steps) ≡ false → any f (c .steps) ≡ false
+    → judgeFrom fuel c rest ≡ accepted end → anyStep f (end .steps) ≡ false → anyStep f (c .steps) ≡ false
 unfolding judgeFrom carry
 none-before f zero c rest end e h = let q : c ≡ end = cc in rw q h
 none-before f (suc fuel) c [] end e h = let q : c ≡ end = cc in rw q h
@@ -50,19 +50,19 @@ none-before f (suc fuel) c (b ∷ bs) end e h =
     any-split f (c .steps) _ (none-before f fuel (carry c (b ∷ bs)) _ end on h) .0
 
 -- a command whose steps are no info reads is none
-plain-command : (p : Pointers) (f : Fields) (rest : List ℕ) → 1 ≤ f .count → any infoStep (stepsAt p f rest) ≡ false
+plain-command : (p : Pointers) (f : Fields) (rest : List ℕ) → 1 ≤ f .count → anyStep infoStep (stepsAt p f rest) ≡ false
     → isInfo (kindOf f) ≡ false
-unfolding stepsAt elements any infoStep
+unfolding stepsAt elements anyStep infoStep
 plain-command p f rest = go (f .count) _ _ _
   where
-    go : (n a d : ℕ) (bytes : List ℕ) → 1 ≤ n → any infoStep (elements (kindOf f) (spaceOf (f .space)) n a d bytes) ≡ false
+    go : (n a d : ℕ) (bytes : List ℕ) → 1 ≤ n → anyStep infoStep (elements (kindOf f) (spaceOf (f .space)) n a d bytes) ≡ false
         → isInfo (kindOf f) ≡ false
     go zero a d bytes l e = absurd (omega arith)
     go (suc n) a d bytes l e = or-false (isInfo (kindOf f)) _ e .0
 
 -- No command of an accepted packet without info reads is one.
 pub plain-next : (fuel : ℕ) (c : Carried) (b : ℕ) (bs : List ℕ) (end : Carried)
-    → judgeFrom (suc fuel) c (b ∷ bs) ≡ accepted end → any infoStep (end .steps) ≡ false
+    → judgeFrom (suc fuel) c (b ∷ bs) ≡ accepted end → anyStep infoStep (end .steps) ≡ false
     → isInfo (kindOf (fieldsAt (b ∷ bs))) ≡ false
 unfolding carry
 plain-next fuel c b bs end e h =
@@ -72,15 +72,15 @@ plain-next fuel c b bs end e h =
 
 -- Whether there are info reads does not depend on the pointers.
 info-elements : (k : Kind) (s : Space) (n a d : ℕ) (bytes : List ℕ) (a′ : ℕ) (bytes′ : List ℕ)
-    → any infoStep (elements k s n a d bytes) ≡ any infoStep (elements k s n a′ d bytes′)
-unfolding any infoStep elements
+    → anyStep infoStep (elements k s n a d bytes) ≡ anyStep infoStep (elements k s n a′ d bytes′)
+unfolding anyStep infoStep elements
 info-elements k s zero a d bytes a′ bytes′ = refl
 info-elements k s (suc n) a d bytes a′ bytes′ =
     ap (λ (t : Bool). isInfo k || t) (info-elements k s n (a + d) d _ (a′ + d) _)
 
-info-from : (fuel : ℕ) (a b : Carried) (rest : List ℕ) (end end′ : Carried) → any infoStep (a .steps) ≡ any infoStep (b .steps)
+info-from : (fuel : ℕ) (a b : Carried) (rest : List ℕ) (end end′ : Carried) → anyStep infoStep (a .steps) ≡ anyStep infoStep (b .steps)
     → judgeFrom fuel a rest ≡ accepted end → judgeFrom fuel b rest ≡ accepted end′
-    → any infoStep (end .steps) ≡ any infoStep (end′ .steps)
+    → anyStep infoStep (end .steps) ≡ anyStep infoStep (end′ .steps)
 unfolding judgeFrom carry stepsAt
 info-from zero a b rest end end′ h e e′ =
     let q : a ≡ end = cc in
@@ -95,12 +95,12 @@ info-from (suc fuel) a b (x ∷ xs) end end′ h e e′ =
     let (next′, on′) = accepted-past fuel b x xs end′ e′ in
     info-from fuel (carry a (x ∷ xs)) (carry b (x ∷ xs)) _ end end′
     (rw (any-joined infoStep (a .steps), any-joined infoStep (b .steps), h)
-    (ap (λ (t : Bool). any infoStep (b .steps) || t) (info-elements _ _ _ _ _ _ _ _)))
+    (ap (λ (t : Bool). anyStep infoStep (b .steps) || t) (info-elements _ _ _ _ _ _ _ _)))
     on
     on′
 
 pub info-same : (p q : Pointers) (packet : List ℕ) (end end′ : Carried) → judge p packet ≡ accepted end
-    → judge q packet ≡ accepted end′ → any infoStep (end .steps) ≡ any infoStep (end′ .steps)
+    → judge q packet ≡ accepted end′ → anyStep infoStep (end .steps) ≡ anyStep infoStep (end′ .steps)
 unfolding judge begin
 info-same p q packet end end′ e e′ = info-from (length packet) (begin p) (begin q) packet end end′ refl e e′
 
@@ -109,14 +109,14 @@ unfoldable pub missized : Step → Bool
 missized s = isWrite (s .kind) && not (eqb (length (s .bytes)) (carried (s .kind) (s .space)))
 
 no-write-sized : (k : Kind) (s : Space) (n a d : ℕ) (bytes : List ℕ) → isWrite k ≡ false
-    → any missized (elements k s n a d bytes) ≡ false
-unfolding any missized elements
+    → anyStep missized (elements k s n a d bytes) ≡ false
+unfolding anyStep missized elements
 no-write-sized k s zero a d bytes e = refl
 no-write-sized k s (suc n) a d bytes e = rw e (no-write-sized k s n (a + d) d _ e)
 
 write-sized : (s : Space) (n a d : ℕ) (bytes : List ℕ) → n * row s .element ≤ length bytes
-    → any missized (elements write s n a d bytes) ≡ false
-unfolding any missized elements payload carried isWrite
+    → anyStep missized (elements write s n a d bytes) ≡ false
+unfolding anyStep missized elements payload carried isWrite
 write-sized s zero a d bytes l = refl
 write-sized s (suc n) a d bytes l =
     let m = suc-mul n (row s .element) in
@@ -125,7 +125,7 @@ write-sized s (suc n) a d bytes l =
 
 -- A whole command's writes have as many bytes as their elements.
 command-sized : (p : Pointers) (f : Fields) (rest : List ℕ) → commandBytes f ≤ length rest
-    → any missized (stepsAt p f rest) ≡ false
+    → anyStep missized (stepsAt p f rest) ≡ false
 unfolding stepsAt commandBytes handed isInfo isWrite carried
 command-sized p f rest l = go (kindOf f) (rw length-drop (omega arith))
   where
@@ -133,7 +133,7 @@ command-sized p f rest l = go (kindOf f) (rw length-drop (omega arith))
     s = spaceOf (f .space)
 
     go : (k : Kind) → f .count * carried k s ≤ length (drop (headerBytes f) rest)
-        → any missized
+        → anyStep missized
         (elements k s (f .count) (addressUsed p f rest) (stride f)
         (cond (isInfo k) (areaBytes s (pointerOf p false s)) (drop (headerBytes f) rest)))
         ≡ false
@@ -143,10 +143,10 @@ command-sized p f rest l = go (kindOf f) (rw length-drop (omega arith))
 
 -- So have those of an accepted packet.
 pub accepted-sized : (p : Pointers) (packet : List ℕ) (end : Carried) → judge p packet ≡ accepted end
-    → any missized (end .steps) ≡ false
-unfolding begin any carry
+    → anyStep missized (end .steps) ≡ false
+unfolding begin anyStep carry
 accepted-sized p packet end e =
-    reaches-keeps (λ c _. any missized (c .steps) ≡ false)
+    reaches-keeps (λ c _. anyStep missized (c .steps) ≡ false)
     (λ c rest n h. any-append missized (c .steps) _ h (command-sized (c .pointers) (fieldsAt rest) rest (n .whole)))
     (all-passed p packet end e)
     refl

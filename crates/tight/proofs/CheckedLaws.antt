@@ -8,7 +8,7 @@ use lib.Dec.{ltb}
 use lib.ListN.{length}
 use borrow.Author.Tests.{ltb-false, le-ltb}
 use Rattle.packet.specs.Step.{Step}
-use Rattle.packet.specs.Rules.{any}
+use Rattle.packet.specs.Rules.{anyStep}
 use Rattle.cue.specs.Records.{Listed, recordsOf}
 use Rattle.cue.specs.Records
 use Rattle.cue.specs.Output.{Apart, unsound, parts, apart}
@@ -85,9 +85,9 @@ is-accepted list proposal count a =
     )
 
 -- Packets that do what no good record and no unlock write does are rejected.
-rejected-for : (f : Step → Bool) → ((ss : List Step) → Good (withoutUnlocks ss) → any f ss ≡ false) → (list proposal : List ℕ)
+rejected-for : (f : Step → Bool) → ((ss : List Step) → Good (withoutUnlocks ss) → anyStep f ss ≡ false) → (list proposal : List ℕ)
     → (xs : List Step) → recordsOf list ≡ Records.records xs → (ps : List (List ℕ)) → apart proposal ≡ parts ps
-    → (ss : List Step) → packetsDo ps ≡ steps ss → any f ss ≡ true → checked list proposal ≡ rejected
+    → (ss : List Step) → packetsDo ps ≡ steps ss → anyStep f ss ≡ true → checked list proposal ≡ rejected
 unfolding checked proposalChecked partsChecked stepsChecked
 rejected-for f never list proposal xs r ps a ss d h =
     rw (r, a, d, differs (sameSteps (withoutUnlocks ss) xs) refl) (either (ltb (length (output xs)) (length proposal)))
@@ -103,15 +103,15 @@ rejected-for f never list proposal xs r ps a ss d h =
 
 -- An info command is rejected, and so is a write of another value than 0x5A02 to the unlock cell.
 pub info-rejected : (list proposal : List ℕ) (xs : List Step) → recordsOf list ≡ Records.records xs → (ps : List (List ℕ))
-    → apart proposal ≡ parts ps → (ss : List Step) → packetsDo ps ≡ steps ss → any infoStep ss ≡ true
+    → apart proposal ≡ parts ps → (ss : List Step) → packetsDo ps ≡ steps ss → anyStep infoStep ss ≡ true
     → checked list proposal ≡ rejected
 info-rejected = rejected-for infoStep without-info
 
 pub other-unlock-rejected : (list proposal : List ℕ) (xs : List Step) → recordsOf list ≡ Records.records xs
-    → (ps : List (List ℕ)) → apart proposal ≡ parts ps → (ss : List Step) → packetsDo ps ≡ steps ss → any otherUnlock ss ≡ true
+    → (ps : List (List ℕ)) → apart proposal ≡ parts ps → (ss : List Step) → packetsDo ps ≡ steps ss → anyStep otherUnlock ss ≡ true
     → checked list proposal ≡ rejected
 other-unlock-rejected = rejected-for otherUnlock without-other
 
 -- no step of an accepted proposal is an info read
-pub no-info : (list proposal : List ℕ) (count : ℕ) (a : Accepts list proposal count) → any infoStep (a .done) ≡ false
+pub no-info : (list proposal : List ℕ) (count : ℕ) (a : Accepts list proposal count) → anyStep infoStep (a .done) ≡ false
 no-info list proposal count a = without-info (a .done) (rw (a .same) (records-good list (a .xs) (a .list-records)))

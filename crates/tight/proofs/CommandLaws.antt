@@ -11,7 +11,7 @@ use Rattle.lbp16.specs.declared.word.Fields.{Fields}
 use Rattle.lbp16.specs.declared.pointer.Pointers.{Pointers}
 use Rattle.lbp16.proofs.SpaceLaws.{area-bytes-le}
 use Rattle.packet.specs.Step.{Kind, read, write, infoRead, Step, isInfo, isWrite, carried, rowBy}
-use Rattle.packet.specs.Rules.{any, pastEnd}
+use Rattle.packet.specs.Rules.{anyStep, pastEnd}
 use Rattle.packet.specs.Command.{pickKind, kindOf, headerBytes, commandBytes, addressUsed, stride, elements, handed, stepsAt}
 use Rattle.packet.proofs.SliceLaws.{tail-whole}
 use Rattle.packet.proofs.CommandLaws.{Passed, last-inside}
@@ -54,7 +54,7 @@ info-elements k s zero a d bytes list e l = absurd (omega arith)
 info-elements k s (suc n) a d bytes list e l = first-rejected _ _ list (info-step _ list e)
 
 -- the address used is within its space
-used-inside : (k : Kind) (s : Space) (n a d : ℕ) (bytes : List ℕ) → 1 ≤ n → any pastEnd (elements k s n a d bytes) ≡ false
+used-inside : (k : Kind) (s : Space) (n a d : ℕ) (bytes : List ℕ) → 1 ≤ n → anyStep pastEnd (elements k s n a d bytes) ≡ false
     → a ≤ rowBy k s .bytes
 used-inside k s zero a d bytes l e = absurd (omega arith)
 used-inside k s (suc n) a d bytes l e = let h = last-inside k s n a d bytes e in omega arith

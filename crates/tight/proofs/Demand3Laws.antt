@@ -5,7 +5,7 @@ use mathlib.Core.List.{List, [], _∷_, _++_}
 use mathlib.Core.Bool.{false}
 use native.Mathlib.Omega.{arith}
 use Rattle.packet.specs.Step.{Step}
-use Rattle.packet.specs.Rules.{any}
+use Rattle.packet.specs.Rules.{anyStep}
 use Rattle.cue.proofs.Relations.{Holds}
 use Rattle.cue.proofs.RecordLaws.{records-good}
 use Rattle.cue.proofs.RunAll.{run-all}
@@ -17,7 +17,7 @@ use Rattle.tight.proofs.MixedLaws.{mixed-without, without-append}
 use Rattle.tight.proofs.CheckedLaws.{accepted-is, no-info}
 
 -- a packet's writes have as many bytes as their elements
-does-sized : (packet : List ℕ) (ss : List Step) → packetDoes packet ≡ steps ss → any missized ss ≡ false
+does-sized : (packet : List ℕ) (ss : List Step) → packetDoes packet ≡ steps ss → anyStep missized ss ≡ false
 does-sized packet ss e = let u = from-unset packet ss e in rw (u .same) at (accepted-sized unset packet (u .end) (u .judged))
 
 -- Packets without info commands hold their steps, unlock writes left out.

@@ -11,7 +11,7 @@ use Rattle.lbp16.specs.Space.{Space, registers, eeprom, status, information, ab
 use Rattle.lbp16.proofs.BoolLaws.{or-false, and-true}
 use Rattle.packet.specs.Bytes.{number}
 use Rattle.packet.specs.Step.{Kind, read, write, infoRead, Step, isInfo, isWrite, isStatus, carried, namesUnlock, statusWrite}
-use Rattle.packet.specs.Rules.{any}
+use Rattle.packet.specs.Rules.{anyStep}
 use Rattle.cue.specs.Records.{reserved, badElement}
 use Rattle.cue.proofs.RecordLaws.{good-element}
 use Rattle.cue.proofs.Relations.{Mixed, Good}
@@ -58,11 +58,11 @@ unlock-bytes s u h =
     two ∙ rw (u .space)
 
 -- The steps of packets are mixed from those that are left without the unlock writes.
-pub mixed-without : (ss : List Step) → any missized ss ≡ false → Mixed ss (withoutUnlocks ss)
-unfolding any withoutUnlocks
+pub mixed-without : (ss : List Step) → anyStep missized ss ≡ false → Mixed ss (withoutUnlocks ss)
+unfolding anyStep withoutUnlocks
 mixed-without [] h = Mixed.none
 mixed-without (s ∷ ss) h =
-    let (sized, rest) = or-false (missized s) (any missized ss) h in
+    let (sized, rest) = or-false (missized s) (anyStep missized ss) h in
     go (unlocks s) refl sized (mixed-without ss rest)
   where
     go : (b : Bool) → unlocks s ≡ b → missized s ≡ false → Mixed ss (withoutUnlocks ss)
@@ -106,13 +106,13 @@ without-mixed (Mixed.unlock w v m) g = rw (eq-eqb _ _ v) (without-mixed m g)
 -- What neither an unlock write nor a good record does, no step does that is left out or a record.
 none-does : (f : Step → Bool) → ((s : Step) → Unlocking s → f s ≡ false)
     → ((x : Step) → badElement x ≡ false → isInfo (x .kind) ≡ false → f x ≡ false) → (ss : List Step)
-    → Good (withoutUnlocks ss) → any f ss ≡ false
-unfolding any withoutUnlocks
+    → Good (withoutUnlocks ss) → anyStep f ss ≡ false
+unfolding anyStep withoutUnlocks
 none-does f un re [] g = refl
 none-does f un re (s ∷ ss) g = go (unlocks s) refl g (none-does f un re ss)
   where
     go : (b : Bool) → unlocks s ≡ b → Good (cond b (withoutUnlocks ss) (s ∷ withoutUnlocks ss))
-        → (Good (withoutUnlocks ss) → any f ss ≡ false) → (f s || any f ss) ≡ false
+        → (Good (withoutUnlocks ss) → anyStep f ss ≡ false) → (f s || anyStep f ss) ≡ false
     go true e g more = rw (un s (unlocking s e)) (more g)
     go false e (Good.more b p w g) more = rw (re s b p) (more g)
 
@@ -121,11 +121,11 @@ unfoldable pub otherUnlock : Step → Bool
 otherUnlock s = isWrite (s .kind) && namesUnlock s && not (eqb (number (s .bytes)) 0x5A02)
 
 -- Where good records are left there was no info read, and no other write to the unlock cell.
-pub without-info : (ss : List Step) → Good (withoutUnlocks ss) → any infoStep ss ≡ false
+pub without-info : (ss : List Step) → Good (withoutUnlocks ss) → anyStep infoStep ss ≡ false
 unfolding infoStep isInfo
 without-info = none-does infoStep (λ s u. rw (u .kind) refl) (λ x b p. p)
 
-pub without-other : (ss : List Step) → Good (withoutUnlocks ss) → any otherUnlock ss ≡ false
+pub without-other : (ss : List Step) → Good (withoutUnlocks ss) → anyStep otherUnlock ss ≡ false
 unfolding otherUnlock
 without-other =
     none-does otherUnlock (λ s u. last (isWrite (s .kind) && namesUnlock s) _ (eq-eqb _ _ (u .value)))

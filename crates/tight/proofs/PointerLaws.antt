@@ -16,7 +16,7 @@ use Rattle.lbp16.proofs.BoolLaws.{or-false}
 use Rattle.lbp16.proofs.PointerLaws.{with-pointer-other}
 use Rattle.packet.specs.Bytes.{number}
 use Rattle.packet.specs.Step.{Step, isInfo}
-use Rattle.packet.specs.Rules.{misaligned, any}
+use Rattle.packet.specs.Rules.{misaligned, anyStep}
 use Rattle.packet.specs.Command.{limit, fieldsAt, kindOf, rowOf, commandBytes, addressUsed, handed, stepsAt, pointersAfter}
 use Rattle.packet.specs.Judge.{Carried, accepted, begin, carry, judgeFrom, judge}
 use Rattle.packet.specs.Judge
@@ -31,7 +31,7 @@ use Rattle.tight.proofs.AcceptedLaws.{infoStep, plain-next, info-same}
 
 -- no info read among the steps
 abbrev pub NoInfo : List Step → Type 0
-NoInfo ss = any infoStep ss ≡ false
+NoInfo ss = anyStep infoStep ss ≡ false
 
 same-space : (s t : Space) → eqb (spaceNumber s) (spaceNumber t) ≡ true → s ≡ t
 same-space s t e =

@@ -2,10 +2,12 @@ use borrow.Author.Needs.{needs}
 use Rattle.packet.proofs.info.area_bytes.Statement.{statement}
 use Rattle.packet.proofs.info.area_bytes.Tie as tie
 use borrow.Author.Tests.{ne-eqb}
-use Rattle.lbp16.specs.Space.{spaceOf, spaceNumber, row}
+use Rattle.lbp16.specs.Space.{spaceOf, spaceNumber, isAbsent, row}
 use Rattle.lbp16.specs.Word.{bit}
 use Rattle.lbp16.specs.Info.{memoryType, memSizes, memRanges, areaWords}
+use Rattle.packet.specs.Bytes.{bytesOf, pairsOf}
 use Rattle.packet.specs.Command.{areaBytes}
+use mathlib.Core.Path.{refl}
 
 area-requires : tie.Need-area-requires
 area-requires c κs = search needs
@@ -19,28 +21,27 @@ area-requires-3 c κs = search needs
 area-requires-4 : tie.Need-area-requires-4
 area-requires-4 c κs = search needs
 
-area-requires-5 : tie.Need-area-requires-5
-area-requires-5 c κs = search needs
-
 returns : tie.Need-returns
-unfolding spaceOf spaceNumber row bit memoryType memSizes memRanges areaWords areaBytes
+unfolding spaceOf isAbsent spaceNumber row bit memoryType memSizes memRanges areaWords areaBytes
 returns c = rw (c .before .match .keys1) (c .area .ensures)
 
 returns-2 : tie.Need-returns-2
-unfolding spaceOf spaceNumber row bit memoryType memSizes memRanges areaWords areaBytes
+unfolding spaceOf isAbsent spaceNumber row bit memoryType memSizes memRanges areaWords areaBytes
 returns-2 c = rw (c .before .match .keys2) (c .area2 .ensures)
 
 returns-3 : tie.Need-returns-3
-unfolding spaceOf spaceNumber row bit memoryType memSizes memRanges areaWords areaBytes
+unfolding spaceOf isAbsent spaceNumber row bit memoryType memSizes memRanges areaWords areaBytes
 returns-3 c = rw (c .before .match .keys3) (c .area3 .ensures)
 
 returns-4 : tie.Need-returns-4
-unfolding spaceOf spaceNumber row bit memoryType memSizes memRanges areaWords areaBytes
+unfolding spaceOf isAbsent spaceNumber row bit memoryType memSizes memRanges areaWords areaBytes
 returns-4 c = rw (c .before .match .keys4) (c .area4 .ensures)
 
 returns-5 : tie.Need-returns-5
-unfolding spaceOf spaceNumber row bit memoryType memSizes memRanges areaWords areaBytes
-returns-5 c = simp (ne-eqb _ _ (c .before .match .rest .0 .0 .0 .1), ne-eqb _ _ (c .before .match .rest .0 .0 .1), ne-eqb _ _ (c .before .match .rest .0 .1), ne-eqb _ _ (c .before .match .rest .1)) (c .area5 .ensures)
+unfolding spaceOf isAbsent areaWords areaBytes pairsOf bytesOf
+returns-5 c =
+    let r = c .match .rest in
+    simp (ne-eqb _ _ (r .0 .0 .0 .1), ne-eqb _ _ (r .0 .0 .1), ne-eqb _ _ (r .0 .1), ne-eqb _ _ (r .1)) refl
 
 pub area-bytes-spec : {M : Type 1} → statement M
 area-bytes-spec =
@@ -50,7 +51,6 @@ area-bytes-spec =
     area-requires-2
     area-requires-3
     area-requires-4
-    area-requires-5
     returns
     returns-2
     returns-3
