@@ -6,6 +6,7 @@ use mathlib.Core.List.{List, [], _∷_, _++_, map, append-assoc, append-nil}
 use mathlib.Core.Bool.{Bool, true, false, cond}
 use native.Mathlib.Omega.{arith}
 use native.Mathlib.Decide.{decLe}
+use lib.Dec.{ltb}
 use lib.ListN.{length, take, drop, replicate, length-append}
 use lib.Seq.{drop-drop, drop-append-le, take-append-seam}
 use borrow.Author.Tests.{lt-ltb, le-ltb}
@@ -20,7 +21,7 @@ use Rattle.parts.specs.Taking.{State, Standing, going, ended, faulted, T
 use Rattle.parts.specs.Rule.{Opened, none, packingRule, lastOf, closedFrom, openAfter, goodFrom, goodRecords, packetsBy, packetsOf}
 use Rattle.parts.specs.State.{Held, heldPacking, frameRoom, unopened, pairAt, packerAt, standingOf, stateOf, badNumbers, badState, bytesOfState}
 use Rattle.parts.specs.Parts.{PartCall, untouched, leaves, partOf}
-use Rattle.parts.specs.Promise.{freshState, bytesWritten, written, Continues, Calls, Goes, Fails, Writes, Promise, unless, drained}
+use Rattle.parts.specs.Promise.{freshState, bytesWritten, written, Continues, ruleAfter, Calls, AsRule, Goes, Fails, Writes, Promise, unless, drained}
 use Rattle.parts.proofs.ListLaws.{withRecords, with-records, with-refused, packets-are, closed-append}
 use Rattle.parts.proofs.Reached.{Reached, Here, begun, reached-call, empty-is}
 use Rattle.parts.proofs.AlikeLaws.{Alike, AlikeStopped, answered-same, call-alike}
@@ -32,8 +33,7 @@ use Rattle.parts.proofs.HoldLaws.{out-holds}
 use Rattle.parts.proofs.RoundLaws.{alike-again}
 
 -- The packing rule's state `s` is where the calls are.
-pub record Follows (list : List ℕ) (at : ℕ) (state out : List ℕ) : Type 0 where
-  pub s : State Opened
+pub record Follows (list : List ℕ) (at : ℕ) (state out : List ℕ) (s : State Opened) : Type 0 where
   pub reached : Reached list (drop at list) s out
   pub alike : Alike Same s (stateOf state)
   pub range : InRange s
@@ -62,11 +62,10 @@ fresh-good : badState freshState ≡ false
 unfolding badState freshState badNumbers pairAt number packerAt unopened summary
 fresh-good = refl
 
-first-follows : (list : List ℕ) → Follows list 0 freshState []
+first-follows : (list : List ℕ) → Follows list 0 freshState [] (fresh none)
 unfolding fresh
 first-follows list =
     record {
-      s = fresh none;
       reached = begun list;
       alike = record { packet = _; state = fresh-state; same = same-first (replicate 1476 0) refl };
       range = record { few = omega arith; short = omega arith; known = tt };
@@ -84,34 +83,33 @@ out-written t room h = go (t .state .standing) h
     go ended h = take-append-seam (t .out) room
     go (faulted n) h = sym (h n refl)
 
--- one call more
-module _ (list : List ℕ) (at : ℕ) (state out : List ℕ) (f : Follows list at state out) (part : List ℕ) (last : Bool)
-    (room : List ℕ) (n : Continues list at part last) where
+-- the next call
+module _ (list : List ℕ) (at : ℕ) (state out : List ℕ) (s : State Opened) (f : Follows list at state out s) (part : List ℕ)
+    (last : Bool) (room : List ℕ) where
   abbrev c : Stopped Opened
-  c = called packingRule (f .s) part last
+  c = called packingRule s part last
 
   abbrev h : Stopped Held
   h = called heldPacking (stateOf state) part last
 
   alike-call : AlikeStopped Same c h
-  alike-call = call-alike Same packingRule heldPacking same-turn same-last (f .s) (stateOf state) part last (f .alike)
-
-  reached-next : Reached list (drop (c .taken) part ++ n .rest) (c .left .state) (out ++ c .left .out)
-  reached-next = reached-call list (n .rest) out part last (f .s) (rw (n .follows) at (f .reached)) (n .whole)
-
-  left-next : drop (at + c .taken) list ≡ drop (c .taken) part ++ n .rest
-  left-next =
-      rw (← drop-drop (c .taken) at list, n .follows) (drop-append-le (c .taken) part (n .rest) (call-le packingRule (f .s) part last))
+  alike-call = call-alike Same packingRule heldPacking same-turn same-last s (stateOf state) part last (f .alike)
 
   pub same-answer : answered (c .left) ≡ answered (h .left)
   same-answer = answered-same Same (c .left) (h .left) (alike-call .left)
 
-  narrow-next : length room < frameRoom → let x = partOf state part last room in
-      Follows list (at + x .taken) (x .state) (out ++ written x)
-  unfolding untouched written bytesWritten
-  narrow-next l =
-      let z : at + 0 ≡ at = omega arith in
-      rw (narrow-call state part last room (f .fine) l, append-nil, z) f
+  -- answers, takes and hands out what the packing rule's does
+  pub as-rule : frameRoom ≤ length room → AsRule c (partOf state part last room)
+  unfolding leaves written
+  as-rule l =
+      rw (wide-call state part last room (f .fine) l)
+      (record {
+        answer = sym same-answer;
+        taken = sym (alike-call .taken);
+        packet =
+            out-written (h .left) (drop (length (h .left .out)) room) (call-quiet heldPacking (stateOf state) part last)
+            ∙ sym (alike-call .left .out);
+      })
 
   still : isGoing (stateOf state .standing) ≡ false → h .left .state ≡ stateOf state
   unfolding called
@@ -120,108 +118,122 @@ module _ (list : List ℕ) (at : ℕ) (state out : List ℕ) (f : Follows list a
   pub state-next : (g : Bool) → isGoing (stateOf state .standing) ≡ g
       → let t = cond g (bytesOfState (h .left .state)) state in (badState t ≡ false) × Alike Same (c .left .state) (stateOf t)
   state-next true g =
-      alike-again (c .left .state) (h .left .state) (call-range packingRule (f .s) part last (f .range)) (alike-call .left .state)
+      alike-again (c .left .state) (h .left .state) (call-range packingRule s part last (f .range)) (alike-call .left .state)
   state-next false g = (f .fine, rw (still g) at (alike-call .left .state))
 
-  wide-next : frameRoom ≤ length room → let x = partOf state part last room in
-      Follows list (at + x .taken) (x .state) (out ++ written x)
-  unfolding leaves written
-  wide-next l =
-      let w : take (bytesWritten (answered (h .left))) (h .left .out ++ drop (length (h .left .out)) room) ≡ c .left .out =
-      out-written (h .left) (drop (length (h .left .out)) room) (call-quiet heldPacking (stateOf state) part last)
-      ∙ sym (alike-call .left .out) in
-      let k = state-next (isGoing (stateOf state .standing)) refl in
-      rw (wide-call state part last room (f .fine) l, w, ← alike-call .taken)
-      (record {
-        s = c .left .state;
-        reached = rw left-next reached-next;
-        alike = k .1;
-        range = call-range packingRule (f .s) part last (f .range);
-        fine = k .0;
-      })
+  -- where its part continues the list
+  module _ (n : Continues list at part last) where
+    reached-next : Reached list (drop (c .taken) part ++ n .rest) (c .left .state) (out ++ c .left .out)
+    reached-next = reached-call list (n .rest) out part last s (rw (n .follows) at (f .reached)) (n .whole)
 
-  pub next-follows : let x = partOf state part last room in Follows list (at + x .taken) (x .state) (out ++ written x)
-  next-follows = go (decLe frameRoom (length room))
-    where
-      go : Dec (frameRoom ≤ length room) → let x = partOf state part last room in
-          Follows list (at + x .taken) (x .state) (out ++ written x)
-      go (yes l) = wide-next l
-      go (no l) = narrow-next (omega arith)
+    left-next : drop (at + c .taken) list ≡ drop (c .taken) part ++ n .rest
+    left-next =
+        rw (← drop-drop (c .taken) at list, n .follows) (drop-append-le (c .taken) part (n .rest) (call-le packingRule s part last))
 
-  -- what the call answers, where the list is good
-  module _ (wide : frameRoom ≤ length room) where
-    answer-is : partOf state part last room .answer ≡ answered (c .left)
+    wide-next : frameRoom ≤ length room → let x = partOf state part last room in
+        Follows list (at + x .taken) (x .state) (out ++ written x) (c .left .state)
     unfolding leaves
-    answer-is = rw (wide-call state part last room (f .fine) wide) (sym same-answer)
+    wide-next l =
+        let a = as-rule l in
+        let k = state-next (isGoing (stateOf state .standing)) refl in
+        rw (a .packet, a .taken, wide-call state part last room (f .fine) l)
+        (record {
+          reached = rw left-next reached-next;
+          alike = k .1;
+          range = call-range packingRule s part last (f .range);
+          fine = k .0;
+        })
 
-    said : last ≡ true → c .left .state .standing ≡ going → length (c .left .out) ≡ 0 → ⊥
-    said e s z = said-end packingRule (f .s) part (rw e at s) (rw e at z)
+    narrow-next : length room < frameRoom → let x = partOf state part last room in
+        Follows list (at + x .taken) (x .state) (out ++ written x) s
+    unfolding untouched written bytesWritten
+    narrow-next l =
+        let z : at + 0 ≡ at = omega arith in
+        rw (narrow-call state part last room (f .fine) l, append-nil, z) f
 
-    -- with nothing handed out, what was out before is all
-    all-before : (css : List (List Command)) → out ++ c .left .out ≡ outputBytes css → c .left .out ≡ [] → packetsOf list ≡ css
-        → out ≡ outputBytes (packetsOf list)
-    all-before css b z e = sym (append-nil out) ∙ rw z at b ∙ ap outputBytes (sym e)
-
-    pub goes : (xs : List Step) → recordsOf list ≡ records xs → Goes list state out part last room
-    unfolding answered answerBy packetsOf packetsBy
-    goes xs e = go (c .left .state .standing) refl (reached-next .here)
+    pub next-follows : let x = partOf state part last room in
+        Follows list (at + x .taken) (x .state) (out ++ written x) (ruleAfter s part last room)
+    unfolding ruleAfter
+    next-follows = go (decLe frameRoom (length room))
       where
-        css : List (List Command)
-        css = reached-next .css
+        go : Dec (frameRoom ≤ length room) → let x = partOf state part last room in
+            Follows list (at + x .taken) (x .state) (out ++ written x) (cond (ltb (length room) frameRoom) s (c .left .state))
+        go (yes l) = rw (le-ltb (length room) frameRoom l) (wide-next l)
+        go (no l) = let l₂ : length room < frameRoom = omega arith in rw (lt-ltb (length room) frameRoom l₂) (narrow-next l₂)
 
-        go : (k : Standing) → c .left .state .standing ≡ k → Here list (drop (c .taken) part ++ n .rest) (c .left .state) css k
-            → Goes list state out part last room
-        go going s r =
-            record {
-              bytes = length (c .left .out);
-              answer = answer-is ∙ rw s refl;
-              all-out = λ l z. absurd (said l s z);
-            }
-        go ended s r =
-            let (ys, listed, all) = r in
-            let q : packetsOf list ≡ css = rw listed (sym all) in
-            record {
-              bytes = length (c .left .out);
-              answer = answer-is ∙ rw s refl;
-              all-out = λ l z. all-before css (reached-next .bytes) (empty-is _ z) q;
-            }
-        go (faulted k) s r =
-            let z : refused k (c .left .state .index) ≡ records xs = sym (r .0) ∙ e in
-            let y : _≡_ {A = ℕ} 0 1 = cc in
-            absurd (omega arith)
+    -- what the call answers, where the list is good
+    module _ (wide : frameRoom ≤ length room) where
+      answer-is : partOf state part last room .answer ≡ answered (c .left)
+      answer-is = as-rule wide .answer
 
-    pub fails : (m i : ℕ) → recordsOf list ≡ refused m i
-        → Fails list state out part last room m i ⊎ Writes state part last room
-    unfolding answered answerBy packetsOf packetsBy
-    fails m i e = go (c .left .state .standing) refl (reached-next .here)
-      where
-        css : List (List Command)
-        css = reached-next .css
+      said : last ≡ true → c .left .state .standing ≡ going → length (c .left .out) ≡ 0 → ⊥
+      said e g z = said-end packingRule s part (rw e at g) (rw e at z)
 
-        go : (k : Standing) → c .left .state .standing ≡ k → Here list (drop (c .taken) part ++ n .rest) (c .left .state) css k
-            → Fails list state out part last room m i ⊎ Writes state part last room
-        go going s r =
-            inr
-            (record {
-              bytes = length (c .left .out);
-              answer = answer-is ∙ rw s refl;
-              some = λ l. let h = said l s in omega arith;
-            })
-        go ended s r =
-            let (ys, listed, all) = r in
-            let z : refused m i ≡ records ys = sym e ∙ listed in
-            let y : _≡_ {A = ℕ} 0 1 = cc in
-            absurd (omega arith)
-        go (faulted k) s r =
-            let z : refused m i ≡ refused k (c .left .state .index) = sym e ∙ r .0 in
-            let a : m ≡ k = cc in
-            let b : i ≡ c .left .state .index = cc in
-            let q : packetsOf list ≡ css = rw (r .0) (sym (r .1)) in
-            inl
-            (record {
-              answer = answer-is ∙ rw (s, a, b) refl;
-              all-out = all-before css (reached-next .bytes) (call-quiet packingRule (f .s) part last k s) q;
-            })
+      -- with nothing handed out, what was out before is all
+      all-before : (css : List (List Command)) → out ++ c .left .out ≡ outputBytes css → c .left .out ≡ [] → packetsOf list ≡ css
+          → out ≡ outputBytes (packetsOf list)
+      all-before css b z e = sym (append-nil out) ∙ rw z at b ∙ ap outputBytes (sym e)
+
+      pub goes : (xs : List Step) → recordsOf list ≡ records xs → Goes list state out part last room
+      unfolding answered answerBy packetsOf packetsBy
+      goes xs e = go (c .left .state .standing) refl (reached-next .here)
+        where
+          css : List (List Command)
+          css = reached-next .css
+
+          go : (k : Standing) → c .left .state .standing ≡ k → Here list (drop (c .taken) part ++ n .rest) (c .left .state) css k
+              → Goes list state out part last room
+          go going g r =
+              record {
+                bytes = length (c .left .out);
+                answer = answer-is ∙ rw g refl;
+                all-out = λ l z. absurd (said l g z);
+              }
+          go ended g r =
+              let (ys, listed, all) = r in
+              let q : packetsOf list ≡ css = rw listed (sym all) in
+              record {
+                bytes = length (c .left .out);
+                answer = answer-is ∙ rw g refl;
+                all-out = λ l z. all-before css (reached-next .bytes) (empty-is _ z) q;
+              }
+          go (faulted k) g r =
+              let z : refused k (c .left .state .index) ≡ records xs = sym (r .0) ∙ e in
+              let y : _≡_ {A = ℕ} 0 1 = cc in
+              absurd (omega arith)
+
+      pub fails : (m i : ℕ) → recordsOf list ≡ refused m i
+          → Fails list state out part last room m i ⊎ Writes state part last room
+      unfolding answered answerBy packetsOf packetsBy
+      fails m i e = go (c .left .state .standing) refl (reached-next .here)
+        where
+          css : List (List Command)
+          css = reached-next .css
+
+          go : (k : Standing) → c .left .state .standing ≡ k → Here list (drop (c .taken) part ++ n .rest) (c .left .state) css k
+              → Fails list state out part last room m i ⊎ Writes state part last room
+          go going g r =
+              inr
+              (record {
+                bytes = length (c .left .out);
+                answer = answer-is ∙ rw g refl;
+                some = λ l. let h = said l g in omega arith;
+              })
+          go ended g r =
+              let (ys, listed, all) = r in
+              let z : refused m i ≡ records ys = sym e ∙ listed in
+              let y : _≡_ {A = ℕ} 0 1 = cc in
+              absurd (omega arith)
+          go (faulted k) g r =
+              let z : refused m i ≡ refused k (c .left .state .index) = sym e ∙ r .0 in
+              let a : m ≡ k = cc in
+              let b : i ≡ c .left .state .index = cc in
+              let q : packetsOf list ≡ css = rw (r .0) (sym (r .1)) in
+              inl
+              (record {
+                answer = answer-is ∙ rw (g, a, b) refl;
+                all-out = all-before css (reached-next .bytes) (call-quiet packingRule s part last k g) q;
+              })
 
 -- the packets that are out, and those still to come
 front-by : (list left : List ℕ) (s : State Opened) (css : List (List Command)) (k : Standing) → Here list left s css k
@@ -243,19 +255,22 @@ front-by list left s css going h = go (recordsFrom (h .fuel) (s .index) (s .coll
 front-by list left s css ended h = let (xs, e, a) = h in ([], rw (e, a, append-nil) refl)
 front-by list left s css (faulted n) h = ([], rw (h .0, append-nil) (sym (h .1)))
 
-pub calls-follow : {list : List ℕ} {at : ℕ} {state out : List ℕ} → Calls list at state out → Follows list at state out
+pub calls-follow : {list : List ℕ} {at : ℕ} {state out : List ℕ} {s : State Opened} → Calls list at state out s
+    → Follows list at state out s
 calls-follow {list} Calls.none = first-follows list
-calls-follow {list} (Calls.more {at} {state} {out} part last room c n) =
-    next-follows list at state out (calls-follow c) part last room n
+calls-follow {list} (Calls.more {at} {state} {out} {s} part last room c n) =
+    next-follows list at state out s (calls-follow c) part last room n
 
 -- The promise, of any sequence of calls.
-pub promise : {list : List ℕ} {at : ℕ} {state out : List ℕ} → Calls list at state out → Promise list at state out
-promise {list} {at} {state} {out} calls =
+pub promise : {list : List ℕ} {at : ℕ} {state out : List ℕ} {s : State Opened} → Calls list at state out s
+    → Promise list at state out s
+promise {list} {at} {state} {out} {s} calls =
     let f = calls-follow calls in
     let r = f .reached in
-    let k = front-by list (drop at list) (f .s) (r .css) (f .s .standing) (r .here) in
+    let k = front-by list (drop at list) s (r .css) (s .standing) (r .here) in
     let h = out-holds list (r .css) (k .0) (k .1) in
     record {
+      next = as-rule list at state out s f;
       packets = r .css;
       later = k .0;
       bytes = r .bytes;
@@ -264,8 +279,8 @@ promise {list} {at} {state} {out} calls =
       others = h .others;
       records-front = h .parts;
       same = run-all (map packetBytes (r .css)) (h .held) (h .holds) (h .good);
-      good = λ xs e part last room n w. goes list at state out f part last room n w xs e;
-      bad = λ m i e part last room n w. fails list at state out f part last room n w m i e;
+      good = λ xs e part last room n w. goes list at state out s f part last room n w xs e;
+      bad = λ m i e part last room n w. fails list at state out s f part last room n w m i e;
     }
 
 -- as many bytes are written as are answered
@@ -293,14 +308,14 @@ module _ (list : List ℕ) (xs : List Step) (e : recordsOf list ≡ records xs) 
   abbrev total : List ℕ
   total = outputBytes (packetsOf list)
 
-  out-le : {at : ℕ} {state out : List ℕ} → Promise list at state out → length out ≤ length total
+  out-le : {at : ℕ} {state out : List ℕ} {s : State Opened} → Promise list at state out s → length out ≤ length total
   out-le p =
       let f : total ≡ outputBytes (p .packets) ++ outputBytes (p .later) = rw (p .front, output-append) refl in
       let n = simp length-append at (ap length f) in
       rw (p .bytes) (omega arith)
 
-  drains : (fuel : ℕ) {at : ℕ} {state out : List ℕ} → Calls list at state out → length total < fuel + length out
-      → out ++ drained fuel state (drop at list) room ≡ total
+  drains : (fuel : ℕ) {at : ℕ} {state out : List ℕ} {s : State Opened} → Calls list at state out s
+      → length total < fuel + length out → out ++ drained fuel state (drop at list) room ≡ total
   unfolding drained unless bytesWritten
   drains zero calls h = let l = out-le (promise calls) in absurd (omega arith)
   drains (suc fuel) {at} {state} {out} calls h =

@@ -10,7 +10,7 @@ use Rattle.parts.specs.Taking.{State, Standing, going, ended, faulted, T
 use Rattle.parts.specs.State.{frameRoom, heldPacking, stateOf, badState, bytesOfState}
 use Rattle.parts.specs.Rule.{Opened, packingRule}
 use Rattle.parts.specs.Parts.{PartCall, untouched, leaves, partOf}
-use Rattle.parts.specs.Promise.{Continues, Calls}
+use Rattle.parts.specs.Promise.{Calls}
 use Rattle.parts.proofs.AlikeLaws.{Alike}
 use Rattle.parts.proofs.SameLaws.{Same}
 use Rattle.parts.proofs.KeepLaws.{Quiet, call-quiet}
@@ -54,7 +54,7 @@ again t n i s (fine, alike) (stands, index) part last room w =
     stopped-call t part last room fine w g ∙ rw (k, j) refl
 
 -- The same of calls from a fresh start: after the list's end no bytes are written, and a fault is refused again.
-module _ {list : List ℕ} {at : ℕ} {state out : List ℕ} (calls : Calls list at state out) where
+module _ {list : List ℕ} {at : ℕ} {state out : List ℕ} {s : State Opened} (calls : Calls list at state out s) where
   pub ended-again : (part : List ℕ) (last : Bool) (room : List ℕ) → frameRoom ≤ length room → stateOf state .standing ≡ ended
       → partOf state part last room ≡ untouched (accepted (0 ∷ [])) state room
   unfolding isGoing answerBy
@@ -62,7 +62,7 @@ module _ {list : List ℕ} {at : ℕ} {state out : List ℕ} (calls : Calls list
       let g : isGoing (stateOf state .standing) ≡ false = rw e refl in
       stopped-call state part last room (calls-follow calls .fine) w g ∙ rw e refl
 
-  module _ (part : List ℕ) (last : Bool) (room : List ℕ) (c : Continues list at part last) (w : frameRoom ≤ length room) (n i : ℕ)
+  module _ (part : List ℕ) (last : Bool) (room : List ℕ) (w : frameRoom ≤ length room) (n i : ℕ)
       (e : partOf state part last room .answer ≡ refused n i) where
     abbrev left : List ℕ
     left = partOf state part last room .state
@@ -76,16 +76,16 @@ module _ {list : List ℕ} {at : ℕ} {state out : List ℕ} (calls : Calls list
             ≡ leaves (called heldPacking (stateOf state) part last) (isGoing (stateOf state .standing)) state room
         call = wide-call state part last room (calls-follow calls .fine) w
 
-        said : answered (called packingRule (calls-follow calls .s) part last .left) ≡ refused n i
+        said : answered (called packingRule s part last .left) ≡ refused n i
         said =
-            same-answer list at state out (calls-follow calls) part last room c
+            same-answer list at state out s (calls-follow calls) part last room
             ∙ sym (ap (λ (x : PartCall). x .answer) call) ∙ e
 
-        fault : let s = called packingRule (calls-follow calls .s) part last .left .state in
-            (s .standing ≡ faulted n) × (s .index ≡ i)
+        fault : let u = called packingRule s part last .left .state in
+            (u .standing ≡ faulted n) × (u .index ≡ i)
         fault = fault-is _ _ _ n i said
 
         go : (g : Bool) → isGoing (stateOf state .standing) ≡ g
             → let t = cond g (bytesOfState (called heldPacking (stateOf state) part last .left .state)) state in
             partOf t part₂ last₂ room₂ ≡ untouched (refused n i) t room₂
-        go g d = again _ n i _ (state-next list at state out (calls-follow calls) part last room c g d) fault part₂ last₂ room₂ w₂
+        go g d = again _ n i _ (state-next list at state out s (calls-follow calls) part last room g d) fault part₂ last₂ room₂ w₂

@@ -3,8 +3,9 @@ use Prim.Native.Nat.{ℕ, zero, suc, _+_, _≤_, _<_}
 use mathlib.Core.Path.{_≡_}
 use mathlib.Core.Logic.{_⊎_}
 use mathlib.Core.List.{List, [], _∷_, _++_, map}
-use mathlib.Core.Bool.{Bool, true, false}
+use mathlib.Core.Bool.{Bool, true, false, cond}
 use lib.ListN.{length, take, drop, replicate}
+use lib.Dec.{ltb}
 use Rattle.lbp16.specs.Answer.{Answer}
 use Rattle.lbp16.specs.declared.pointer.Pointers.{Pointers}
 use Rattle.packet.specs.Step.{Step}
@@ -15,7 +16,8 @@ use Rattle.cue.specs.Packing.{Command, packetBytes}
 use Rattle.cue.specs.Play.{play}
 use Rattle.cue.specs.Demand3.{SameAsRecords}
 use Rattle.cue.specs.Inside.{outputBytes}
-use Rattle.parts.specs.Rule.{packetsOf, goodRecords}
+use Rattle.parts.specs.Taking.{State, Stopped, called, answered, fresh}
+use Rattle.parts.specs.Rule.{Opened, packingRule, packetsOf, goodRecords}
 use Rattle.parts.specs.State.{stateBytes, frameRoom}
 use Rattle.parts.specs.Parts.{PartCall, partOf}
 
@@ -37,14 +39,24 @@ pub record Continues (list : List ℕ) (at : ℕ) (part : List ℕ) (last : Bool
   pub follows : drop at list ≡ part ++ rest
   pub whole : last ≡ true → rest ≡ []
 
+-- The packing rule's own state after the same call: room under 1,476 bytes leaves it as it was.
+unfoldable pub ruleAfter : State Opened → List ℕ → Bool → List ℕ → State Opened
+ruleAfter s part last room = cond (ltb (length room) frameRoom) s (called packingRule s part last .left .state)
+
 -- Calls one after the other, each given the state that the last one left and a part that continues the list. `at` bytes
--- of the list are taken, `state` is left, and `out` is all that was written, joined.
-pub data Calls (list : List ℕ) : ℕ → List ℕ → List ℕ → Type 0 where
-  none : Calls list 0 freshState []
-  more : {at : ℕ} {state out : List ℕ} (part : List ℕ) (last : Bool) (room : List ℕ) → Calls list at state out
-      → Continues list at part last
+-- of the list are taken, `state` is left, `out` is all that was written, joined, and `s` is the packing rule's own state.
+pub data Calls (list : List ℕ) : ℕ → List ℕ → List ℕ → State Opened → Type 0 where
+  none : Calls list 0 freshState [] (fresh Opened.none)
+  more : {at : ℕ} {state out : List ℕ} {s : State Opened} (part : List ℕ) (last : Bool) (room : List ℕ)
+      → Calls list at state out s → Continues list at part last
       → Calls list (at + partOf state part last room .taken) (partOf state part last room .state)
-      (out ++ written (partOf state part last room))
+      (out ++ written (partOf state part last room)) (ruleAfter s part last room)
+
+-- A call answers, takes and hands out what the packing rule's does.
+pub record AsRule (q : Stopped Opened) (c : PartCall) : Type 0 where
+  pub answer : c .answer ≡ answered (q .left)
+  pub taken : c .taken ≡ q .taken
+  pub packet : written c ≡ q .left .out
 
 -- What the next call answers, if the list is good: no refusal; and where the end is said and nothing is written, all of
 -- the list's output is out.
@@ -72,7 +84,10 @@ RunAs packets xs =
     → SameAsRecords xs packets store (play packets rooms store p)
 
 -- The promise, wherever the calls have come.
-pub record Promise (list : List ℕ) (at : ℕ) (state out : List ℕ) : Type 0 where
+pub record Promise (list : List ℕ) (at : ℕ) (state out : List ℕ) (s : State Opened) : Type 0 where
+  -- the next call, whatever its part, with room enough
+  pub next : (part : List ℕ) (last : Bool) (room : List ℕ) → frameRoom ≤ length room
+      → AsRule (called packingRule s part last) (partOf state part last room)
   -- the packets that are out, and those of the list still to come
   pub packets : List (List Command)
   pub later : List (List Command)
@@ -103,4 +118,5 @@ drained (suc fuel) state left room =
 
 -- of any list and any calls that left this state
 abbrev pub Promised : List ℕ → Type 0
-Promised state = (list : List ℕ) (at : ℕ) (out : List ℕ) → Calls list at state out → Promise list at state out
+Promised state =
+    (list : List ℕ) (at : ℕ) (out : List ℕ) (s : State Opened) → Calls list at state out s → Promise list at state out s

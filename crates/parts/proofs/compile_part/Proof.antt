@@ -9,7 +9,7 @@ use Rattle.parts.proofs.compile_part.Statement.{statement}
 use Rattle.parts.proofs.compile_part.Tie as tie
 
 returns : tie.Need-returns
-returns c = (no-room _ _ _ _ (c .if1 .taken), λ list at out calls. promise calls)
+returns c = (no-room _ _ _ _ (c .if1 .taken), λ list at out s calls. promise calls)
 
 called-requires : tie.Need-called-requires
 called-requires c κs = search needs
@@ -24,7 +24,7 @@ same-length-2 : tie.Need-same-length-2
 same-length-2 c = search needs
 
 returns-2 : tie.Need-returns-2
-returns-2 c = (part-is _ _ _ _ _ _ _ (c .before .before .before .before .before .called .ensures) _ (c .part-of .ensures), λ list at out calls. promise calls)
+returns-2 c = (part-is _ _ _ _ _ _ _ (c .before .before .before .before .before .called .ensures) _ (c .part-of .ensures), λ list at out s calls. promise calls)
 
 shared-slice-read-lengthened : tie.Need-shared-slice-read-lengthened
 shared-slice-read-lengthened c = let t = one-test (length (now (c .before .before .before .before .before .before .before .args .part))) (length (now (c .before .before .before .before .before .before .before .args .state))) (c .before .before .before .before .before .before .before .args .last) (c .before .before .if2 .left) in omega (arith, t .0)
@@ -36,7 +36,7 @@ same-length-3 : tie.Need-same-length-3
 same-length-3 c = search needs
 
 returns-3 : tie.Need-returns-3
-returns-3 c = (single-taken _ _ _ _ _ _ (c .before .before .before .lengthened .ensures) (c .before .before .before .before .before .before .before .if1 .left) (c .if3 .taken) (one-test (length (now (c .before .before .before .before .before .before .before .before .before .before .before .args .part))) (length (now (c .before .before .before .before .before .before .before .before .before .before .before .args .state))) (c .before .before .before .before .before .before .before .before .before .before .before .args .last) (c .before .before .before .before .before .before .if2 .left)), λ list at out calls. promise calls)
+returns-3 c = (single-taken _ _ _ _ _ _ (c .before .before .before .lengthened .ensures) (c .before .before .before .before .before .before .before .if1 .left) (c .if3 .taken) (one-test (length (now (c .before .before .before .before .before .before .before .before .before .before .before .args .part))) (length (now (c .before .before .before .before .before .before .before .before .before .before .before .args .state))) (c .before .before .before .before .before .before .before .before .before .before .before .args .last) (c .before .before .before .before .before .before .if2 .left)), λ list at out s calls. promise calls)
 
 called-requires-2 : tie.Need-called-requires-2
 called-requires-2 c κs = search needs
@@ -51,7 +51,7 @@ same-length-5 : tie.Need-same-length-5
 same-length-5 c = search needs
 
 returns-4 : tie.Need-returns-4
-returns-4 c = (part-is _ _ _ _ _ _ _ (single-still (c .before .before .before .before .before .before .before .before .before .before .before .lengthened .ensures) (c .before .before .before .before .before .before .before .before .if3 .left) _ _ _ _ _ _ (c .before .before .before .before .before .called2 .ensures)) _ (c .part-of2 .ensures), λ list at out calls. promise calls)
+returns-4 c = (part-is _ _ _ _ _ _ _ (single-still (c .before .before .before .before .before .before .before .before .before .before .before .lengthened .ensures) (c .before .before .before .before .before .before .before .before .if3 .left) _ _ _ _ _ _ (c .before .before .before .before .before .called2 .ensures)) _ (c .part-of2 .ensures), λ list at out s calls. promise calls)
 
 pub compile-part-spec : {M : Type 1} → statement M
 compile-part-spec =
