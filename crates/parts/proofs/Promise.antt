@@ -18,7 +18,7 @@ use Rattle.packet.specs.Bytes.{number}
 use Rattle.cue.specs.Compile.{packed, output}
 use Rattle.cue.specs.Inside.{outputBytes, summary}
 use Rattle.parts.specs.Taking.{State, Standing, going, ended, faulted, Taken, Stopped, isGoing, called, answerBy, answered, fresh}
-use Rattle.parts.specs.Rule.{Opened, none, packingRule, lastOf, closedFrom, openAfter, goodFrom, goodRecords, packetsBy, packetsOf}
+use Rattle.parts.specs.Rule.{Opened, none, packingRule, lastOf, closedFrom, openAfter, goodFrom, goodRecords, packetsBy, packetsOf, recordsHeld}
 use Rattle.parts.specs.State.{Held, heldPacking, frameRoom, unopened, pairAt, packerAt, standingOf, stateOf, badNumbers, badState, bytesOfState}
 use Rattle.parts.specs.Parts.{PartCall, untouched, leaves, partOf}
 use Rattle.parts.specs.Promise.{freshState, bytesWritten, written, Continues, ruleAfter, Calls, AsRule, Goes, Fails, Writes, Promise, unless, drained}
@@ -276,9 +276,7 @@ promise {list} {at} {state} {out} {s} calls =
       bytes = r .bytes;
       front = k .1;
       held = h .held;
-      others = h .others;
-      records-front = h .parts;
-      same = run-all (map packetBytes (r .css)) (h .held) (h .holds) (h .good);
+      same = run-all (map packetBytes (r .css)) (recordsHeld (r .css)) (h .holds) (h .good);
       good = λ xs e part last room n w. goes list at state out s f part last room n w xs e;
       bad = λ m i e part last room n w. fails list at state out s f part last room n w m i e;
     }

@@ -17,7 +17,7 @@ use Rattle.cue.specs.Play.{play}
 use Rattle.cue.specs.Demand3.{SameAsRecords}
 use Rattle.cue.specs.Inside.{outputBytes}
 use Rattle.parts.specs.Taking.{State, Stopped, called, answered, fresh}
-use Rattle.parts.specs.Rule.{Opened, packingRule, packetsOf, goodRecords}
+use Rattle.parts.specs.Rule.{Opened, packingRule, goodRecords, packetsOf, recordsHeld, countHeld}
 use Rattle.parts.specs.State.{stateBytes, frameRoom}
 use Rattle.parts.specs.Parts.{PartCall, partOf}
 
@@ -93,11 +93,9 @@ pub record Promise (list : List ℕ) (at : ℕ) (state out : List ℕ) (s : Stat
   pub later : List (List Command)
   pub bytes : out ≡ outputBytes packets
   pub front : packetsOf list ≡ packets ++ later
-  -- the records that the packets out so far hold, and what running these packets does
-  pub held : List Step
-  pub others : List Step
-  pub records-front : goodRecords list ≡ held ++ others
-  pub same : RunAs (map packetBytes packets) held
+  -- the records that the packets out so far hold: the first of the list; and what running these packets does
+  pub held : recordsHeld packets ≡ take (countHeld packets) (goodRecords list)
+  pub same : RunAs (map packetBytes packets) (recordsHeld packets)
   -- what the next call answers, with room enough
   pub good : (xs : List Step) → recordsOf list ≡ records xs → (part : List ℕ) (last : Bool) (room : List ℕ)
       → Continues list at part last → frameRoom ≤ length room → Goes list state out part last room

@@ -1,11 +1,13 @@
 -- The packing rule as a packing of records that come one by one, and what comes out of a whole list.
 use Prim.Native.Nat.{ℕ, zero, suc, _+_}
 use mathlib.Core.List.{List, [], _∷_, _++_}
+use mathlib.Core.Bool.{Bool, not, _&&_, cond}
 use lib.ListN.{length, drop}
-use Rattle.packet.specs.Step.{Step}
+use lib.Dec.{eqb}
+use Rattle.packet.specs.Step.{Step, isWrite, isStatus}
 use Rattle.packet.specs.Rules.{first}
 use Rattle.cue.specs.Records.{Listed, records, refused, recordsOf, recordKind, recordBytes, recordStep, recordRefusals}
-use Rattle.cue.specs.Packing.{Command, Open, commandsOf, started, turn, packets}
+use Rattle.cue.specs.Packing.{Command, commandSteps, Open, commandsOf, started, turn, packets}
 use Rattle.cue.specs.Inside.{outputBytes}
 use Rattle.parts.specs.Taking.{Packing}
 
@@ -68,3 +70,25 @@ packetsBy (refused n i) ys = closedFrom none ys
 
 unfoldable pub packetsOf : List ℕ → List (List Command)
 packetsOf list = packetsBy (recordsOf list) (goodRecords list)
+
+-- an unlock: a write to its cell, and the only command without increment
+unfoldable pub isUnlock : Command → Bool
+isUnlock c = not (c .increment) && isWrite (c .kind) && isStatus (c .space) && eqb (c .address) 0x1A
+
+-- The records that packets hold are the elements of their commands, unlocks apart.
+unfoldable pub packetRecords : List Command → List Step
+packetRecords [] = []
+packetRecords (c ∷ cs) = cond (isUnlock c) [] (commandSteps c) ++ packetRecords cs
+
+unfoldable pub recordsHeld : List (List Command) → List Step
+recordsHeld [] = []
+recordsHeld (cs ∷ css) = packetRecords cs ++ recordsHeld css
+
+-- the sum of the counts of packets' commands, unlocks apart
+unfoldable pub packetCount : List Command → ℕ
+packetCount [] = 0
+packetCount (c ∷ cs) = cond (isUnlock c) 0 (length (c .elements)) + packetCount cs
+
+unfoldable pub countHeld : List (List Command) → ℕ
+countHeld [] = 0
+countHeld (cs ∷ css) = packetCount cs + countHeld css
