@@ -16,6 +16,8 @@ pub mod SingleLaws
 pub mod KeepLaws
 pub mod RoundLaws
 pub mod HoldLaws
+pub mod FollowLaws
+pub mod EndLaws
 pub mod Promise
 pub mod FitLaws
 pub mod StoppedLaws

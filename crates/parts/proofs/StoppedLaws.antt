@@ -15,7 +15,7 @@ use Rattle.parts.proofs.AlikeLaws.{Alike}
 use Rattle.parts.proofs.SameLaws.{Same}
 use Rattle.parts.proofs.KeepLaws.{Quiet, call-quiet}
 use Rattle.parts.proofs.FitLaws.{call-cases}
-use Rattle.parts.proofs.Promise.{calls-follow, wide-call, same-answer, state-next}
+use Rattle.parts.proofs.FollowLaws.{calls-follow, wide-call, same-answer, state-next}
 
 -- a fault's answer, and what stands then
 fault-is : (k : Standing) (index m n i : ℕ) → answerBy k index m ≡ refused n i → (k ≡ faulted n) × (index ≡ i)

@@ -14,7 +14,7 @@ use Rattle.card.specs.Run.{badState}
 use Rattle.cue.specs.Records.{records, refused, recordsOf}
 use Rattle.cue.specs.Packing.{Command, packetBytes}
 use Rattle.cue.specs.Play.{play}
-use Rattle.cue.specs.Demand3.{SameAsRecords}
+use Rattle.cue.specs.Demand3.{SameAsRecords, Demand3}
 use Rattle.cue.specs.Inside.{outputBytes}
 use Rattle.parts.specs.Taking.{State, Stopped, called, answered, fresh}
 use Rattle.parts.specs.Rule.{Opened, packingRule, goodRecords, packetsOf, recordsHeld, countHeld}
@@ -83,6 +83,12 @@ RunAs packets xs =
     (store : List ℕ) (p : Pointers) (rooms : ℕ → List ℕ) → badState store p ≡ false → ((i : ℕ) → length (rooms i) ≡ limit)
     → SameAsRecords xs packets store (play packets rooms store p)
 
+-- Demand 3 of a list in parts: of all that was written, joined, what holds of the room that the one-call form leaves; and
+-- the packets hold all of the list's records.
+pub record Demand3InParts (list out : List ℕ) (packets : List (List Command)) : Type 0 where
+  pub demand3 : Demand3 list out (length out) (length packets)
+  pub all : recordsHeld packets ≡ demand3 .xs
+
 -- The promise, wherever the calls have come.
 pub record Promise (list : List ℕ) (at : ℕ) (state out : List ℕ) (s : State Opened) : Type 0 where
   -- the next call, whatever its part, with room enough
@@ -93,12 +99,16 @@ pub record Promise (list : List ℕ) (at : ℕ) (state out : List ℕ) (s : Stat
   pub later : List (List Command)
   pub bytes : out ≡ outputBytes packets
   pub front : packetsOf list ≡ packets ++ later
-  -- the records that the packets out so far hold: the first of the list; and what running these packets does
+  -- the records that the packets out so far hold are the list's first, as many as the counts of their commands say, unlocks
+  -- apart; and what running these packets does
   pub held : recordsHeld packets ≡ take (countHeld packets) (goodRecords list)
   pub same : RunAs (map packetBytes packets) (recordsHeld packets)
   -- what the next call answers, with room enough
   pub good : (xs : List Step) → recordsOf list ≡ records xs → (part : List ℕ) (last : Bool) (room : List ℕ)
       → Continues list at part last → frameRoom ≤ length room → Goes list state out part last room
+  -- where a call with the end said is accepted and writes nothing: the end of a good list
+  pub demand3 : (part room : List ℕ) → Continues list at part true → frameRoom ≤ length room
+      → partOf state part true room .answer ≡ Answer.accepted (0 ∷ []) → Demand3InParts list out packets
   pub bad : (n i : ℕ) → recordsOf list ≡ refused n i → (part : List ℕ) (last : Bool) (room : List ℕ)
       → Continues list at part last → frameRoom ≤ length room
       → Fails list state out part last room n i ⊎ Writes state part last room
