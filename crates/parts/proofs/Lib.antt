@@ -18,6 +18,7 @@ pub mod RoundLaws
 pub mod HoldLaws
 pub mod FollowLaws
 pub mod EndLaws
+pub mod ReportLaws
 pub mod Promise
 pub mod FitLaws
 pub mod StoppedLaws

@@ -23,6 +23,7 @@ use Rattle.parts.proofs.Reached.{empty-is}
 use Rattle.parts.proofs.HoldLaws.{out-holds}
 use Rattle.parts.proofs.FollowLaws.{as-rule, goes, fails, at-end, placed, calls-follow, written-size}
 use Rattle.parts.proofs.EndLaws.{demand3-in-parts}
+use Rattle.parts.proofs.ReportLaws.{reports}
 
 -- The promise, of any sequence of calls.
 pub promise : {list : List ℕ} {at : ℕ} {state out : List ℕ} {s : State Opened} → Calls list at state out s
@@ -44,6 +45,7 @@ promise {list} {at} {state} {out} {s} calls =
           λ part room n w a. let (xs, e, all) = at-end list at state out s f part true room n w refl a in
           demand3-in-parts list out p xs e all;
       bad = λ m i e part last room n w. fails list at state out s f part last room n w m i e;
+      reported = λ m i e rooms w. reports list m i e (length (p .later)) calls p (omega arith) rooms w;
     }
 
 -- One part with all the bytes, called until nothing comes out, writes the whole list's output.

@@ -76,6 +76,19 @@ pub record Writes (state part : List ℕ) (last : Bool) (room : List ℕ) : Type
   pub answer : partOf state part last room .answer ≡ Answer.accepted (bytes ∷ [])
   pub some : last ≡ true → 0 < bytes
 
+-- Calls with all the bytes left and the end said: what the call behind so many others answers.
+unfoldable pub answerBehind : ℕ → List ℕ → List ℕ → (ℕ → List ℕ) → Answer
+answerBehind zero state left rooms = partOf state left true (rooms 0) .answer
+answerBehind (suc others) state left rooms =
+    let c = partOf state left true (rooms 0) in
+    answerBehind others (c .state) (drop (c .taken) left) (λ i. rooms (suc i))
+
+-- The refusal is reported after at most so many such calls, and one.
+pub record Reports (state left : List ℕ) (rooms : ℕ → List ℕ) (most n i : ℕ) : Type 0 where
+  pub others : ℕ
+  pub few : others ≤ most
+  pub answer : answerBehind others state left rooms ≡ Answer.refused n i
+
 -- From every state that refusal 1 does not turn away, with reply rooms of 1,472 bytes whatever they hold, running the
 -- packets in order is the same as doing the records one by one.
 abbrev pub RunAs : List (List ℕ) → List Step → Type 0
@@ -112,6 +125,8 @@ pub record Promise (list : List ℕ) (at : ℕ) (state out : List ℕ) (s : Stat
   pub bad : (n i : ℕ) → recordsOf list ≡ refused n i → (part : List ℕ) (last : Bool) (room : List ℕ)
       → Continues list at part last → frameRoom ≤ length room
       → Fails list state out part last room n i ⊎ Writes state part last room
+  pub reported : (n i : ℕ) → recordsOf list ≡ refused n i → (rooms : ℕ → List ℕ) → ((j : ℕ) → frameRoom ≤ length (rooms j))
+      → Reports state (drop at list) rooms (length later) n i
 
 -- Calls with all the bytes left and the end said, until nothing is written: what they write, joined. `fuel` bounds them.
 unfoldable pub unless : ℕ → List ℕ → List ℕ
