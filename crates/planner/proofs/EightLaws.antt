@@ -6,7 +6,7 @@ use mathlib.Core.Bool.{Bool, false}
 use native.Mathlib.Omega.{arith}
 use native.Mathlib.Nat.{add-zero, suc-mul, zero-mul}
 use lib.ListN.{length, replicate, length-replicate, length-append}
-use borrow.Author.Tests.{ltb-false, le-ltb}
+use borrow.Author.Tests.{ltb-false}
 use Rattle.lbp16.specs.Space.{Space, row}
 use Rattle.lbp16.specs.Word.{wordOf}
 use Rattle.lbp16.proofs.SpaceLaws.{bytes-le, element-nonzero, element-le}
@@ -28,9 +28,10 @@ use Rattle.cue.proofs.PacketLaws.{packet-bytes-append, command-length}
 use Rattle.cue.proofs.PackingLaws.{turn-cases, space-again}
 use Rattle.cue.proofs.OutputLaws.{Short, apart-output, framed-bytes, joined-bytes}
 use Rattle.cue.proofs.ReadBack.{read-from}
-use Rattle.tight.specs.Tight.{unset, steps, doneBy, packetDoes, both, packetsDo, accepted, checked}
+use Rattle.tight.specs.Tight.{steps, infoStep, packetDoes, both, packetsDo, accepted, checked}
+use Rattle.tight.proofs.PointerLaws.{all-does}
 use Rattle.tight.proofs.MixedLaws.{without-mixed}
-use Rattle.tight.proofs.CheckedLaws.{is-accepted}
+use Rattle.tight.proofs.CheckedLaws.{let-through, is-accepted}
 use Rattle.planner.specs.Planner.{OneCell}
 use Rattle.planner.specs.Inside.{stillCommand, stillFields, framedCommand, stillOutput}
 
@@ -150,14 +151,14 @@ module _ (n : ℕ) (x : Step) (some : 2 ≤ n) (few : n ≤ 127) (reads : isWrit
   still-length = rw still-packet
 
   still-does : packetDoes packet ≡ steps (replicate n x)
-  unfolding packet packetDoes doneBy packetSteps
+  unfolding packet packetSteps infoStep
   still-does =
       let all = append-nil (commandSteps (stillCommand n x)) ∙ still-steps n x in
       let four : length (packetBytes (stillCommand n x ∷ [])) ≤ limit = rw still-length (omega arith) in
       let reply : replyBytes (packetSteps (stillCommand n x ∷ [])) ≤ limit =
       rw (all, reply-repeated n x) (omega (arith, scaled n _ few (answered-le (x .kind) (x .space) is-read))) in
-      let (end, judged, same) = read-from (stillCommand n x ∷ []) (SoundAll.more still-sound SoundAll.none) reply unset in
-      rw (le-ltb limit (length (packetBytes (stillCommand n x ∷ []))) four, judged, same, all)
+      let from = read-from (stillCommand n x ∷ []) (SoundAll.more still-sound SoundAll.none) reply in
+      rw all at (all-does (packetBytes (stillCommand n x ∷ [])) _ four from (rw all (never infoStep x n plain)))
 
 -- the packing rule's output is at least its first packet, which has a command and a frame
 started-more : (cs : List Command) (x : Step)
@@ -212,17 +213,19 @@ still-accepted list n x o =
     let l = still-length n x (o .some) (o .few) (o .read) (f .good) (f .plain) (f .wide) in
     let e = still-framed n x (o .some) (o .few) (o .read) (f .good) (f .plain) (f .wide) in
     let d = still-does n x (o .some) (o .few) (o .read) (f .good) (f .plain) (f .wide) in
+    let (accepts, set) = let-through (p ∷ []) (replicate n x ++ []) (rw d refl) in
     let short : length (stillOutput n x) ≤ length (output (replicate n x)) =
     omega (arith, eight-least n x (o .some), still-size n x) in
     is-accepted list (stillOutput n x) 1
     (record {
       xs = replicate n x;
       list-records = o .list-records;
-      short = short;
       packets = p ∷ [];
-      taken-apart = rw (← e) (apart-output (p ∷ []) (Short.more (omega arith) Short.none));
       packet-count = refl;
+      sound = rw (← e) (apart-output (p ∷ []) (Short.more (omega arith) Short.none));
       done = replicate n x ++ [];
-      does = rw d refl;
+      accepts = accepts;
+      set = set;
       same = rw append-nil (without-mixed (unmixed (replicate n x)) g);
+      short = short;
     })

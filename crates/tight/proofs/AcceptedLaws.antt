@@ -21,10 +21,7 @@ use Rattle.packet.specs.Judge.{Carried, accepted, begin, carry, judgeFrom, judg
 use Rattle.packet.proofs.StepLaws.{any-append}
 use Rattle.packet.proofs.JudgeLaws.{accepted-past}
 use Rattle.packet.proofs.RefusalLaws.{all-passed, reaches-keeps}
-
--- an info read
-unfoldable pub infoStep : Step → Bool
-infoStep s = isInfo (s .kind)
+use Rattle.tight.specs.Tight.{infoStep}
 
 any-joined : (f : Step → Bool) (ss ts : List Step) → anyStep f (ss ++ ts) ≡ (anyStep f ss || anyStep f ts)
 unfolding anyStep

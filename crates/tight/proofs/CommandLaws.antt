@@ -1,8 +1,8 @@
 -- A command that no rule refuses, at the front of a list's bytes.
 use Prim.Native.Nat.{ℕ, zero, suc, _-_, _*_, _≤_}
 use mathlib.Core.Path.{_≡_, refl, sym, _∙_}
-use mathlib.Core.List.{List}
-use mathlib.Core.Bool.{Bool, true, false, not, _&&_, cond}
+use mathlib.Core.List.{List, [], _∷_}
+use mathlib.Core.Bool.{Bool, true, false, not, _&&_, _||_, cond}
 use native.Mathlib.Omega.{arith}
 use lib.Dec.{eqb, ltb}
 use lib.ListN.{length, take, drop, length-drop}
@@ -16,8 +16,8 @@ use Rattle.packet.specs.Command.{pickKind, kindOf, headerBytes, commandBytes, a
 use Rattle.packet.proofs.SliceLaws.{tail-whole}
 use Rattle.packet.proofs.CommandLaws.{Passed, last-inside}
 use Rattle.cue.specs.Records.{recordStep, recordKind, recordBytes, markAt, writeMark}
-use Rattle.tight.specs.Tight.{unlocks, sameKind, sameStep}
-use Rattle.tight.specs.Inside.{stepTakes, stepsTake}
+use Rattle.tight.specs.Tight.{Doing, none, steps, infoStep, plainOnly, unlocks, sameKind, sameStep}
+use Rattle.tight.specs.Inside.{stepTakes, further, andThen, stepsTake, doingTakes}
 use Rattle.tight.specs.declared.walk.Taken.{Taken}
 use Rattle.tight.proofs.TakeLaws.{first-rejected}
 
@@ -41,11 +41,36 @@ info-plain write e = let z : _≡_ {A = ℕ} 0 1 = cc in absurd (omega arith)
 
 info-step : (s : Step) (rest : List ℕ) → isInfo (s .kind) ≡ true → stepTakes s rest ≡ Taken.Rejected
 unfolding stepTakes unlocks
-info-step s rest e = rw (info-plain (s .kind) e, info-other s rest e) (none (ltb (length rest) (recordBytes (recordKind rest))))
+info-step s rest e = rw (info-plain (s .kind) e, info-other s rest e) (neither (ltb (length rest) (recordBytes (recordKind rest))))
   where
-    none : (t : Bool) → cond (not t && false) (Taken.Bytes (recordBytes (recordKind rest))) Taken.Rejected ≡ Taken.Rejected
-    none true = refl
-    none false = refl
+    neither : (t : Bool) → cond (not t && false) (Taken.Bytes (recordBytes (recordKind rest))) Taken.Rejected ≡ Taken.Rejected
+    neither true = refl
+    neither false = refl
+
+-- Steps with an info read among them are rejected, so that it does not matter whether they are left out before.
+info-among : (ss : List Step) (list : List ℕ) → anyStep infoStep ss ≡ true → stepsTake ss list ≡ Taken.Rejected
+unfolding anyStep infoStep stepsTake andThen further
+info-among [] list e = let z : _≡_ {A = ℕ} 0 1 = cc in absurd (omega arith)
+info-among (s ∷ ss) list e = go (isInfo (s .kind)) refl (info-among ss) e
+  where
+    behind : (t : Taken) → ((k : ℕ) → stepsTake ss (drop k list) ≡ Taken.Rejected)
+        → andThen t (λ k. stepsTake ss (drop k list)) ≡ Taken.Rejected
+    behind Taken.Rejected h = refl
+    behind (Taken.Bytes k) h = rw (h k)
+
+    go : (i : Bool) → isInfo (s .kind) ≡ i → ((rest : List ℕ) → anyStep infoStep ss ≡ true → stepsTake ss rest ≡ Taken.Rejected)
+        → (i || anyStep infoStep ss) ≡ true → andThen (stepTakes s list) (λ k. stepsTake ss (drop k list)) ≡ Taken.Rejected
+    go true i more e = rw (info-step s list i)
+    go false i more e = behind (stepTakes s list) (λ k. more (drop k list) e)
+
+pub plain-takes : (d : Doing) (list : List ℕ) → doingTakes (plainOnly d) list ≡ doingTakes d list
+unfolding doingTakes plainOnly
+plain-takes none list = refl
+plain-takes (steps ss) list = go (anyStep infoStep ss) refl
+  where
+    go : (i : Bool) → anyStep infoStep ss ≡ i → doingTakes (cond i none (steps ss)) list ≡ stepsTake ss list
+    go true i = sym (info-among ss list i)
+    go false i = refl
 
 info-elements : (k : Kind) (s : Space) (n a d : ℕ) (bytes list : List ℕ) → isInfo k ≡ true → 1 ≤ n
     → stepsTake (elements k s n a d bytes) list ≡ Taken.Rejected

@@ -6,6 +6,7 @@ use Rattle.lbp16.specs.Info
 use Rattle.packet.specs.Bytes
 use Rattle.packet.specs.Command
 use Rattle.cue.proofs.Examples.{all}
+use Rattle.tight.specs.Unset
 use Rattle.tight.specs.Tight
 use Rattle.tight.specs.Tight.{accepted, rejected, refused, checked}
 
@@ -25,8 +26,20 @@ abbrev turns : List ℕ
 turns = register 0 ++ status 2 ++ register 4 ++ status 4 ++ register 8 ++ status 6 ++ register 12
 
 -- opens every definition that a check computes with
+unfoldable packets : ℕ
+unfolding all Bytes.pairsOf Command.areaBytes Info.areaWords Unset.among Unset.usesFrom Unset.usesUnset
+packets = 0
+
+unfoldable steps : ℕ
+unfolding Tight.unlocks Tight.withoutUnlocks Tight.sameKind Tight.sameBytes Tight.sameStep Tight.sameSteps
+steps = 0
+
+unfoldable does : ℕ
+unfolding Tight.doneBy Tight.infoStep Tight.plainOnly Tight.packetDoes Tight.both Tight.packetsDo
+does = 0
+
 unfoldable every : ℕ
-unfolding all Tight.unsetSpaces Tight.unset Tight.doneBy Tight.packetDoes Tight.both Tight.packetsDo Tight.unlocks Tight.withoutUnlocks Tight.sameKind Tight.sameBytes Tight.sameStep Tight.sameSteps Tight.stepsChecked Tight.partsChecked Tight.proposalChecked Tight.checked Bytes.pairsOf Command.areaBytes Info.areaWords
+unfolding packets steps does Tight.stepsChecked Tight.partsChecked Tight.proposalChecked Tight.checked
 every = 0
 
 -- one command without increment

@@ -15,8 +15,8 @@ use Rattle.packet.specs.Rules.{anyStep}
 use Rattle.cue.specs.Records.{reserved, badElement}
 use Rattle.cue.proofs.RecordLaws.{good-element}
 use Rattle.cue.proofs.Relations.{Mixed, Good}
-use Rattle.tight.specs.Tight.{unlocks, withoutUnlocks}
-use Rattle.tight.proofs.AcceptedLaws.{infoStep, missized}
+use Rattle.tight.specs.Tight.{infoStep, unlocks, withoutUnlocks}
+use Rattle.tight.proofs.AcceptedLaws.{missized}
 
 -- what an unlock write is
 record Unlocking (s : Step) : Type 0 where

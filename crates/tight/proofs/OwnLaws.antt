@@ -4,9 +4,7 @@ use mathlib.Core.Path.{_≡_, refl, _∙_}
 use mathlib.Core.List.{List, [], _++_, map}
 use native.Mathlib.Omega.{arith}
 use lib.ListN.{length}
-use borrow.Author.Tests.{le-ltb}
 use Rattle.packet.specs.Step.{Step}
-use Rattle.packet.specs.Command.{limit}
 use Rattle.cue.specs.Records.{records, recordsOf}
 use Rattle.cue.specs.Packing.{Command, packetBytes, packetSteps}
 use Rattle.cue.specs.Compile.{packed, output}
@@ -16,16 +14,16 @@ use Rattle.cue.proofs.PackingLaws.{Kept, Packed, packing-keeps}
 use Rattle.cue.proofs.ReadBack.{read-from}
 use Rattle.cue.proofs.RunAll.{good-split}
 use Rattle.cue.proofs.Demand3.{apart-packed}
-use Rattle.tight.specs.Tight.{unset, steps, doneBy, packetDoes, both, packetsDo, withoutUnlocks, accepted, checked}
-use Rattle.tight.proofs.MixedLaws.{without-append, without-mixed}
-use Rattle.tight.proofs.CheckedLaws.{is-accepted}
+use Rattle.tight.specs.Tight.{steps, packetDoes, both, packetsDo, withoutUnlocks, accepted, checked}
+use Rattle.tight.proofs.PointerLaws.{all-does}
+use Rattle.tight.proofs.MixedLaws.{without-append, without-mixed, without-info}
+use Rattle.tight.proofs.CheckedLaws.{let-through, is-accepted}
 
 -- a packet of the packing rule gives every command its address
-kept-does : (cs : List Command) (xs : List Step) → Kept cs xs → packetDoes (packetBytes cs) ≡ steps (packetSteps cs)
-unfolding packetDoes doneBy
-kept-does cs xs k =
-    let (end, judged, same) = read-from cs (k .sound) (k .reply) unset in
-    rw (le-ltb limit (length (packetBytes cs)) (k .short), judged, same)
+kept-does : (cs : List Command) (xs : List Step) → Kept cs xs → Good xs → packetDoes (packetBytes cs) ≡ steps (packetSteps cs)
+kept-does cs xs k g =
+    all-does (packetBytes cs) (packetSteps cs) (k .short) (read-from cs (k .sound) (k .reply))
+    (without-info (packetSteps cs) (rw (without-mixed (k .mixed) g) g))
 
 -- The steps of its packets, unlock writes left out, are the records.
 packed-does : {css : List (List Command)} {xs : List Step} → Packed css xs → Good xs
@@ -36,7 +34,7 @@ packed-does (Packed.more {cs = cs} {xs = xs} {ys = ys} k p) g =
     let (gx, gy) = good-split xs ys g in
     let (ts, does, same) = packed-does p gy in
     let ss = packetSteps cs in
-    (ss ++ ts, rw (kept-does cs xs k, does) refl, without-append ss ts ∙ rw (without-mixed (k .mixed) gx, same))
+    (ss ++ ts, rw (kept-does cs xs k gx, does) refl, without-append ss ts ∙ rw (without-mixed (k .mixed) gx, same))
 
 pub own-accepted : (list : List ℕ) (xs : List Step) → recordsOf list ≡ records xs
     → checked list (output xs) ≡ accepted (length (packed xs))
@@ -44,15 +42,17 @@ unfolding packed
 own-accepted list xs e =
     let g = records-good list xs e in
     let (ss, does, same) = packed-does (packing-keeps xs g) g in
+    let (accepts, set) = let-through (packed xs) ss does in
     is-accepted list (output xs) (length (packed xs))
     (record {
       xs = xs;
       list-records = e;
-      short = omega arith;
       packets = packed xs;
-      taken-apart = apart-packed xs g;
       packet-count = refl;
+      sound = apart-packed xs g;
       done = ss;
-      does = does;
+      accepts = accepts;
+      set = set;
       same = same;
+      short = omega arith;
     })

@@ -22,10 +22,12 @@ use Rattle.packet.proofs.SliceLaws.{tail-whole}
 use Rattle.packet.proofs.CommandLaws.{Passed, advanced-used}
 use Rattle.packet.proofs.LoopLaws.{At, at-begin, at-end, at-accepted, at-passed, at-next, Turn, at-step}
 use Rattle.card.specs.Inside.{LetPass}
-use Rattle.tight.specs.Tight.{unset, none, doneBy, packetDoes}
-use Rattle.tight.specs.Inside.{further, stepsTake, doingTakes, packetTakes}
+use Rattle.tight.specs.Tight.{none, doneBy, packetDoes}
+use Rattle.tight.specs.Inside.{unset, fromUnset, further, stepsTake, doingTakes, packetTakes}
 use Rattle.tight.specs.declared.walk.Taken.{Taken}
+use Rattle.tight.proofs.PointerLaws.{does-is}
 use Rattle.tight.proofs.TakeLaws.{append-rejected, append-taken, steps-within}
+use Rattle.tight.proofs.CommandLaws.{plain-takes}
 
 -- Once the steps so far are rejected, so is the packet, whatever follows.
 rejected-on : (fuel : ℕ) (c : Carried) (rest list : List ℕ) → stepsTake (c .steps) list ≡ Taken.Rejected
@@ -62,8 +64,8 @@ packet-long packet list h = rw (lt-ltb limit (length packet) h)
 
 module _ (packet list : List ℕ) (short : length packet ≤ limit) (p : Pointers) (e : p ≡ unset) where
   pub packet-short : packetTakes packet list ≡ doingTakes (doneBy (judge p packet)) list
-  unfolding packetTakes packetDoes
-  packet-short = rw (le-ltb limit (length packet) short, e) refl
+  unfolding packetTakes fromUnset
+  packet-short = rw (does-is packet, le-ltb limit (length packet) short, e) (plain-takes (doneBy (judge unset packet)) list)
 
   pub packet-refused : (n place : ℕ) → Answer.refused n place ≡ answerTo (judge p packet) → Taken.Rejected ≡ packetTakes packet list
   unfolding doingTakes

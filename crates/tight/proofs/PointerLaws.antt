@@ -9,7 +9,7 @@ use lib.Dec.{eqb, ltb}
 use lib.ListN.{length, take, drop}
 use borrow.Author.Tests.{eqb-true, eq-eqb, ltb-false, le-ltb}
 use Rattle.lbp16.specs.Space.{Space, registers, eeprom, status, information, absent, spaceOf, spaceNumber, isAbsent, row}
-use Rattle.lbp16.specs.Pointer.{ofSpace, withSpace, pointerOf, withPointer}
+use Rattle.lbp16.specs.Pointer.{fresh, ofSpace, withSpace, pointerOf, withPointer}
 use Rattle.lbp16.specs.declared.word.Fields.{Fields}
 use Rattle.lbp16.specs.declared.pointer.Pointers.{Pointers}
 use Rattle.lbp16.proofs.BoolLaws.{or-false}
@@ -25,9 +25,10 @@ use Rattle.packet.proofs.CommandLaws.{Passed}
 use Rattle.packet.proofs.JudgeLaws.{PassedNext, onward, judged-past, accepted-past, pointers-kept}
 use Rattle.cue.proofs.PackingLaws.{space-again}
 use Rattle.cue.proofs.Relations.{Does}
-use Rattle.tight.specs.Tight.{unsetSpaces, unset, none, steps, doneBy, packetDoes}
+use Rattle.tight.specs.Tight.{none, steps, doneBy, infoStep, plainOnly, packetDoes}
 use Rattle.tight.specs.Unset.{among, usesFrom, usesUnset}
-use Rattle.tight.proofs.AcceptedLaws.{infoStep, plain-next, info-same}
+use Rattle.tight.specs.Inside.{unsetSpaces, unset, fromUnset}
+use Rattle.tight.proofs.AcceptedLaws.{plain-next, info-same}
 
 -- no info read among the steps
 abbrev pub NoInfo : List Step → Type 0
@@ -212,47 +213,102 @@ unfolding judge begin usesUnset
 uses-none packet c e i = unset-from (length packet) [] (begin unset) packet c none-set e i
 
 -- what it means that a packet does these steps
-pub record FromUnset (packet : List ℕ) (ss : List Step) : Type 0 where
+pub record FromFresh (packet : List ℕ) (ss : List Step) : Type 0 where
   pub short : length packet ≤ limit
+  pub set : usesUnset packet ≡ false
   pub end : Carried
-  pub judged : judge unset packet ≡ accepted end
+  pub judged : judge fresh packet ≡ accepted end
   pub same : end .steps ≡ ss
+  pub plain : NoInfo ss
 
-pub from-unset : (packet : List ℕ) (ss : List Step) → packetDoes packet ≡ steps ss → FromUnset packet ss
-unfolding packetDoes doneBy
-from-unset packet ss = go (ltb limit (length packet)) (judge unset packet) refl refl
+pub from-fresh : (packet : List ℕ) (ss : List Step) → packetDoes packet ≡ steps ss → FromFresh packet ss
+unfolding packetDoes doneBy plainOnly
+from-fresh packet ss = go (ltb limit (length packet)) (usesUnset packet) (judge fresh packet) refl refl refl
   where
-    go : (b : Bool) (v : Judge.Verdict) → ltb limit (length packet) ≡ b → judge unset packet ≡ v
-        → cond b none (doneBy v) ≡ steps ss → FromUnset packet ss
-    go true v l e h = let z : _≡_ {A = ℕ} 0 1 = cc in absurd (omega arith)
-    go false (Judge.refused n place) l e h = let z : _≡_ {A = ℕ} 0 1 = cc in absurd (omega arith)
-    go false (Judge.accepted c) l e h = record { short = ltb-false _ _ l; end = c; judged = e; same = cc }
+    last : (c : Carried) (i : Bool) → length packet ≤ limit → usesUnset packet ≡ false → judge fresh packet ≡ accepted c
+        → anyStep infoStep (c .steps) ≡ i → cond i none (steps (c .steps)) ≡ steps ss → FromFresh packet ss
+    last c true l u e i h = let z : _≡_ {A = ℕ} 0 1 = cc in absurd (omega arith)
+    last c false l u e i h =
+        let same : c .steps ≡ ss = cc in
+        record { short = l; set = u; end = c; judged = e; same = same; plain = rw same at i }
 
--- A packet without info commands that is accepted from `unset` is accepted from all pointers, with the same steps.
-pub any-pointers : (packet : List ℕ) (ss : List Step) → packetDoes packet ≡ steps ss → NoInfo ss → Does packet ss
-any-pointers packet ss e i =
-    let u = from-unset packet ss e in
-    let plain : NoInfo (u .end .steps) = rw (u .same) i in
-    let none = uses-none packet (u .end) (u .judged) plain in
+    go : (b u : Bool) (v : Judge.Verdict) → ltb limit (length packet) ≡ b → usesUnset packet ≡ u → judge fresh packet ≡ v
+        → cond (b || u) none (plainOnly (doneBy v)) ≡ steps ss → FromFresh packet ss
+    go true u v l n e h = let z : _≡_ {A = ℕ} 0 1 = cc in absurd (omega arith)
+    go false true v l n e h = let z : _≡_ {A = ℕ} 0 1 = cc in absurd (omega arith)
+    go false false (Judge.refused n place) l u e h = let z : _≡_ {A = ℕ} 0 1 = cc in absurd (omega arith)
+    go false false (Judge.accepted c) l u e h = last c _ (ltb-false _ _ l) u e refl h
+
+pub fresh-does : (packet : List ℕ) (ss : List Step) → FromFresh packet ss → packetDoes packet ≡ steps ss
+unfolding packetDoes doneBy plainOnly
+fresh-does packet ss f = rw (le-ltb limit (length packet) (f .short), f .set, f .judged, f .same, f .plain)
+
+-- A packet that is let through is accepted from all pointers, with the same steps.
+pub any-pointers : (packet : List ℕ) (ss : List Step) → packetDoes packet ≡ steps ss → (p : Pointers)
+    → (c : Carried) × (judge p packet ≡ accepted c) × (c .steps ≡ ss)
+any-pointers packet ss e p =
+    let f = from-fresh packet ss e in
+    let (c, judged, same) = from-any fresh packet (f .end) (f .judged) (rw (f .same) (f .plain)) (f .set) p in
+    (c, judged, same ∙ f .same)
+
+pub any-does : (packet : List ℕ) (ss : List Step) → packetDoes packet ≡ steps ss → Does packet ss
+any-does packet ss e =
     record {
-      short = u .short;
+      short = from-fresh packet ss e .short;
       judged = λ p below.
-          let (c, j, same) = from-any unset packet (u .end) (u .judged) plain none p in
-          (c, j, same ∙ u .same, pointers-kept p packet c below j);
+          let (c, judged, same) = any-pointers packet ss e p in
+          (c, judged, same, pointers-kept p packet c below judged);
     }
 
--- Of a packet without info commands that is accepted from some pointers: it does its steps if it uses no pointer before it
--- sets it, and nothing otherwise.
-pub does-is : (p : Pointers) (packet : List ℕ) (c : Carried) → length packet ≤ limit → judge p packet ≡ accepted c
-    → NoInfo (c .steps) → packetDoes packet ≡ cond (usesUnset packet) none (steps (c .steps))
-unfolding packetDoes doneBy
-does-is p packet c short e i = rw (le-ltb limit (length packet) short) (go (usesUnset packet) (judge unset packet) refl refl)
+-- The rule and the trick, of every packet: those let through are those accepted from `unset`, info commands apart.
+pub does-is : (packet : List ℕ) → packetDoes packet ≡ plainOnly (fromUnset packet)
+unfolding packetDoes fromUnset doneBy plainOnly
+does-is packet = go (ltb limit (length packet))
   where
-    go : (u : Bool) (v : Judge.Verdict) → usesUnset packet ≡ u → judge unset packet ≡ v
-        → doneBy v ≡ cond u none (steps (c .steps))
-    go true (Judge.refused n place) u j = refl
-    go true (Judge.accepted d) u j =
-        let plain : NoInfo (d .steps) = sym (info-same p unset packet c d e j) ∙ i in
-        let z : _≡_ {A = ℕ} 0 1 = cc (uses-none packet d j plain) in
-        absurd (omega arith)
-    go false v u j = let (d, k, same) = from-any p packet c e i u unset in rw (← j, k, same)
+    -- refused from `unset`
+    refused : (u : Bool) (v : Judge.Verdict) (n place : ℕ) → usesUnset packet ≡ u → judge fresh packet ≡ v
+        → judge unset packet ≡ Judge.refused n place → cond u none (plainOnly (doneBy v)) ≡ none
+    refused true v n place u f e = refl
+    refused false (Judge.refused m i) n place u f e = refl
+    refused false (Judge.accepted c) n place u f e = last (anyStep infoStep (c .steps)) refl
+      where
+        last : (i : Bool) → anyStep infoStep (c .steps) ≡ i → cond i none (steps (c .steps)) ≡ none
+        last true i = refl
+        last false i =
+            let (d, judged, same) = from-any fresh packet c f i u unset in
+            let z : _≡_ {A = ℕ} 0 1 = cc (sym e ∙ judged) in
+            absurd (omega arith)
+
+    -- accepted from `unset`, with an info command
+    info : (u : Bool) (v : Judge.Verdict) (d : Carried) → judge fresh packet ≡ v → judge unset packet ≡ accepted d
+        → anyStep infoStep (d .steps) ≡ true → cond u none (plainOnly (doneBy v)) ≡ none
+    info true v d f e i = refl
+    info false (Judge.refused m j) d f e i = refl
+    info false (Judge.accepted c) d f e i = rw (info-same fresh unset packet c d f e, i)
+
+    middle : (v : Judge.Verdict) → judge unset packet ≡ v
+        → cond (usesUnset packet) none (plainOnly (doneBy (judge fresh packet))) ≡ plainOnly (doneBy v)
+    middle (Judge.refused n place) e = refused (usesUnset packet) (judge fresh packet) n place refl refl e
+    middle (Judge.accepted d) e = last (anyStep infoStep (d .steps)) refl
+      where
+        last : (i : Bool) → anyStep infoStep (d .steps) ≡ i
+            → cond (usesUnset packet) none (plainOnly (doneBy (judge fresh packet))) ≡ cond i none (steps (d .steps))
+        last true i = info (usesUnset packet) (judge fresh packet) d refl e i
+        last false i =
+            let set = uses-none packet d e i in
+            let (c, judged, same) = from-any unset packet d e i set fresh in
+            rw (set, judged, same, i)
+
+    go : (b : Bool)
+        → cond (b || usesUnset packet) none (plainOnly (doneBy (judge fresh packet)))
+        ≡ plainOnly (cond b none (doneBy (judge unset packet)))
+    go true = refl
+    go false = middle _ refl
+
+-- A packet without info commands that is accepted from all pointers, with the same steps, is let through.
+pub all-does : (packet : List ℕ) (ss : List Step) → length packet ≤ limit
+    → ((p : Pointers) → (c : Carried) × (judge p packet ≡ accepted c) × (c .steps ≡ ss)) → NoInfo ss → packetDoes packet ≡ steps ss
+unfolding fromUnset doneBy plainOnly
+all-does packet ss short all i =
+    let (c, judged, same) = all unset in
+    does-is packet ∙ rw (le-ltb limit (length packet) short, judged, same, i)

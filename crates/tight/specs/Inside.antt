@@ -1,16 +1,34 @@
--- The inside of private functions' contracts: steps taken off the front of a list's bytes.
+-- The inside of private functions' contracts: pointers that no command may use, and steps taken off the front of a list's
+-- bytes.
 use Prim.Native.Nat.{ℕ, _+_}
 use mathlib.Core.List.{List, [], _∷_}
 use mathlib.Core.Bool.{Bool, not, _&&_, cond}
 use lib.ListN.{length, drop}
 use lib.Dec.{ltb}
 use Rattle.lbp16.specs.Space.{spaceOf}
+use Rattle.lbp16.specs.Pointer.{pointer}
+use Rattle.lbp16.specs.declared.pointer.SpacePointers.{SpacePointers}
+use Rattle.lbp16.specs.declared.pointer.Pointers.{Pointers}
 use Rattle.packet.specs.Step.{Step}
-use Rattle.packet.specs.Command.{pickKind, payload}
+use Rattle.packet.specs.Command.{limit, pickKind, payload}
+use Rattle.packet.specs.Judge.{judge}
 use Rattle.cue.specs.Records.{recordStep, recordKind, recordBytes}
 use Rattle.cue.specs.Output.{Front}
-use Rattle.tight.specs.Tight.{unlocks, sameStep, Doing, none, steps, packetDoes}
+use Rattle.tight.specs.Tight.{unlocks, sameStep, Doing, none, steps, doneBy, packetDoes}
 use Rattle.tight.specs.declared.walk.Taken.{Taken}
+
+-- Pointers that no command may use: an address of 65,537 is no multiple of any element size, so a command that takes its
+-- address from one of these before its packet has set it is refused.
+unfoldable pub unsetSpaces : SpacePointers
+unsetSpaces =
+    record { registers = pointer 65537; eeprom = pointer 65537; status = pointer 65537; information = pointer 65537 }
+
+unfoldable pub unset : Pointers
+unset = record { plain = unsetSpaces; info = unsetSpaces }
+
+-- The steps of a packet that is accepted from these: those of `packetDoes`, info commands apart (`PointerLaws.does-is`).
+unfoldable pub fromUnset : List ℕ → Doing
+fromUnset packet = cond (ltb limit (length packet)) none (doneBy (judge unset packet))
 
 -- One step at the front of a list's bytes: an unlock write takes none, any other takes the record that is the same.
 unfoldable pub stepTakes : Step → List ℕ → Taken

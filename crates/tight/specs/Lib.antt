@@ -1,4 +1,4 @@
-pub mod Tight
 pub mod Unset
+pub mod Tight
 pub mod Demand3
 pub mod Inside

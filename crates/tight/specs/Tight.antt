@@ -1,15 +1,14 @@
 -- A proposed output for a cue list, and when it is accepted.
 use Prim.Native.Nat.{ℕ}
 use mathlib.Core.List.{List, [], _∷_, _++_}
-use mathlib.Core.Bool.{Bool, true, false, _&&_, cond, Bool·beq}
+use mathlib.Core.Bool.{Bool, true, false, _&&_, _||_, cond, Bool·beq}
 use lib.ListN.{length}
 use lib.Dec.{eqb, ltb}
 use Rattle.lbp16.specs.Space.{spaceNumber}
-use Rattle.lbp16.specs.Pointer.{pointer}
-use Rattle.lbp16.specs.declared.pointer.SpacePointers.{SpacePointers}
-use Rattle.lbp16.specs.declared.pointer.Pointers.{Pointers}
+use Rattle.lbp16.specs.Pointer.{fresh}
 use Rattle.packet.specs.Bytes.{number}
 use Rattle.packet.specs.Step.{Kind, Step, isInfo, isWrite, namesUnlock}
+use Rattle.packet.specs.Rules.{anyStep}
 use Rattle.packet.specs.Command.{limit}
 use Rattle.packet.specs.Judge.{judge}
 use Rattle.packet.specs.Judge
@@ -17,18 +16,10 @@ use Rattle.cue.specs.Records.{Listed, recordsOf}
 use Rattle.cue.specs.Records
 use Rattle.cue.specs.Output.{Apart, unsound, parts, apart}
 use Rattle.cue.specs.Compile.{output}
+use Rattle.tight.specs.Unset.{usesUnset}
 use Rattle.tight.specs.declared.TightAnswer.{TightAnswer}
 
--- Pointers that no command may use: an address of 65,537 is no multiple of any element size, so a command that takes its
--- address from one of these before its packet has set it is refused.
-unfoldable pub unsetSpaces : SpacePointers
-unsetSpaces =
-    record { registers = pointer 65537; eeprom = pointer 65537; status = pointer 65537; information = pointer 65537 }
-
-unfoldable pub unset : Pointers
-unset = record { plain = unsetSpaces; info = unsetSpaces }
-
--- The steps of a packet that is accepted and uses no pointer before it sets it; `none` of any other packet.
+-- The steps of a packet that is let through; `none` of any other packet.
 pub data Doing : Type 0 where
   none : Doing
   steps : List Step → Doing
@@ -37,8 +28,18 @@ unfoldable pub doneBy : Judge.Verdict → Doing
 doneBy (Judge.refused n place) = none
 doneBy (Judge.accepted c) = steps (c .steps)
 
+-- any info command is rejected
+unfoldable pub infoStep : Step → Bool
+infoStep s = isInfo (s .kind)
+
+unfoldable pub plainOnly : Doing → Doing
+plainOnly none = none
+plainOnly (steps ss) = cond (anyStep infoStep ss) none (steps ss)
+
+-- The packet has at most 1,472 bytes and is accepted, from a fresh card's pointers; and no space's pointer is used in it before
+-- it sets it, so that it is accepted from all pointers, with the same steps.
 unfoldable pub packetDoes : List ℕ → Doing
-packetDoes packet = cond (ltb limit (length packet)) none (doneBy (judge unset packet))
+packetDoes packet = cond (ltb limit (length packet) || usesUnset packet) none (plainOnly (doneBy (judge fresh packet)))
 
 unfoldable pub both : Doing → Doing → Doing
 both none d = none
@@ -86,8 +87,8 @@ pub data Checked : Type 0 where
   rejected : Checked
   refused : ℕ → ℕ → Checked
 
--- The steps, unlock writes of 0x5A02 apart, are the records in order. So any other write to the unlock cell is rejected, and
--- any info command, since no record is one.
+-- The steps, unlock writes of 0x5A02 apart, are the records in order. So any other write to the unlock cell is rejected, since
+-- no record is one.
 unfoldable pub stepsChecked : Doing → List Step → ℕ → Checked
 stepsChecked none xs count = rejected
 stepsChecked (steps ss) xs count = cond (sameSteps (withoutUnlocks ss) xs) (accepted count) rejected

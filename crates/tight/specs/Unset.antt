@@ -1,4 +1,5 @@
--- When a packet uses a space's pointer before it has set it. This is for packets without info commands.
+-- When a packet uses a space's pointer before it has set it. What this says of a packet with info commands plays no part, since
+-- any info command is rejected.
 use Prim.Native.Nat.{ℕ, zero, suc}
 use mathlib.Core.List.{List, [], _∷_}
 use mathlib.Core.Bool.{Bool, false, not, _||_, _&&_}

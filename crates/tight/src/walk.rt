@@ -25,8 +25,8 @@ ghost use Rattle.packet.specs.Judge.{Carried, accepted, judge};
 ghost use Rattle.card.specs.Inside.{LetPass};
 ghost use Rattle.cue.specs.Records.{records, recordsOf, recordBytes};
 ghost use Rattle.cue.specs.Output.{apart, frontOf};
-ghost use Rattle.tight.specs.Tight.{unset, unlocks, sameBytes, doneBy, partsChecked, checkListed};
-ghost use Rattle.tight.specs.Inside.{elementStep, stepTakes, stepsTake, doingTakes, packetTakes, partBytes};
+ghost use Rattle.tight.specs.Tight.{unlocks, sameBytes, doneBy, partsChecked, checkListed};
+ghost use Rattle.tight.specs.Inside.{unset, elementStep, stepTakes, stepsTake, doingTakes, packetTakes, partBytes};
 
 // The bytes that something takes from the front of a list or of a proposal, if it may stand there.
 pub enum Taken {

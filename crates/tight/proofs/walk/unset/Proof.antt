@@ -3,7 +3,7 @@ use Rattle.tight.proofs.walk.unset.Statement.{statement}
 use Rattle.tight.proofs.walk.unset.Tie as tie
 use mathlib.Core.Path.{_≡_}
 use Rattle.lbp16.specs.Pointer.{pointer}
-use Rattle.tight.specs.Tight.{unset, unsetSpaces}
+use Rattle.tight.specs.Inside.{unset, unsetSpaces}
 
 new-requires : tie.Need-new-requires
 new-requires c κs = search needs
