@@ -1,9 +1,12 @@
 -- What head_why returns and leaves.
-use Prim.Native.Nat.{ℕ}
+use Prim.Native.Nat.{ℕ, _≤_}
+use mathlib.Core.Path.{_≡_}
 use mathlib.Core.List.{List}
 use mathlib.Core.Bool.{cond}
-use lib.ListN.{length}
+use lib.ListN.{length, take}
 use lib.Dec.{eqb}
+use Rattle.packet.specs.Judge.{Carried, accepted}
+use Rattle.card.specs.Run.{checkedList}
 use Rattle.reason.specs.Reason.{unnamed, explained}
 use Rattle.reason.specs.declared.Reason.{Reason}
 use Rattle.head.specs.Exports.{fieldBytes}
@@ -28,3 +31,8 @@ unfoldable pub exportWhy : List ℕ → List ℕ → List ℕ → List ℕ → W
 exportWhy packet store pointers fields =
     let r = reasonFor packet store pointers in
     cond (eqb (length fields) 7) (whyLeft (r .number) (r .place) (r .index) (fieldBytes (r .fields))) (whyLeft 13 0 0 fields)
+
+-- Where it returns 3 to 12, the bytes before the place alone are an accepted packet, from the same store and pointers.
+abbrev pub WhyFront : List ℕ → List ℕ → List ℕ → ℕ → ℕ → Type 0
+WhyFront packet store pointers number place =
+    3 ≤ number → number ≤ 12 → (end : Carried) × (checkedList (take place packet) store pointers ≡ accepted end)

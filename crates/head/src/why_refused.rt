@@ -3,7 +3,7 @@ use crate::lent;
 use lbp16::pointer::Pointers;
 use reason::Reason;
 ghost use mathlib.Core.Path.{_≡_};
-ghost use Rattle.head.specs.Reasoned.{reasonFor, whyLeft, exportWhy};
+ghost use Rattle.head.specs.Reasoned.{reasonFor, whyLeft, exportWhy, WhyFront};
 
 fn reason_for(packet: &[u8], store: &[u8], pointers: &[u32]) -> Reason
     ensures { λ r. ⌜ r ≡ reasonFor (now (packet .entry)) (now (store .entry)) (now (pointers .entry)) ⌝ }
@@ -25,7 +25,8 @@ pub extern "C" fn head_why(
     index: &mut u64,
     fields: &mut [u8],
 ) -> u32
-    ensures { λ r. ⌜ whyLeft r (now (place .exit)) (now (index .exit)) (now (fields .exit)) ≡ exportWhy (now (packet .entry)) (now (store .entry)) (now (pointers .entry)) (now (fields .entry)) ⌝ }
+    ensures why { λ r. ⌜ whyLeft r (now (place .exit)) (now (index .exit)) (now (fields .exit)) ≡ exportWhy (now (packet .entry)) (now (store .entry)) (now (pointers .entry)) (now (fields .entry)) ⌝ }
+    ensures front { λ r. ⌜ WhyFront (now (packet .entry)) (now (store .entry)) (now (pointers .entry)) r (now (place .exit)) ⌝ }
 {
     *place = 0;
     *index = 0;
