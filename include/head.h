@@ -1,5 +1,5 @@
-/* The head controller: LBP16 packets and SPI bursts on a card store, command words, cue lists, recorded shows, and the
- * fields and readings of daughter cards.
+/* The head controller: LBP16 packets and SPI bursts on a card store, command words and burst headers, cue lists, recorded
+ * shows, and the fields and readings of daughter cards.
  *
  * Every function but head_panel_report, which refuses nothing and returns nothing, returns 0 if it accepts, else the
  * number of the refusal.
@@ -50,8 +50,9 @@ extern "C" {
 /* The address pointers: those of spaces 0, 2, 6 and 7, in this order, then those of their info areas. */
 #define HEAD_POINTERS 8
 
-/* The bytes of a command word's fields. */
+/* The bytes of a command word's fields, and the numbers of a burst header's. */
 #define HEAD_FIELDS 7
+#define HEAD_HEADER_FIELDS 4
 
 /* Checks one packet: what head_run would answer on this store and these pointers, with a reply room of 1,472 bytes.
  * Nothing is changed, and what the store's cells hold plays no part.
@@ -145,6 +146,26 @@ uint32_t head_fields(uint16_t word, uint8_t *fields, size_t fields_length);
  *       above 127; *word keeps its value
  */
 uint32_t head_word(const uint8_t *fields, size_t fields_length, uint16_t *word);
+
+/* Reads the header of an SPI burst, as head_spi describes it, into its fields.
+ *
+ *   fields  room for 4 numbers: address (0 to 65,535), command (0 to 15), increment (0 or 1), count (0 to 127)
+ *
+ * Every word has fields; its four unused bits are ignored.
+ *
+ *   13  fields_length is not 4; nothing is written
+ */
+uint32_t head_header(uint32_t word, uint32_t *fields, uint64_t fields_length);
+
+/* Writes fields, the same 4 numbers, into the header of an SPI burst. Its unused bits are 0.
+ *
+ *   13  fields_length is not 4, address above 65,535 or increment above 1
+ *   32  command neither 0xA (read) nor 0xB (write)
+ *   33  count 0 or above 127
+ *
+ * They are asked in this order. Refused: *word keeps its value.
+ */
+uint32_t head_header_word(const uint32_t *fields, uint64_t fields_length, uint32_t *word);
 
 /* Says why a packet is refused: the number and the place that head_check gives, and head_run with a reply room of 1,472
  * bytes, and the command at fault. Nothing is changed, and what the store's cells hold plays no part.

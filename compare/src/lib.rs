@@ -7,6 +7,7 @@ pub mod bursts;
 pub mod cards;
 pub mod cues;
 pub mod drafts;
+pub mod headers;
 pub mod independent;
 pub mod info;
 pub mod lent;

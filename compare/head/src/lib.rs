@@ -25,6 +25,7 @@
 use std::error::Error;
 use std::fmt;
 
+pub mod header;
 pub mod independent;
 pub mod panel;
 pub mod parts;
@@ -34,6 +35,7 @@ pub mod sserial;
 pub mod tight;
 pub mod why;
 
+pub use header::{header, header_word, Header};
 pub use independent::{independent, Dependent};
 pub use recording::{judge, Verdict};
 pub use salvage::{salvage, Salvaged};

@@ -165,6 +165,47 @@ fn short_burst() {
 }
 
 #[test]
+fn headers() {
+    let header = head::header(0x600C_B04F);
+    assert_eq!((header.address, header.command), (0x600C, 0xB));
+    assert_eq!((header.increment, header.count), (false, 4));
+    assert_eq!(head::header_word(&header), Ok(0x600C_B040));
+    let refused = |number| Err(Refusal { number, place: 0 });
+    let other = head::Header {
+        command: 0xC,
+        ..header
+    };
+    assert_eq!(head::header_word(&other), refused(32));
+    for count in [0, 128] {
+        let other = head::Header { count, ..header };
+        assert_eq!(head::header_word(&other), refused(33));
+    }
+}
+
+#[test]
+fn refused_header_keeps_its_word() {
+    // The last two have a command and a count whose low bytes alone would be good.
+    let refused: [(&[u32], u32); 6] = [
+        (&[0, 0xA, 0], 13),
+        (&[0x1_0000, 0xC, 0, 0], 13),
+        (&[0, 0xA, 2, 1], 13),
+        (&[0, 0xC, 0, 0], 32),
+        (&[0, 0x10A, 0, 1], 32),
+        (&[0, 0xA, 0, 0x101], 33),
+    ];
+    for (fields, number) in refused {
+        let mut word = 0xEEEE_EEEE;
+        let answer = head::header::exports::header_word(fields, &mut word);
+        assert_eq!((answer, word), (number, 0xEEEE_EEEE));
+    }
+    for length in [0, 3, 5] {
+        let mut fields = vec![7; length];
+        assert_eq!(head::header::exports::header(0x1000_A830, &mut fields), 13);
+        assert!(fields.iter().all(|&number| number == 7));
+    }
+}
+
+#[test]
 fn list_and_its_room() {
     let list = b"WR\x02\0\x20\0\x20\0\0\0WR\x02\0\x22\0\xA8\xC0\0\0";
     let packet = [

@@ -15,6 +15,7 @@ struct Part(&'static str, u64, fn(u64, u64) -> Outcome);
 
 const PARTS: &[Part] = &[
     Part("words", 0, |seed, _| compare::words::compare(seed)),
+    Part("headers", 50_000, compare::headers::compare),
     Part("packets", 500_000, compare::packets::compare),
     Part("bursts", 200_000, compare::bursts::compare),
     Part("lists", 30_000, compare::lists::compare),

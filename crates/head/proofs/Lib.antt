@@ -1,4 +1,5 @@
 pub mod ExportLaws
+pub mod HeaderLaws
 pub mod SerialLaws
 pub mod PartLaws
 pub mod TwoListsLaws

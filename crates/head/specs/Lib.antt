@@ -1,4 +1,5 @@
 pub mod Exports
+pub mod Headers
 pub mod Serial
 pub mod Panels
 pub mod Part

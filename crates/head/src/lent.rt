@@ -34,7 +34,7 @@ pub(crate) fn put_pointers(p: Pointers, ps: &mut [u32])
     put_spaces(p.info, ps, 4);
 }
 
-fn flag(set: bool) -> u8
+pub(crate) fn flag(set: bool) -> u8
     ensures { λ r. ⌜ r ≡ bit set ⌝ }
 {
     if set { 1 } else { 0 }

@@ -1,4 +1,5 @@
 // What C programs call; include/head.h declares it. A function that can refuse returns the refusal's number, 0 if accepted.
+mod headers;
 mod lent;
 mod panels;
 pub mod part;

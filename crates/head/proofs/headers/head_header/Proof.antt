@@ -1,0 +1,26 @@
+use borrow.Author.Needs.{needs}
+use Rattle.head.proofs.headers.head_header.Statement.{statement}
+use Rattle.head.proofs.headers.head_header.Tie as tie
+use mathlib.Core.Path.{refl}
+use Rattle.head.proofs.HeaderLaws.{four, not-four}
+
+returns : tie.Need-returns
+returns c = rw (not-four _ _ (c .if1 .taken)) refl
+
+header-of-requires : tie.Need-header-of-requires
+header-of-requires c κs = search needs
+
+put-header-requires : tie.Need-put-header-requires
+put-header-requires c κs = search needs
+
+same-length : tie.Need-same-length
+same-length c = search needs
+
+returns-2 : tie.Need-returns-2
+returns-2 c =
+    let b = c .before .before in
+    rw (four _ _ (b .before .before .before .if1 .left), b .put-header .ensures, b .before .before .header-of .ensures) refl
+
+pub head-header-spec : {M : Type 1} → statement M
+head-header-spec =
+    tie.close (tie.spec returns header-of-requires put-header-requires same-length returns-2)
