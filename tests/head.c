@@ -1,0 +1,377 @@
+/* Every function of include/head.h called from C, or C++, on the examples of docs/RULES.md and README.md. Ends with 1 where an
+ * answer, or a byte that was lent, is not what they have. tools/header compiles, links and runs it. */
+#include "head.h"
+
+#include <stdio.h>
+#include <string.h>
+
+static unsigned long checked, wrong;
+
+static void is(int line, const char *what, uint64_t found, uint64_t expected)
+{
+    checked++;
+    if (found != expected) {
+        wrong++;
+        printf("tests/head.c:%d: %s is %llu, expected %llu\n", line, what, (unsigned long long)found, (unsigned long long)expected);
+    }
+}
+
+static void same(int line, const char *what, const void *found, const void *expected, size_t n)
+{
+    const uint8_t *a = (const uint8_t *)found, *b = (const uint8_t *)expected;
+    size_t k = 0;
+    checked++;
+    while (k < n && a[k] == b[k])
+        k++;
+    if (k < n) {
+        wrong++;
+        printf("tests/head.c:%d: byte %lu of %s is %02X, expected %02X\n", line, (unsigned long)k, what, a[k], b[k]);
+    }
+}
+
+#define IS(found, expected) is(__LINE__, #found, (uint64_t)(found), (uint64_t)(expected))
+#define SAME(found, expected, n) same(__LINE__, #found, found, expected, n)
+
+/* The card: all 0 when fresh. `before` is a copy of the store, to see what a call changed. */
+static uint8_t store[HEAD_STORE_BYTES], before[HEAD_STORE_BYTES], reply[HEAD_REPLY_BYTES];
+static uint32_t pointers[HEAD_POINTERS];
+
+#define EEPROM 65536
+#define STATUS 65664
+#define COUNT (STATUS + 0x0A)
+#define UNLOCK (STATUS + 0x1A)
+
+/* Cue lists: P7, with the output that document 01 gives; one that is refused with 24 at 1; one register read three times. */
+static const uint8_t p7[] = { 'W', 'R', 2, 0, 0x20, 0, 0x20, 0, 0, 0, 'W', 'R', 2, 0, 0x22, 0, 0xA8, 0xC0, 0, 0 };
+static const uint8_t p7_output[] = { 'L', 'B', 14, 0, 1, 0xD9, 0x1A, 0, 2, 0x5A, 0x82, 0xC9, 0x20, 0, 0x20, 0, 0xA8, 0xC0 };
+static const uint8_t too_wide[] = { 'R', 'D', 0, 0, 0, 0, 'W', 'R', 2, 0, 0x20, 0, 0, 0, 1, 0 };
+static const uint8_t same_cell[] = { 'R', 'D', 0, 0, 0, 0x10, 'R', 'D', 0, 0, 0, 0x10, 'R', 'D', 0, 0, 0, 0x10 };
+
+/* The packet of README, "A packet, byte by byte": whole, and without the unlock. */
+#define UNLOCKED (p7_output + 4), sizeof p7_output - 4
+#define LOCKED (p7_output + 10), sizeof p7_output - 10
+
+static void packets(void)
+{
+    static const uint8_t read_back[] = { 0x82, 0x49, 0x20, 0, 1, 0x59, 0x0A, 0 };
+    static const uint8_t values[] = { 0x20, 0, 0xA8, 0xC0, 1, 0 };
+    static const uint8_t zeros[HEAD_REPLY_BYTES] = { 0 };
+    static const uint32_t moved[HEAD_POINTERS] = { 0, 0x24, 0x1A, 0, 0, 0, 0, 0 };
+    static const uint32_t unmoved[HEAD_POINTERS] = { 0 };
+    uint64_t value = 99, elements = 99;
+
+    IS(head_check(LOCKED, store, sizeof store, pointers, HEAD_POINTERS, &value), 10);
+    IS(value, 0);
+    IS(head_run(LOCKED, store, sizeof store, pointers, HEAD_POINTERS, reply, sizeof reply, &value, &elements), 10);
+    IS(value, 0);
+    IS(elements, 0);
+    SAME(store, before, sizeof store);
+    SAME(pointers, unmoved, sizeof pointers);
+
+    IS(head_check(UNLOCKED, store, sizeof store, pointers, HEAD_POINTERS, &value), 0);
+    IS(value, 0);
+    SAME(store, before, sizeof store);
+    IS(head_run(UNLOCKED, store, sizeof store, pointers, HEAD_POINTERS, reply, sizeof reply, &value, &elements), 0);
+    IS(value, 0);
+    IS(elements, 3);
+    memcpy(before + EEPROM + 0x20, values, 4);
+    before[COUNT] = 1;
+    SAME(store, before, sizeof store);
+    SAME(pointers, moved, sizeof pointers);
+
+    IS(head_run(read_back, sizeof read_back, store, sizeof store, pointers, HEAD_POINTERS, reply, sizeof reply, &value, &elements), 0);
+    IS(value, 6);
+    IS(elements, 3);
+    SAME(reply, values, 6);
+    SAME(reply + 6, zeros, sizeof reply - 6);
+    before[COUNT] = 2;
+    SAME(store, before, sizeof store);
+
+    IS(head_run(LOCKED, store, sizeof store - 1, pointers, HEAD_POINTERS, reply, sizeof reply, &value, &elements), 1);
+    IS(head_run(LOCKED, store, sizeof store, pointers, HEAD_POINTERS - 1, reply, sizeof reply, &value, &elements), 1);
+    IS(head_check(zeros, sizeof zeros, store, sizeof store, pointers, HEAD_POINTERS, &value), 6);
+    IS(head_check(store, HEAD_REPLY_BYTES + 1, before, sizeof before, pointers, HEAD_POINTERS, &value), 2);
+}
+
+static void reasons(void)
+{
+    /* Document 01: the last cell, and then the next by the pointer. */
+    static const uint8_t past[] = { 0x81, 0x42, 0xFC, 0xFF, 0x81, 0x02 };
+    static const uint8_t past_fields[HEAD_FIELDS] = { 0, 0, 0, 0, 2, 1, 1 };
+    static const uint8_t none[HEAD_FIELDS] = { 0 };
+    uint8_t fields[HEAD_FIELDS] = { 9, 9, 9, 9, 9, 9, 9 };
+    uint64_t place = 99, index = 99;
+
+    IS(head_why(past, sizeof past, store, sizeof store, pointers, HEAD_POINTERS, &place, &index, fields, HEAD_FIELDS), 8);
+    IS(place, 4);
+    IS(index, 1);
+    SAME(fields, past_fields, HEAD_FIELDS);
+    IS(head_why(past, 4, store, sizeof store, pointers, HEAD_POINTERS, &place, &index, fields, HEAD_FIELDS), 0);
+    IS(place, 0);
+    IS(index, 0);
+    SAME(fields, none, HEAD_FIELDS);
+    IS(head_why(past, sizeof past, store, sizeof store, pointers, HEAD_POINTERS, &place, &index, fields, HEAD_FIELDS - 1), 13);
+}
+
+static void words(void)
+{
+    /* P1: read, address, space 0, 4 bytes, increment, 5. */
+    static const uint8_t p1[HEAD_FIELDS] = { 0, 1, 0, 0, 2, 1, 5 };
+    static const uint8_t too_many[HEAD_FIELDS] = { 0, 1, 0, 0, 2, 1, 128 };
+    uint8_t fields[HEAD_FIELDS] = { 0 };
+    uint16_t word = 7;
+
+    IS(head_fields(0x4285, fields, HEAD_FIELDS), 0);
+    SAME(fields, p1, HEAD_FIELDS);
+    IS(head_fields(0xFFFF, fields, HEAD_FIELDS - 1), 13);
+    SAME(fields, p1, HEAD_FIELDS);
+    IS(head_word(too_many, HEAD_FIELDS, &word), 13);
+    IS(word, 7);
+    IS(head_word(p1, HEAD_FIELDS, &word), 0);
+    IS(word, 0x4285);
+}
+
+static void bursts(void)
+{
+    /* P5's and P6's words with other counts, and a header alone. */
+    static const uint32_t sent[] = { 0x1000B820, 0x11223344, 0x55667788 };
+    static const uint32_t asked[] = { 0x1000A820, 0, 0 };
+    static const uint32_t read[] = { 0, 0x11223344, 0x55667788 };
+    static const uint32_t nothing[] = { 0, 0, 0 };
+    static const uint8_t cells[] = { 0x44, 0x33, 0x22, 0x11, 0x88, 0x77, 0x66, 0x55 };
+    static const uint32_t past[] = { 0xFFFCA820, 0 };
+    uint32_t answer[] = { 9, 9, 9 };
+    uint64_t value = 99;
+
+    IS(head_spi(sent, 3, store, sizeof store, answer, 3, &value), 0);
+    IS(value, 2);
+    SAME(answer, nothing, sizeof nothing);
+    memcpy(before + 0x1000, cells, sizeof cells);
+    SAME(store, before, sizeof store);
+    IS(head_spi(asked, 3, store, sizeof store, answer, 3, &value), 0);
+    IS(value, 2);
+    SAME(answer, read, sizeof read);
+    IS(head_spi(asked, 1, store, sizeof store, answer, 1, &value), 0);
+    IS(value, 0);
+    IS(head_spi(past, 2, store, sizeof store, answer, 2, &value), 35);
+    IS(head_spi(past, 2, store, sizeof store, answer, 3, &value), 1);
+    IS(head_spi(sent, 0, store, sizeof store, answer, 0, &value), 31);
+    IS(value, 0);
+    SAME(store, before, sizeof store);
+}
+
+static void lists(void)
+{
+    static const uint8_t one_command[] = { 'L', 'B', 4, 0, 3, 0x42, 0, 0x10 };
+    uint8_t out[64];
+    uint64_t bytes = 99, packets = 99, value = 99;
+
+    memset(out, 0xEE, sizeof out);
+    IS(head_compile(p7, sizeof p7, out, sizeof p7_output - 1, &bytes, &packets), 26);
+    IS(bytes, sizeof p7_output);
+    IS(packets, 0);
+    IS(out[0], 0xEE);
+    IS(head_compile(p7, sizeof p7, out, sizeof out, &bytes, &packets), 0);
+    IS(bytes, sizeof p7_output);
+    IS(packets, 1);
+    SAME(out, p7_output, sizeof p7_output);
+    IS(out[sizeof p7_output], 0xEE);
+    IS(head_compile(too_wide, sizeof too_wide, out, sizeof out, &bytes, &packets), 24);
+    IS(bytes, 1);
+    IS(head_compile(p7, 0, out, sizeof out, &bytes, &packets), 0);
+    IS(bytes, 0);
+    IS(packets, 0);
+
+    IS(head_tighten(same_cell, sizeof same_cell, out, sizeof out, &bytes, &packets), 0);
+    IS(bytes, sizeof one_command);
+    IS(packets, 1);
+    SAME(out, one_command, sizeof one_command);
+    IS(head_tighten(too_wide, sizeof too_wide, out, sizeof out, &bytes, &packets), 24);
+    IS(bytes, 1);
+
+    IS(head_tight_check(same_cell, sizeof same_cell, one_command, sizeof one_command, &value), 0);
+    IS(value, 1);
+    IS(head_tight_check(p7, sizeof p7, p7_output, sizeof p7_output, &value), 0);
+    IS(head_tight_check(p7, sizeof p7, one_command, sizeof one_command, &value), 50);
+    IS(value, 0);
+    IS(head_tight_check(too_wide, sizeof too_wide, p7_output, sizeof p7_output, &value), 24);
+    IS(value, 1);
+}
+
+static void damaged(void)
+{
+    uint8_t list[3 + sizeof p7], out[sizeof list];
+    uint64_t log[] = { 99, 99, 99, 99 }, bytes = 99, entries = 99;
+
+    memcpy(list, p7, 10);
+    memset(list + 10, 0xFF, 3);
+    memcpy(list + 13, p7 + 10, 10);
+    memset(out, 0xEE, sizeof out);
+    IS(head_salvage(list, sizeof list, out, sizeof out - 1, log, 4, &bytes, &entries), 26);
+    IS(bytes, sizeof list);
+    IS(head_salvage(list, sizeof list, out, sizeof out, log, 1, &bytes, &entries), 27);
+    IS(bytes, 1);
+    IS(entries, 0);
+    IS(head_salvage(list, sizeof list, out, sizeof out, log, 4, &bytes, &entries), 0);
+    IS(bytes, sizeof p7);
+    IS(entries, 1);
+    SAME(out, p7, sizeof p7);
+    IS(out[sizeof p7], 0xEE);
+    IS(log[0], 10);
+    IS(log[1], 3);
+    IS(log[2], 99);
+}
+
+static void in_parts(void)
+{
+    static uint8_t state[HEAD_PART_BYTES];
+    uint8_t out[HEAD_PART_ROOM];
+    uint64_t taken = 99, value = 99;
+
+    memset(out, 0xEE, sizeof out);
+    IS(head_part(state, sizeof state, p7, 13, 0, out, sizeof out - 1, &taken, &value), 26);
+    IS(value, HEAD_PART_ROOM);
+    IS(taken, 0);
+    IS(head_part(state, sizeof state, p7, 13, 0, out, sizeof out, &taken, &value), 0);
+    IS(taken, 13);
+    IS(value, 0);
+    IS(head_part(state, sizeof state, p7 + 13, sizeof p7 - 13, 1, out, sizeof out, &taken, &value), 0);
+    IS(taken, sizeof p7 - 13);
+    IS(value, sizeof p7_output);
+    SAME(out, p7_output, sizeof p7_output);
+    IS(out[sizeof p7_output], 0xEE);
+    IS(head_part(state, sizeof state, p7, 0, 1, out, sizeof out, &taken, &value), 0);
+    IS(value, 0);
+
+    memset(state, 0, sizeof state);
+    IS(head_part(state, sizeof state, too_wide, sizeof too_wide, 1, out, sizeof out, &taken, &value), 24);
+    IS(value, 1);
+    IS(taken, sizeof too_wide);
+    IS(head_part(state, sizeof state, p7, sizeof p7, 1, out, sizeof out, &taken, &value), 24);
+    IS(taken, 0);
+}
+
+static void two_lists(void)
+{
+    uint64_t list = 99, place = 99;
+
+    IS(head_independent(p7, sizeof p7, same_cell, sizeof same_cell, &list, &place), 0);
+    IS(list, 0);
+    IS(place, 0);
+    IS(head_independent(p7, 10, p7, sizeof p7, &list, &place), 51);
+    IS(place, 0);
+    IS(head_independent(p7 + 10, 10, p7, sizeof p7, &list, &place), 51);
+    IS(list, 1);
+    IS(place, 1);
+    IS(head_independent(p7, sizeof p7, too_wide, sizeof too_wide, &list, &place), 24);
+    IS(list, 1);
+    IS(place, 1);
+}
+
+static void recordings(void)
+{
+    /* P7's packet and its empty reply; then both cells read, the second wrong in its high byte. */
+    uint8_t show[sizeof p7_output + 4 + 8 + 8];
+    static const uint8_t rest[] = { 'L', 'B', 0, 0, 'L', 'B', 4, 0, 0x82, 0x49, 0x20, 0, 'L', 'B', 4, 0, 0x20, 0, 0xA8, 0xC1 };
+    uint64_t index = 99, place = 99;
+
+    memcpy(show, p7_output, sizeof p7_output);
+    memcpy(show + sizeof p7_output, rest, sizeof rest);
+    memset(store, 0, sizeof store);
+    memset(pointers, 0, sizeof pointers);
+    IS(head_judge(show, sizeof show, store, sizeof store, pointers, HEAD_POINTERS, &index, &place), 63);
+    IS(index, 1);
+    IS(place, 3);
+    IS(store[COUNT], 2);
+    show[sizeof show - 1] = 0xC0;
+    IS(head_judge(show, sizeof show, store, sizeof store, pointers, HEAD_POINTERS, &index, &place), 0);
+    IS(index, 2);
+    IS(place, 0);
+    IS(head_judge(show, sizeof show - 1, store, sizeof store, pointers, HEAD_POINTERS, &index, &place), 64);
+    IS(index, 3);
+    IS(head_judge(show, sizeof show, store, sizeof store, pointers, HEAD_POINTERS - 1, &index, &place), 1);
+    IS(store[UNLOCK], 0);
+}
+
+static void daughter_cards(void)
+{
+    /* A table at 0: a signed input of 12 bits, and an unsigned output of 8 from 0 to 100. */
+    static const uint8_t memory[] = {
+        6, 0, 23, 0, 0, 0,
+        0xA0, 12, 3, 0x00, 0, 0, 0x80, 0xBF, 0, 0, 0x80, 0x3F, 0, 0, 0, 'T', 0,
+        0xA0, 8, 2, 0x80, 0, 0, 0, 0, 0, 0, 0xC8, 0x42, 0, 0, '%', 0, 'L', 0
+    };
+    static const uint32_t lamp[HEAD_FIELD_WORDS] = { 8, 2, 0x80, 0, 0x42C80000, 37, 39 };
+    static const uint64_t tilt[] = { UINT64_MAX };
+    static const uint64_t too_large[] = { 2048 };
+    uint32_t registers[HEAD_REGISTERS], field[HEAD_FIELD_WORDS] = { 0 };
+    uint64_t inputs = 99, outputs = 99, value[] = { 99 };
+
+    memset(registers, 0xFF, sizeof registers);
+    IS(head_table(memory, sizeof memory, 0, &inputs, &outputs), 0);
+    IS(inputs, 1);
+    IS(outputs, 1);
+    IS(head_table(memory, sizeof memory - 1, 0, &inputs, &outputs), 41);
+    IS(inputs, 0);
+    IS(head_field(memory, sizeof memory, 0, 1, field, HEAD_FIELD_WORDS), 0);
+    SAME(field, lamp, sizeof lamp);
+    IS(head_field(memory, sizeof memory, 0, 2, field, HEAD_FIELD_WORDS), 40);
+    SAME(field, lamp, sizeof lamp);
+
+    IS(head_pack(memory, sizeof memory, 0, 0, 7, too_large, 1, registers, HEAD_REGISTERS), 40);
+    IS(registers[21], 0xFFFFFFFF);
+    IS(head_pack(memory, sizeof memory, 0, 0, 7, tilt, 1, registers, HEAD_REGISTERS), 0);
+    IS(registers[20], 0xFFFFFFFF);
+    IS(registers[21], 0xFFF);
+    IS(registers[22], 0);
+    IS(registers[23], 0);
+    IS(head_unpack(memory, sizeof memory, 0, 0, 7, registers, HEAD_REGISTERS, value, 1), 0);
+    IS(value[0], UINT64_MAX);
+    IS(head_unpack(memory, sizeof memory, 0, 1, 0, registers, HEAD_REGISTERS, value, 1), 0);
+    IS(value[0], 255);
+    IS(head_unpack(memory, sizeof memory, 0, 0, 8, registers, HEAD_REGISTERS, value, 1), 40);
+    IS(value[0], 255);
+}
+
+static void lamp_panel(void)
+{
+    uint8_t mask = 9, asked = 9, failed = 9, lowest = 9;
+    uint32_t bits = 9;
+
+    IS(head_panel_start(0x14, 0x06, &mask), 43);
+    IS(mask, 9);
+    IS(head_panel_start(0x14, 0x16, &mask), 0);
+    IS(mask, 0x14);
+    head_panel_report(0x34, 0x33, &asked, &failed, &lowest);
+    IS(asked, 3);
+    IS(failed, 2);
+    IS(lowest, 4);
+    head_panel_report(0x34, 0x03, &asked, &failed, &lowest);
+    IS(failed, 0);
+    IS(lowest, 8);
+
+    /* 255 times 100 by 255 is 100. */
+    IS(head_panel_reading(2, 8, 255, 0, 0x42C80000, &bits), 0);
+    IS(bits, 0x42C80000);
+    IS(head_panel_reading(4, 8, 255, 0, 0x42C80000, &bits), 44);
+    IS(head_panel_reading(2, 8, 255, 0x42C80000, 0x42C80000, &bits), 45);
+    IS(head_panel_reading(2, 8, 255, 0, 0x7F7FFFFF, &bits), 46);
+    IS(bits, 0x42C80000);
+}
+
+int main(void)
+{
+    packets();
+    reasons();
+    words();
+    bursts();
+    lists();
+    damaged();
+    in_parts();
+    two_lists();
+    recordings();
+    daughter_cards();
+    lamp_panel();
+    printf("%lu answers, %lu wrong\n", checked, wrong);
+    return wrong != 0;
+}
