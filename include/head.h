@@ -19,7 +19,8 @@
  *   - head_judge gives 1, then the first fault in the recording.
  *
  * What a caller owes:
- *   - A buffer is given as a pointer and then its number of elements (bytes, or numbers of 32 or of 64 bits).
+ *   - A buffer is given as a pointer and then its number of elements (bytes, or numbers of 32 or of 64 bits). This number has
+ *     64 bits on every machine, since the proved code counts with 64 bits.
  *   - No pointer may be null, not even that of a buffer with a length of 0.
  *   - Pointers are aligned for their type, and all that is lent holds a value, also what is only written: clear
  *     all rooms and all that takes an answer before the first call.
@@ -32,7 +33,6 @@
 #ifndef HEAD_H
 #define HEAD_H
 
-#include <stddef.h>
 #include <stdint.h>
 
 #ifdef __cplusplus
@@ -64,9 +64,9 @@ extern "C" {
  *
  * Returns 0 if the packet would be run, else the number of the refusal: 1 (of store and pointers) to 12, as below.
  */
-uint32_t head_check(const uint8_t *packet, size_t packet_length,
-                    const uint8_t *store, size_t store_length,
-                    const uint32_t *pointers, size_t pointers_length,
+uint32_t head_check(const uint8_t *packet, uint64_t packet_length,
+                    const uint8_t *store, uint64_t store_length,
+                    const uint32_t *pointers, uint64_t pointers_length,
                     uint64_t *value);
 
 /* Runs one packet on the store. The whole packet is checked, as head_check does, before anything is done, on the state
@@ -100,10 +100,10 @@ uint32_t head_check(const uint8_t *packet, size_t packet_length,
  *   11  write data cut off
  *   12  the reply would pass 1,472 bytes
  */
-uint32_t head_run(const uint8_t *packet, size_t packet_length,
-                  uint8_t *store, size_t store_length,
-                  uint32_t *pointers, size_t pointers_length,
-                  uint8_t *reply, size_t reply_length,
+uint32_t head_run(const uint8_t *packet, uint64_t packet_length,
+                  uint8_t *store, uint64_t store_length,
+                  uint32_t *pointers, uint64_t pointers_length,
+                  uint8_t *reply, uint64_t reply_length,
                   uint64_t *value, uint64_t *elements);
 
 /* Runs one SPI burst on space 0 of the store. The whole burst is checked before anything is done.
@@ -124,9 +124,9 @@ uint32_t head_run(const uint8_t *packet, size_t packet_length,
  *   34  more words than 1 plus the count
  *   35  address not a multiple of 4, or a cell that the header counts past the end of space 0, whether its word came or not
  */
-uint32_t head_spi(const uint32_t *words, size_t words_length,
-                  uint8_t *store, size_t store_length,
-                  uint32_t *answer, size_t answer_length,
+uint32_t head_spi(const uint32_t *words, uint64_t words_length,
+                  uint8_t *store, uint64_t store_length,
+                  uint32_t *answer, uint64_t answer_length,
                   uint64_t *value);
 
 /* Reads a command word (in a packet its low byte comes first) into its fields.
@@ -138,14 +138,14 @@ uint32_t head_spi(const uint32_t *words, size_t words_length,
  *
  *   13  fields_length is not 7; nothing is written
  */
-uint32_t head_fields(uint16_t word, uint8_t *fields, size_t fields_length);
+uint32_t head_fields(uint16_t word, uint8_t *fields, uint64_t fields_length);
 
 /* Writes fields, the same 7 bytes, into a command word.
  *
  *   13  fields_length is not 7, or write, address, info or increment above 1, space above 7, size above 3 or count
  *       above 127; *word keeps its value
  */
-uint32_t head_word(const uint8_t *fields, size_t fields_length, uint16_t *word);
+uint32_t head_word(const uint8_t *fields, uint64_t fields_length, uint16_t *word);
 
 /* Reads the header of an SPI burst, as head_spi describes it, into its fields.
  *
@@ -188,11 +188,11 @@ uint32_t head_header_word(const uint32_t *fields, uint64_t fields_length, uint32
  *       same store and pointers.
  *   13  fields_length is not 7; place and index are 0 and nothing else is written. This comes before 1.
  */
-uint32_t head_why(const uint8_t *packet, size_t packet_length,
-                  const uint8_t *store, size_t store_length,
-                  const uint32_t *pointers, size_t pointers_length,
+uint32_t head_why(const uint8_t *packet, uint64_t packet_length,
+                  const uint8_t *store, uint64_t store_length,
+                  const uint32_t *pointers, uint64_t pointers_length,
                   uint64_t *place, uint64_t *index,
-                  uint8_t *fields, size_t fields_length);
+                  uint8_t *fields, uint64_t fields_length);
 
 /* Compiles a cue list into packets. The whole list is checked, and the output counted, before a byte is written.
  *
@@ -216,8 +216,8 @@ uint32_t head_why(const uint8_t *packet, size_t packet_length,
  *   24  spare byte not 0, or upper half of a value not 0 in a space of 2-byte elements
  *   26  list good, out_length below the bytes needed
  */
-uint32_t head_compile(const uint8_t *list, size_t list_length,
-                      uint8_t *out, size_t out_length,
+uint32_t head_compile(const uint8_t *list, uint64_t list_length,
+                      uint8_t *out, uint64_t out_length,
                       uint64_t *bytes, uint64_t *packets);
 
 /* Compiles a cue list into fewer bytes where it can. Parameters, records, refusals and their places are head_compile's, 26 with
@@ -236,8 +236,8 @@ uint32_t head_compile(const uint8_t *list, size_t list_length,
  *
  *   21 to 24 and 26  as head_compile
  */
-uint32_t head_tighten(const uint8_t *list, size_t list_length,
-                      uint8_t *out, size_t out_length,
+uint32_t head_tighten(const uint8_t *list, uint64_t list_length,
+                      uint8_t *out, uint64_t out_length,
                       uint64_t *bytes, uint64_t *packets);
 
 /* Says whether an output, from wherever it comes, may be sent for a cue list instead of head_compile's. Nothing is changed but
@@ -259,8 +259,8 @@ uint32_t head_tighten(const uint8_t *list, size_t list_length,
  *   21 to 24  as head_compile refuses the list, whatever the output is
  *   50        list good, output rejected
  */
-uint32_t head_tight_check(const uint8_t *list, size_t list_length,
-                          const uint8_t *output, size_t output_length,
+uint32_t head_tight_check(const uint8_t *list, uint64_t list_length,
+                          const uint8_t *output, uint64_t output_length,
                           uint64_t *value);
 
 /* Saves what can be saved of a damaged cue list. Both rooms are held against what is needed before a byte is written.
@@ -283,9 +283,9 @@ uint32_t head_tight_check(const uint8_t *list, size_t list_length,
  *   26  out_length below list_length, which is the place
  *   27  room enough in out, and log for fewer entries than needed; their number is the place
  */
-uint32_t head_salvage(const uint8_t *list, size_t list_length,
-                      uint8_t *out, size_t out_length,
-                      uint64_t *log, size_t log_length,
+uint32_t head_salvage(const uint8_t *list, uint64_t list_length,
+                      uint8_t *out, uint64_t out_length,
+                      uint64_t *log, uint64_t log_length,
                       uint64_t *bytes, uint64_t *entries);
 
 /* Daughter cards: serial cards whose memory holds a process table, which describes the card's fields.
@@ -313,7 +313,7 @@ uint32_t head_salvage(const uint8_t *list, size_t list_length,
  *
  *   inputs, outputs  take the number of fields each way, both 0 if refused; a field of both directions counts in both
  */
-uint32_t head_table(const uint8_t *memory, size_t memory_length, uint16_t table,
+uint32_t head_table(const uint8_t *memory, uint64_t memory_length, uint16_t table,
                     uint64_t *inputs, uint64_t *outputs);
 
 /* One field of the table.
@@ -324,8 +324,8 @@ uint32_t head_table(const uint8_t *memory, size_t memory_length, uint16_t table,
  *
  *   40  index past the last field, or field_length is not 7; nothing is written
  */
-uint32_t head_field(const uint8_t *memory, size_t memory_length, uint16_t table, uint64_t index,
-                    uint32_t *field, size_t field_length);
+uint32_t head_field(const uint8_t *memory, uint64_t memory_length, uint16_t table, uint64_t index,
+                    uint32_t *field, uint64_t field_length);
 
 /* Packs the values of one direction into the registers of one channel.
  *
@@ -339,9 +339,9 @@ uint32_t head_field(const uint8_t *memory, size_t memory_length, uint16_t table,
  *   40  direction above 1, channel above 7, registers_length not 24, values_length not the number of fields, or a value
  *       that does not fit its field; nothing is written
  */
-uint32_t head_pack(const uint8_t *memory, size_t memory_length, uint16_t table, uint32_t direction, uint32_t channel,
-                   const uint64_t *values, size_t values_length,
-                   uint32_t *registers, size_t registers_length);
+uint32_t head_pack(const uint8_t *memory, uint64_t memory_length, uint16_t table, uint32_t direction, uint32_t channel,
+                   const uint64_t *values, uint64_t values_length,
+                   uint32_t *registers, uint64_t registers_length);
 
 /* Unpacks the values of one direction from the registers of one channel, the other way round.
  *
@@ -350,9 +350,9 @@ uint32_t head_pack(const uint8_t *memory, size_t memory_length, uint16_t table, 
  *   40  direction above 1, channel above 7, registers_length not 24, or values_length not the number of fields; nothing is
  *       written
  */
-uint32_t head_unpack(const uint8_t *memory, size_t memory_length, uint16_t table, uint32_t direction, uint32_t channel,
-                     const uint32_t *registers, size_t registers_length,
-                     uint64_t *values, size_t values_length);
+uint32_t head_unpack(const uint8_t *memory, uint64_t memory_length, uint16_t table, uint32_t direction, uint32_t channel,
+                     const uint32_t *registers, uint64_t registers_length,
+                     uint64_t *values, uint64_t values_length);
 
 /* The lamp panel: starts exchanges for the channels in asked, where bit c of a mask stands for channel c.
  *
@@ -419,10 +419,10 @@ uint32_t head_panel_reading(uint32_t type, uint32_t width, uint64_t value,
  */
 #define HEAD_PART_BYTES 1504
 #define HEAD_PART_ROOM 1476
-uint32_t head_part(uint8_t *state, size_t state_length,
-                   const uint8_t *part, size_t part_length,
+uint32_t head_part(uint8_t *state, uint64_t state_length,
+                   const uint8_t *part, uint64_t part_length,
                    uint32_t last,
-                   uint8_t *out, size_t out_length,
+                   uint8_t *out, uint64_t out_length,
                    uint64_t *taken, uint64_t *value);
 
 /* Says whether two cue lists may be compiled apart and run in either order.
@@ -443,8 +443,8 @@ uint32_t head_part(uint8_t *state, size_t state_length,
  *   51        the second list's record at place writes a cell which the first names, or names a cell which the first writes; it
  *             is the first such record
  */
-uint32_t head_independent(const uint8_t *first, size_t first_length,
-                          const uint8_t *second, size_t second_length,
+uint32_t head_independent(const uint8_t *first, uint64_t first_length,
+                          const uint8_t *second, uint64_t second_length,
                           uint64_t *list, uint64_t *place);
 
 /* Judges a recorded show: packets and replies in turn, each behind the mark "LB" (4C 42) and its length, 2 bytes, low byte
@@ -470,9 +470,9 @@ uint32_t head_independent(const uint8_t *first, size_t first_length,
  * Store and pointers are left as the packets accepted so far leave them, also where a reply is then at fault. 1 is asked
  * before all else.
  */
-uint32_t head_judge(const uint8_t *show, size_t show_length,
-                    uint8_t *store, size_t store_length,
-                    uint32_t *pointers, size_t pointers_length,
+uint32_t head_judge(const uint8_t *show, uint64_t show_length,
+                    uint8_t *store, uint64_t store_length,
+                    uint32_t *pointers, uint64_t pointers_length,
                     uint64_t *index, uint64_t *place);
 
 #ifdef __cplusplus

@@ -47,9 +47,9 @@ pub mod exports {
         let number = unsafe {
             head_independent(
                 first.as_ptr(),
-                first.len(),
+                first.len() as u64,
                 second.as_ptr(),
-                second.len(),
+                second.len() as u64,
                 &mut list,
                 &mut place,
             )
@@ -60,9 +60,9 @@ pub mod exports {
     extern "C" {
         fn head_independent(
             first: *const u8,
-            first_len: usize,
+            first_len: u64,
             second: *const u8,
-            second_len: usize,
+            second_len: u64,
             list: *mut u64,
             place: *mut u64,
         ) -> u32;

@@ -242,11 +242,11 @@ pub mod exports {
         let number = unsafe {
             c::head_check(
                 packet.as_ptr(),
-                packet.len(),
+                packet.len() as u64,
                 store.as_ptr(),
-                store.len(),
+                store.len() as u64,
                 pointers.as_ptr(),
-                pointers.len(),
+                pointers.len() as u64,
                 &mut value,
             )
         };
@@ -268,13 +268,13 @@ pub mod exports {
         let number = unsafe {
             c::head_run(
                 packet.as_ptr(),
-                packet.len(),
+                packet.len() as u64,
                 store.as_mut_ptr(),
-                store.len(),
+                store.len() as u64,
                 pointers.as_mut_ptr(),
-                pointers.len(),
+                pointers.len() as u64,
                 reply.as_mut_ptr(),
-                reply.len(),
+                reply.len() as u64,
                 &mut value,
                 &mut elements,
             )
@@ -290,11 +290,11 @@ pub mod exports {
         let number = unsafe {
             c::head_spi(
                 words.as_ptr(),
-                words.len(),
+                words.len() as u64,
                 store.as_mut_ptr(),
-                store.len(),
+                store.len() as u64,
                 answer.as_mut_ptr(),
-                answer.len(),
+                answer.len() as u64,
                 &mut value,
             )
         };
@@ -310,9 +310,9 @@ pub mod exports {
         let number = unsafe {
             c::head_compile(
                 list.as_ptr(),
-                list.len(),
+                list.len() as u64,
                 out.as_mut_ptr(),
-                out.len(),
+                out.len() as u64,
                 &mut bytes,
                 &mut packets,
             )
@@ -324,13 +324,13 @@ pub mod exports {
     /// length is refused with 13 and left alone.
     pub fn fields(word: u16, fields: &mut [u8]) -> u32 {
         // SAFETY: as in `check`.
-        unsafe { c::head_fields(word, fields.as_mut_ptr(), fields.len()) }
+        unsafe { c::head_fields(word, fields.as_mut_ptr(), fields.len() as u64) }
     }
 
     /// Puts the word of these 7 bytes together. Where that is refused, `word` is left alone.
     pub fn word(fields: &[u8], word: &mut u16) -> u32 {
         // SAFETY: as in `check`.
-        unsafe { c::head_word(fields.as_ptr(), fields.len(), word) }
+        unsafe { c::head_word(fields.as_ptr(), fields.len() as u64, word) }
     }
 }
 
@@ -339,48 +339,48 @@ mod c {
     extern "C" {
         pub fn head_check(
             packet: *const u8,
-            packet_len: usize,
+            packet_len: u64,
             store: *const u8,
-            store_len: usize,
+            store_len: u64,
             pointers: *const u32,
-            pointers_len: usize,
+            pointers_len: u64,
             value: *mut u64,
         ) -> u32;
 
         pub fn head_run(
             packet: *const u8,
-            packet_len: usize,
+            packet_len: u64,
             store: *mut u8,
-            store_len: usize,
+            store_len: u64,
             pointers: *mut u32,
-            pointers_len: usize,
+            pointers_len: u64,
             reply: *mut u8,
-            reply_len: usize,
+            reply_len: u64,
             value: *mut u64,
             elements: *mut u64,
         ) -> u32;
 
         pub fn head_spi(
             words: *const u32,
-            words_len: usize,
+            words_len: u64,
             store: *mut u8,
-            store_len: usize,
+            store_len: u64,
             answer: *mut u32,
-            answer_len: usize,
+            answer_len: u64,
             value: *mut u64,
         ) -> u32;
 
         pub fn head_compile(
             list: *const u8,
-            list_len: usize,
+            list_len: u64,
             out: *mut u8,
-            out_len: usize,
+            out_len: u64,
             bytes: *mut u64,
             packets: *mut u64,
         ) -> u32;
 
-        pub fn head_fields(word: u16, fields: *mut u8, fields_len: usize) -> u32;
+        pub fn head_fields(word: u16, fields: *mut u8, fields_len: u64) -> u32;
 
-        pub fn head_word(fields: *const u8, fields_len: usize, word: *mut u16) -> u32;
+        pub fn head_word(fields: *const u8, fields_len: u64, word: *mut u16) -> u32;
     }
 }

@@ -103,12 +103,12 @@ pub mod exports {
         let number = unsafe {
             head_part(
                 state.as_mut_ptr(),
-                state.len(),
+                state.len() as u64,
                 part.as_ptr(),
-                part.len(),
+                part.len() as u64,
                 last,
                 out.as_mut_ptr(),
-                out.len(),
+                out.len() as u64,
                 &mut taken,
                 &mut value,
             )
@@ -119,12 +119,12 @@ pub mod exports {
     extern "C" {
         fn head_part(
             state: *mut u8,
-            state_len: usize,
+            state_len: u64,
             part: *const u8,
-            part_len: usize,
+            part_len: u64,
             last: u32,
             out: *mut u8,
-            out_len: usize,
+            out_len: u64,
             taken: *mut u64,
             value: *mut u64,
         ) -> u32;

@@ -58,11 +58,11 @@ pub mod exports {
         let number = unsafe {
             head_judge(
                 recording.as_ptr(),
-                recording.len(),
+                recording.len() as u64,
                 store.as_mut_ptr(),
-                store.len(),
+                store.len() as u64,
                 pointers.as_mut_ptr(),
-                pointers.len(),
+                pointers.len() as u64,
                 &mut index,
                 &mut place,
             )
@@ -73,11 +73,11 @@ pub mod exports {
     extern "C" {
         fn head_judge(
             recording: *const u8,
-            recording_len: usize,
+            recording_len: u64,
             store: *mut u8,
-            store_len: usize,
+            store_len: u64,
             pointers: *mut u32,
-            pointers_len: usize,
+            pointers_len: u64,
             index: *mut u64,
             place: *mut u64,
         ) -> u32;

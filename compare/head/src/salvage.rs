@@ -46,11 +46,11 @@ pub mod exports {
         let number = unsafe {
             head_salvage(
                 list.as_ptr(),
-                list.len(),
+                list.len() as u64,
                 out.as_mut_ptr(),
-                out.len(),
+                out.len() as u64,
                 log.as_mut_ptr(),
-                log.len(),
+                log.len() as u64,
                 &mut bytes,
                 &mut entries,
             )
@@ -61,11 +61,11 @@ pub mod exports {
     extern "C" {
         fn head_salvage(
             list: *const u8,
-            list_len: usize,
+            list_len: u64,
             out: *mut u8,
-            out_len: usize,
+            out_len: u64,
             log: *mut u64,
-            log_len: usize,
+            log_len: u64,
             bytes: *mut u64,
             entries: *mut u64,
         ) -> u32;

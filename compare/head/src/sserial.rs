@@ -117,7 +117,7 @@ pub mod exports {
         let number = unsafe {
             head_table(
                 memory.as_ptr(),
-                memory.len(),
+                memory.len() as u64,
                 table,
                 &mut inputs,
                 &mut outputs,
@@ -132,11 +132,11 @@ pub mod exports {
         unsafe {
             head_field(
                 memory.as_ptr(),
-                memory.len(),
+                memory.len() as u64,
                 table,
                 index,
                 field.as_mut_ptr(),
-                field.len(),
+                field.len() as u64,
             )
         }
     }
@@ -153,14 +153,14 @@ pub mod exports {
         unsafe {
             head_pack(
                 memory.as_ptr(),
-                memory.len(),
+                memory.len() as u64,
                 table,
                 direction,
                 channel,
                 values.as_ptr(),
-                values.len(),
+                values.len() as u64,
                 registers.as_mut_ptr(),
-                registers.len(),
+                registers.len() as u64,
             )
         }
     }
@@ -177,14 +177,14 @@ pub mod exports {
         unsafe {
             head_unpack(
                 memory.as_ptr(),
-                memory.len(),
+                memory.len() as u64,
                 table,
                 direction,
                 channel,
                 registers.as_ptr(),
-                registers.len(),
+                registers.len() as u64,
                 values.as_mut_ptr(),
-                values.len(),
+                values.len() as u64,
             )
         }
     }
@@ -192,7 +192,7 @@ pub mod exports {
     extern "C" {
         fn head_table(
             memory: *const u8,
-            memory_len: usize,
+            memory_len: u64,
             table: u16,
             inputs: *mut u64,
             outputs: *mut u64,
@@ -200,35 +200,35 @@ pub mod exports {
 
         fn head_field(
             memory: *const u8,
-            memory_len: usize,
+            memory_len: u64,
             table: u16,
             index: u64,
             field: *mut u32,
-            field_len: usize,
+            field_len: u64,
         ) -> u32;
 
         fn head_pack(
             memory: *const u8,
-            memory_len: usize,
+            memory_len: u64,
             table: u16,
             direction: u32,
             channel: u32,
             values: *const u64,
-            values_len: usize,
+            values_len: u64,
             registers: *mut u32,
-            registers_len: usize,
+            registers_len: u64,
         ) -> u32;
 
         fn head_unpack(
             memory: *const u8,
-            memory_len: usize,
+            memory_len: u64,
             table: u16,
             direction: u32,
             channel: u32,
             registers: *const u32,
-            registers_len: usize,
+            registers_len: u64,
             values: *mut u64,
-            values_len: usize,
+            values_len: u64,
         ) -> u32;
     }
 }

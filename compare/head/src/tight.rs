@@ -48,9 +48,9 @@ pub mod exports {
         let number = unsafe {
             head_tighten(
                 list.as_ptr(),
-                list.len(),
+                list.len() as u64,
                 out.as_mut_ptr(),
-                out.len(),
+                out.len() as u64,
                 &mut bytes,
                 &mut packets,
             )
@@ -65,9 +65,9 @@ pub mod exports {
         let number = unsafe {
             head_tight_check(
                 list.as_ptr(),
-                list.len(),
+                list.len() as u64,
                 output.as_ptr(),
-                output.len(),
+                output.len() as u64,
                 &mut value,
             )
         };
@@ -77,18 +77,18 @@ pub mod exports {
     extern "C" {
         fn head_tighten(
             list: *const u8,
-            list_len: usize,
+            list_len: u64,
             out: *mut u8,
-            out_len: usize,
+            out_len: u64,
             bytes: *mut u64,
             packets: *mut u64,
         ) -> u32;
 
         fn head_tight_check(
             list: *const u8,
-            list_len: usize,
+            list_len: u64,
             output: *const u8,
-            output_len: usize,
+            output_len: u64,
             value: *mut u64,
         ) -> u32;
     }

@@ -90,15 +90,15 @@ pub mod exports {
         let number = unsafe {
             head_why(
                 packet.as_ptr(),
-                packet.len(),
+                packet.len() as u64,
                 store.as_ptr(),
-                store.len(),
+                store.len() as u64,
                 pointers.as_ptr(),
-                pointers.len(),
+                pointers.len() as u64,
                 &mut place,
                 &mut index,
                 fields.as_mut_ptr(),
-                fields.len(),
+                fields.len() as u64,
             )
         };
         (number, place, index)
@@ -107,15 +107,15 @@ pub mod exports {
     extern "C" {
         fn head_why(
             packet: *const u8,
-            packet_len: usize,
+            packet_len: u64,
             store: *const u8,
-            store_len: usize,
+            store_len: u64,
             pointers: *const u32,
-            pointers_len: usize,
+            pointers_len: u64,
             place: *mut u64,
             index: *mut u64,
             fields: *mut u8,
-            fields_len: usize,
+            fields_len: u64,
         ) -> u32;
     }
 }
