@@ -13,11 +13,12 @@ use Rattle.packet.specs.Rules.{first}
 use Rattle.packet.specs.Command.{pickKind}
 use Rattle.packet.proofs.StepLaws.{carried-le}
 use Rattle.cue.specs.Records.{Listed, refused, records, recordsOf, recordsFrom, recordRefusals, recordStep, valueBytes}
-use Rattle.cue.specs.Records.{recordKind, recordSpace, recordBytes}
+use Rattle.cue.specs.Records.{recordKind, recordSpace, recordBytes, recordAt}
 use Rattle.cue.specs.Packing.{Command, Open, commandsOf, started, joinAll, packetBytes}
 use Rattle.cue.specs.Output.{outputOf}
-use Rattle.cue.specs.Inside.{recordAt, carriedBy, Progress, none, some, advance, finished, onward, outputBytes}
-use Rattle.cue.specs.Inside.{summary, Planned, planned, roomAfter, turnedBy, wrote, Placed, Ready}
+use Rattle.cue.specs.Inside.{advance, finished, onward, Planned, planned, roomAfter, Placed, Ready}
+use Rattle.cue.specs.Summary.{carriedBy, Progress, none, some, summary, turnedBy, wrote}
+use Rattle.cue.specs.Compile.{outputBytes}
 use Rattle.cue.specs.declared.packer.Packer.{Packer}
 use Rattle.cue.specs.declared.records.Record.{Record}
 use Rattle.cue.proofs.PacketLaws.{packet-bytes-append}

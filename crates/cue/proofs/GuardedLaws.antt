@@ -8,7 +8,9 @@ use lib.Dec.{ltb}
 use lib.ListN.{length, take, drop}
 use borrow.Author.Tests.{ltb-false, le-ltb}
 use Rattle.lbp16.proofs.BoolLaws.{or-false}
-use Rattle.cue.specs.Inside.{recordAt, carriedBy, turnedBy, wrote, Roomy, Placed}
+use Rattle.cue.specs.Inside.{Roomy, Placed}
+use Rattle.cue.specs.Summary.{carriedBy, turnedBy, wrote}
+use Rattle.cue.specs.Records.{recordAt}
 use Rattle.cue.specs.Guarded.{anyOf, looseTests, turnedWithin, outsideTests, putWithin}
 use Rattle.cue.specs.declared.records.Record.{Record}
 use Rattle.cue.specs.declared.packer.Packer.{Packer}

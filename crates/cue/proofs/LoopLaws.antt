@@ -4,19 +4,20 @@ use mathlib.Core.Path.{_≡_, refl, sym, ap, _∙_}
 use mathlib.Core.List.{List, [], _∷_, append-assoc}
 use mathlib.Core.Bool.{Bool, false}
 use native.Mathlib.Omega.{arith}
-use lib.ListN.{length, take, drop, length-append, length-take, length-drop}
+use lib.ListN.{length, take, drop, length-append, length-take, length-drop, length-map}
 use lib.Seq.{take-all}
 use Rattle.lbp16.specs.Answer.{Answer}
 use Rattle.packet.specs.Step.{Step}
 use Rattle.packet.specs.Rules.{first}
 use Rattle.packet.specs.Command.{pickKind}
 use Rattle.cue.specs.Records.{Listed, refused, records, recordsOf, recordsFrom, recordRefusals, recordStep}
-use Rattle.cue.specs.Records.{recordKind, recordBytes, withRecord, listedAt}
+use Rattle.cue.specs.Records.{recordKind, recordBytes, recordAt, withRecord, listedAt}
 use Rattle.cue.specs.Packing.{packFrom, packets}
 use Rattle.cue.specs.Output.{outputOf}
 use Rattle.cue.specs.declared.records.Record.{Record}
-use Rattle.cue.specs.Inside.{recordAt, Progress, none, some, advance, finished, onward, outputBytes, summary}
-use Rattle.cue.specs.Inside.{Planned, planned, planAnswer, turnedBy, Roomy}
+use Rattle.cue.specs.Compile.{packed, output, outputBytes, needed}
+use Rattle.cue.specs.Summary.{Progress, none, some, summary, turnedBy}
+use Rattle.cue.specs.Inside.{advance, finished, onward, Planned, planned, planAnswer, Roomy}
 use Rattle.cue.specs.declared.packer.Packer.{Packer}
 use Rattle.cue.proofs.PackingLaws.{record-bytes-le}
 use Rattle.cue.proofs.ReadingLaws.{Passing, passing}
@@ -153,11 +154,17 @@ unfolding summary finished
 packets-is none u = refl
 packets-is (some css o) u = rw length-append refl
 
+-- what the first pass comes to is what the list needs
+pub needs : (v : Listed) → planAnswer (planned none v) ≡ needed v
+unfolding planAnswer planned onward needed output packed outputBytes
+needs (refused n i) = refl
+needs (records xs) = rw length-map refl
+
 module _ (list rest : List ℕ) (index : ℕ) (s : Progress) (p : Packer) (h : Held list rest index s p) where
   pub plan-refused : (n : ℕ) → 0 < length rest → n ≡ first (recordRefusals index rest) → (n ≡ 0 → ⊥)
-      → Answer.refused n index ≡ planAnswer (planned none (recordsOf list))
+      → Answer.refused n index ≡ needed (recordsOf list)
   unfolding planAnswer
-  plan-refused n l e z = go (h .fuel) (h .enough) (h .same)
+  plan-refused n l e z = go (h .fuel) (h .enough) (h .same) ∙ needs (recordsOf list)
     where
       go : (k : ℕ) → length rest ≤ k → planned none (recordsOf list) ≡ planned s (recordsFrom k index rest)
           → Answer.refused n index ≡ planAnswer (planned none (recordsOf list))
@@ -168,10 +175,12 @@ module _ (list rest : List ℕ) (index : ℕ) (s : Progress) (p : Packer) (h : H
   pub at-end : length rest ≡ 0 → planned none (recordsOf list) ≡ Planned.packed (finished s)
   at-end l = h .same ∙ planned-end (h .fuel) index s rest l
 
-  pub plan-ended : length rest ≡ 0
-      → Answer.accepted (p .end ∷ p .packets ∷ []) ≡ planAnswer (planned none (recordsOf list))
+  pub plan-ended : length rest ≡ 0 → Answer.accepted (p .end ∷ p .packets ∷ []) ≡ needed (recordsOf list)
   unfolding planAnswer
-  plan-ended l = rw (at-end l, h .following .packer, end-is, packets-is) refl
+  plan-ended l =
+      let e : Answer.accepted (p .end ∷ p .packets ∷ []) ≡ planAnswer (planned none (recordsOf list)) =
+      rw (at-end l, h .following .packer, end-is, packets-is) refl in
+      e ∙ needs (recordsOf list)
 
 -- a turn of either loop, as the code makes it
 module _ (list rest : List ℕ) (index number n : ℕ) (s : Progress) (p : Packer) (r : Record) (h : Held list rest index s p)

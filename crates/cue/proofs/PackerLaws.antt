@@ -9,19 +9,20 @@ use lib.ListN.{length, length-append}
 use borrow.Author.Tests.{eqb-true, ltb-true, leb-true, lt-leb}
 use Rattle.lbp16.specs.Space.{Space, spaceOf, spaceNumber, isAbsent, row}
 use Rattle.lbp16.proofs.BoolLaws.{or-false, and-true}
-use Rattle.packet.specs.Step.{Kind, Step, isInfo, carried, answered, isWrite, isStatus, namesUnlock, replyBytes}
-use Rattle.packet.specs.Step.{turned, unlocked}
+use Rattle.packet.specs.Step.{Kind, Step, isInfo, carried, answered, isWrite, isStatus, namesUnlock, replyBytes, turned, unlocked}
 use Rattle.packet.specs.Bytes.{number}
 use Rattle.packet.specs.Rules.{misaligned, pastEnd, barred}
 use Rattle.packet.specs.Command.{limit, pickKind}
 use Rattle.packet.proofs.StepLaws.{unlocked-append, reply-append, carried-le, answered-le, pick-again}
-use Rattle.cue.specs.Records.{reserved, badElement}
+use Rattle.cue.specs.Records.{reserved, badElement, brief}
 use Rattle.cue.specs.Packing.{Command, joinAll, packetBytes, elementSteps, commandSteps, packetSteps}
 use Rattle.cue.specs.Packing.{unlockCommand, keepsLimits, Open, commandsOf, sameKind, joined, joins, needsUnlock}
 use Rattle.cue.specs.Packing.{started, turnBy, turn}
 use Rattle.cue.specs.Output.{outputOf}
-use Rattle.cue.specs.Inside.{brief, carriedBy, answeredBy, Progress, none, some, advance, outputBytes, summary, agrees, fits}
-use Rattle.cue.specs.Inside.{joinedWith, joinedBy, unlockFor, startedWith, startedBy, closedBy, turnedBy, Roomy}
+use Rattle.cue.specs.Inside.{advance, Roomy}
+use Rattle.cue.specs.Summary.{carriedBy, answeredBy, Progress, none, some, summary, agrees, fits}
+use Rattle.cue.specs.Compile.{outputBytes}
+use Rattle.cue.specs.Summary.{joinedWith, joinedBy, unlockFor, startedWith, startedBy, closedBy, turnedBy}
 use Rattle.lbp16.specs.declared.space.Row.{Row}
 use Rattle.cue.specs.declared.records.Record.{Record}
 use Rattle.cue.specs.declared.packer.Packer.{Packer}

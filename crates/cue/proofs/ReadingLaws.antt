@@ -17,8 +17,7 @@ use Rattle.packet.specs.Command.{pickKind}
 use Rattle.packet.proofs.StepLaws.{pick-plain, row-plain}
 use Rattle.packet.proofs.RuleLaws.{none-holds}
 use Rattle.cue.specs.Records.{recordStep, recordSpace, recordKind, recordBytes, recordRefusals, reserved, badElement, upperHalf}
-use Rattle.cue.specs.Records.{markAt, readMark, writeMark, valueBytes, mostRecords}
-use Rattle.cue.specs.Inside.{recordAt, brief}
+use Rattle.cue.specs.Records.{markAt, readMark, writeMark, valueBytes, mostRecords, recordAt, brief}
 use Rattle.cue.proofs.RecordLaws.{whole, step-bytes}
 
 -- what holds of the four spaces, and of a number that names none, holds of every number's space

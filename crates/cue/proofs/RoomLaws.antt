@@ -13,9 +13,11 @@ use Rattle.packet.specs.Step.{Step, isWrite}
 use Rattle.cue.specs.Packing.{Command, Open, commandsOf, joined, started, needsUnlock, unlockCommand}
 use Rattle.cue.specs.Packing.{joinAll, commandBytes, commandFields, packetBytes}
 use Rattle.cue.specs.Output.{framed, outputOf}
-use Rattle.cue.specs.Inside.{Progress, none, some, advance, finished, outputBytes, summary, roomAfter, Planned, brief}
-use Rattle.cue.specs.Inside.{frameBytes, lastFields, headBytes, unlockBytes, framedAt, unlockedAt, headedAt, wrote}
-use Rattle.cue.specs.Inside.{turnedBy}
+use Rattle.cue.specs.Inside.{advance, finished, roomAfter, Planned}
+use Rattle.cue.specs.Summary.{Progress, none, some, summary}
+use Rattle.cue.specs.Compile.{outputBytes}
+use Rattle.cue.specs.Records.{brief}
+use Rattle.cue.specs.Summary.{frameBytes, lastFields, headBytes, unlockBytes, framedAt, unlockedAt, headedAt, wrote, turnedBy}
 use Rattle.cue.specs.declared.packer.Packer.{Packer}
 use Rattle.cue.proofs.PacketLaws.{packet-bytes-append, join-append}
 use Rattle.cue.proofs.PackingLaws.{space-again}

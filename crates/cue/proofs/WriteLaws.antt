@@ -17,7 +17,7 @@ use Rattle.lbp16.specs.declared.Refusal.{Refusal}
 use Rattle.card.proofs.ElementLaws.{stored-bytes}
 use Rattle.packet.specs.Bytes.{bytesOf}
 use Rattle.packet.proofs.StoreLaws.{sets-append}
-use Rattle.cue.specs.Inside.{lastFields, framedAt, unlockedAt, headedAt, wrote, unlockBytes}
+use Rattle.cue.specs.Summary.{lastFields, framedAt, unlockedAt, headedAt, wrote, unlockBytes}
 use Rattle.cue.specs.declared.packer.Packer.{Packer}
 
 pub put2-is : (l : List ℕ) (at v : ℕ) → v < 65536 → set (set l at (v % 256)) (at + 1) (v / 256) ≡ sets l at (bytesOf 2 v)

@@ -7,9 +7,13 @@ use lib.Dec.{ltb}
 use Rattle.lbp16.specs.Answer.{Answer, refusal}
 use Rattle.packet.specs.Step.{Step}
 use Rattle.cue.specs.Records.{Listed, refused, records, recordsOf}
-use Rattle.cue.specs.Packing.{packets, packetBytes}
+use Rattle.cue.specs.Packing.{Command, packets, packetBytes}
 use Rattle.cue.specs.Output.{outputOf}
 use Rattle.cue.specs.declared.CompileAnswer.{CompileAnswer}
+
+-- the output of packets that are commands
+unfoldable pub outputBytes : List (List Command) → List ℕ
+outputBytes css = outputOf (map packetBytes css)
 
 -- the packets' bytes, in order, and the whole output
 unfoldable pub packed : List Step → List (List ℕ)
@@ -17,6 +21,11 @@ packed xs = map packetBytes (packets xs)
 
 unfoldable pub output : List Step → List ℕ
 output xs = outputOf (packed xs)
+
+-- what a list needs: the output's bytes and its packets, or the list's refusal
+unfoldable pub needed : Listed → Answer
+needed (refused n i) = Answer.refused n i
+needed (records xs) = Answer.accepted (length (output xs) ∷ length (packed xs) ∷ [])
 
 -- All that a compilation answers and leaves.
 pub record Compiled : Type 0 where

@@ -5,7 +5,8 @@ use mathlib.Core.List.{List, [], _∷_}
 use mathlib.Core.Bool.{Bool, false, _||_, _&&_, cond}
 use lib.ListN.{length, take, drop}
 use lib.Dec.{ltb}
-use Rattle.cue.specs.Inside.{recordAt, carriedBy, turnedBy, wrote}
+use Rattle.cue.specs.Summary.{carriedBy, turnedBy, wrote}
+use Rattle.cue.specs.Records.{recordAt}
 use Rattle.cue.specs.declared.records.Record.{Record}
 use Rattle.cue.specs.declared.packer.Packer.{Packer}
 

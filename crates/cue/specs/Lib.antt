@@ -5,5 +5,6 @@ pub mod Compile
 pub mod Play
 pub mod Demand3
 pub mod Examples
+pub mod Summary
 pub mod Inside
 pub mod Guarded

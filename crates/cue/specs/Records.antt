@@ -4,11 +4,12 @@ use mathlib.Core.List.{List, [], _∷_}
 use mathlib.Core.Bool.{Bool, not, _||_, _&&_, cond}
 use lib.ListN.{length, take, drop, getD}
 use lib.Dec.{eqb, ltb}
-use Rattle.lbp16.specs.Space.{Space, spaceOf, isAbsent, row}
+use Rattle.lbp16.specs.Space.{Space, spaceOf, spaceNumber, isAbsent, row}
 use Rattle.packet.specs.Bytes.{number}
 use Rattle.packet.specs.Step.{Kind, Step, carried, isWrite, isStatus}
 use Rattle.packet.specs.Rules.{Rule, first, misaligned, pastEnd, barred}
 use Rattle.packet.specs.Command.{pickKind}
+use Rattle.cue.specs.declared.records.Record.{Record}
 
 -- the marks "RD" and "WR", as numbers low byte first
 abbrev pub readMark : ℕ
@@ -39,6 +40,14 @@ recordStep rest =
     let k = recordKind rest in
     let s = recordSpace rest in
     record { kind = k; space = s; address = number (take 2 (drop 4 rest)); bytes = take (carried k s) (valueBytes rest) }
+
+-- what a record names, a write's value apart; and the same of its step
+unfoldable pub recordAt : List ℕ → Record
+recordAt rest =
+    record { write = eqb (markAt rest) writeMark; space = getD rest 2 0; address = number (take 2 (drop 4 rest)) }
+
+unfoldable pub brief : Step → Record
+brief x = record { write = isWrite (x .kind); space = spaceNumber (x .space); address = x .address }
 
 -- The cells that a list may not name: the unlock cell and the packet count, 0x1A and 0x0A of space 6.
 unfoldable pub reserved : Step → Bool

@@ -15,7 +15,8 @@ ghost use lib.Seq.{sets};
 ghost use Rattle.lbp16.specs.Word.{wordOf};
 ghost use Rattle.packet.specs.Bytes.{bytesOf};
 ghost use Rattle.cue.specs.Records.{recordsOf};
-ghost use Rattle.cue.specs.Inside.{Progress, planned, roomAfter, lastFields, framedAt, unlockedAt, headedAt, wrote, Placed, Ready};
+ghost use Rattle.cue.specs.Inside.{planned, roomAfter, Placed, Ready};
+ghost use Rattle.cue.specs.Summary.{Progress, lastFields, framedAt, unlockedAt, headedAt, wrote};
 
 const MARK: u16 = 0x424C;
 

@@ -7,7 +7,8 @@ ghost use mathlib.Core.Path.{_≡_};
 ghost use mathlib.Core.Bool.{false, cond};
 ghost use Prim.Native.Nat.{_≤_};
 ghost use Rattle.lbp16.specs.Space.{spaceOf, row};
-ghost use Rattle.cue.specs.Inside.{Progress, summary, carriedBy, agrees, fits, joinedWith, startedWith, closedBy, turnedBy, Roomy};
+ghost use Rattle.cue.specs.Inside.{Roomy};
+ghost use Rattle.cue.specs.Summary.{Progress, summary, carriedBy, agrees, fits, joinedWith, startedWith, closedBy, turnedBy};
 
 // The unlock where a packet begins.
 const CLOSED: bool = false;

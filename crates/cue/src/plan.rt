@@ -7,12 +7,11 @@ use lbp16::Refusal;
 use lbp16::space;
 ghost use mathlib.Core.Path.{_≡_};
 ghost use Rattle.cue.specs.Records.{recordsOf};
-ghost use Rattle.cue.specs.Compile.{compileListed};
-ghost use Rattle.cue.specs.Inside.{Progress, planned, planAnswer};
+ghost use Rattle.cue.specs.Compile.{compileListed, needed};
 
 // The bytes and packets that the list needs, or the refusal of its earliest bad record.
 pub fn plan(list: &[u8]) -> CompileAnswer
-    ensures { λ r. ⌜ compileListed r ≡ planAnswer (planned Progress.none (recordsOf (now (list .entry)))) ⌝ }
+    ensures { λ r. ⌜ compileListed r ≡ needed (recordsOf (now (list .entry))) ⌝ }
 {
     let mut rest = list;
     let mut index: usize = 0;

@@ -11,7 +11,7 @@ ghost use Rattle.lbp16.specs.Space.{isAbsent};
 ghost use Rattle.packet.specs.Command.{pickKind};
 ghost use Rattle.packet.specs.Rules.{first};
 ghost use Rattle.cue.specs.Records.{recordStep, recordSpace, recordBytes, badElement, upperHalf, recordRefusals, mostRecords};
-ghost use Rattle.cue.specs.Inside.{recordAt};
+ghost use Rattle.cue.specs.Records.{recordAt};
 
 // The most records that a list may have.
 pub const MOST: usize = 100000;

@@ -7,7 +7,7 @@ use lib.ListN.{length, take, drop, getD, set}
 use Rattle.packet.specs.Step.{Step}
 use Rattle.packet.specs.Command.{pickKind}
 use Rattle.cue.specs.Records.{records, recordsOf, recordStep, recordBytes}
-use Rattle.cue.specs.Inside.{recordAt}
+use Rattle.cue.specs.Records.{recordAt}
 use Rattle.cue.specs.declared.records.Record.{Record}
 use Rattle.independent.specs.Independent.{clashes, firstClash}
 use Rattle.independent.specs.Inside.{Accepted, placeBy, markedBy, clashesWith, Marked}

@@ -12,7 +12,8 @@ use Rattle.packet.specs.Step.{Step, isWrite}
 use Rattle.packet.specs.Rules.{first}
 use Rattle.packet.specs.Command.{pickKind}
 use Rattle.cue.specs.Records.{Listed, refused, records, recordsOf, recordsFrom, recordRefusals, recordStep, recordKind, recordBytes, withRecord, listedAt}
-use Rattle.cue.specs.Inside.{recordAt, brief, Progress, planned, planAnswer}
+use Rattle.cue.specs.Compile.{needed}
+use Rattle.cue.specs.Records.{recordAt, brief}
 use Rattle.cue.specs.declared.records.Record.{Record}
 use Rattle.cue.proofs.ReadingLaws.{passing}
 use Rattle.cue.proofs.PackingLaws.{record-bytes-le, space-again}
@@ -163,17 +164,17 @@ module _ (list rest : List ℕ) (index : ℕ) (done : List Step) (w : Walk list 
         rw (length-take, length-drop) (omega arith)
 
 -- what the first pass of compiling says of a list's refusal
-pub refused-refusal : (v : Listed) (r : Refusal) → Answer.refused (r .number) (r .place) ≡ planAnswer (planned Progress.none v)
+pub refused-refusal : (v : Listed) (r : Refusal) → Answer.refused (r .number) (r .place) ≡ needed v
     → r ≡ listRefusal v
-unfolding planAnswer planned listRefusal
+unfolding needed listRefusal
 refused-refusal (refused m j) r e =
     let p : r .number ≡ m = cc in
     let q : r .place ≡ j = cc in
     λ i. record { number = p i; place = q i }
 refused-refusal (records xs) r e = let z : _≡_ {A = ℕ} 0 1 = cc in absurd (omega arith)
 
-pub accepted-refusal : (v : Listed) (values : List ℕ) → Answer.accepted values ≡ planAnswer (planned Progress.none v)
+pub accepted-refusal : (v : Listed) (values : List ℕ) → Answer.accepted values ≡ needed v
     → record { number = 0; place = 0 } ≡ listRefusal v
-unfolding planAnswer planned listRefusal
+unfolding needed listRefusal
 accepted-refusal (refused m j) values e = let z : _≡_ {A = ℕ} 0 1 = cc in absurd (omega arith)
 accepted-refusal (records xs) values e = refl

@@ -9,7 +9,7 @@ use Rattle.packet.specs.Step.{Step}
 use Rattle.cue.specs.Records.{records, recordsOf}
 use Rattle.cue.specs.Packing.{Command, packets}
 use Rattle.cue.specs.Compile.{packed, output}
-use Rattle.cue.specs.Inside.{outputBytes}
+use Rattle.cue.specs.Compile.{outputBytes}
 use Rattle.cue.proofs.RecordLaws.{records-good}
 use Rattle.cue.proofs.PackerLaws.{output-append, output-one}
 use Rattle.cue.proofs.RunAll.{run-all}

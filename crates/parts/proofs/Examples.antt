@@ -14,7 +14,7 @@ use Rattle.packet.specs.Command
 use Rattle.cue.specs.Records
 use Rattle.cue.specs.Packing
 use Rattle.cue.specs.Output
-use Rattle.cue.specs.Inside
+use Rattle.cue.specs.Summary
 use Rattle.parts.specs.Taking
 use Rattle.parts.specs.State
 use Rattle.parts.specs.Parts
@@ -24,7 +24,7 @@ use Rattle.parts.specs.Promise.{freshState}
 
 -- opens every definition that the examples compute with
 all : Bool
-unfolding Space.spaceOf Space.spaceNumber Space.areaRow Space.isAbsent Space.row Word.bit Word.wordOf Bytes.number Bytes.bytesOf Step.isInfo Step.rowBy Step.carried Step.answered Step.isStatus Step.isWrite Step.namesUnlock Rules.first Rules.misaligned Rules.pastEnd Rules.barred Records.markAt Records.recordKind Records.recordBytes Records.recordSpace Records.valueBytes Records.recordStep Records.reserved Records.badElement Records.upperHalf Records.recordRefusals Inside.brief Inside.carriedBy Inside.answeredBy Inside.summary Inside.agrees Inside.fits Inside.joinedBy Inside.unlockFor Inside.startedBy Inside.closedBy Inside.turnedBy Inside.frameBytes Inside.lastFields Inside.headBytes Inside.framedAt Inside.unlockedAt Inside.headedAt Inside.wrote Taking.unknownMark Taking.decidedAt Taking.faultedBy Taking.recordTaken Taking.byteTaken Taking.isGoing Taking.goesOn Taking.oneMore Taking.bytesTaken Taking.endTaken Taking.partTaken Taking.answerBy Taking.answered Taking.called State.unopened State.written State.heldTurned State.heldPacking State.pairAt State.packerAt State.standingOf State.stateOf State.badNumbers State.badState State.standingByte State.padded State.packerBytes State.bytesOfState Parts.untouched Parts.leaves Parts.partOf Promise.freshState
+unfolding Space.spaceOf Space.spaceNumber Space.areaRow Space.isAbsent Space.row Word.bit Word.wordOf Bytes.number Bytes.bytesOf Step.isInfo Step.rowBy Step.carried Step.answered Step.isStatus Step.isWrite Step.namesUnlock Rules.first Rules.misaligned Rules.pastEnd Rules.barred Records.markAt Records.recordKind Records.recordBytes Records.recordSpace Records.valueBytes Records.recordStep Records.reserved Records.badElement Records.upperHalf Records.recordRefusals Records.brief Summary.carriedBy Summary.answeredBy Summary.summary Summary.agrees Summary.fits Summary.joinedBy Summary.unlockFor Summary.startedBy Summary.closedBy Summary.turnedBy Summary.frameBytes Summary.lastFields Summary.headBytes Summary.framedAt Summary.unlockedAt Summary.headedAt Summary.wrote Taking.unknownMark Taking.decidedAt Taking.faultedBy Taking.recordTaken Taking.byteTaken Taking.isGoing Taking.goesOn Taking.oneMore Taking.bytesTaken Taking.endTaken Taking.partTaken Taking.answerBy Taking.answered Taking.called State.unopened State.written State.heldTurned State.heldPacking State.pairAt State.packerAt State.standingOf State.stateOf State.badNumbers State.badState State.standingByte State.padded State.packerBytes State.bytesOfState Parts.untouched Parts.leaves Parts.partOf Promise.freshState
 all = true
 
 room : List ℕ

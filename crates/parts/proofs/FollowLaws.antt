@@ -15,7 +15,8 @@ use Rattle.packet.specs.Step.{Step}
 use Rattle.cue.specs.Records.{Listed, records, refused, recordsOf, recordsFrom}
 use Rattle.cue.specs.Packing.{Command, packets}
 use Rattle.packet.specs.Bytes.{number}
-use Rattle.cue.specs.Inside.{outputBytes, summary}
+use Rattle.cue.specs.Summary.{summary}
+use Rattle.cue.specs.Compile.{outputBytes}
 use Rattle.parts.specs.Taking.{State, Standing, going, ended, faulted, Taken, Stopped, isGoing, called, answerBy, answered, fresh}
 use Rattle.parts.specs.Rule.{Opened, none, packingRule, lastOf, closedFrom, openAfter, goodFrom, goodRecords, packetsBy, packetsOf}
 use Rattle.parts.specs.State.{Held, heldPacking, frameRoom, unopened, pairAt, packerAt, standingOf, stateOf, badNumbers, badState, bytesOfState}

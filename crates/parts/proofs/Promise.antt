@@ -11,7 +11,7 @@ use Rattle.packet.specs.Step.{Step}
 use Rattle.cue.specs.Records.{records, recordsOf}
 use Rattle.cue.specs.Packing.{packetBytes}
 use Rattle.cue.specs.Compile.{packed, output}
-use Rattle.cue.specs.Inside.{outputBytes}
+use Rattle.cue.specs.Compile.{outputBytes}
 use Rattle.cue.proofs.PackerLaws.{output-append}
 use Rattle.cue.proofs.RunAll.{run-all}
 use Rattle.parts.specs.Taking.{State}

@@ -15,7 +15,7 @@ use Rattle.packet.specs.Rules.{first}
 use Rattle.cue.specs.Records.{records, refused, recordsOf, recordsFrom, recordKind, recordBytes, recordStep, recordRefusals}
 use Rattle.cue.specs.Packing.{Command, packets}
 use Rattle.cue.specs.Output.{outputOf}
-use Rattle.cue.specs.Inside.{outputBytes}
+use Rattle.cue.specs.Compile.{outputBytes}
 use Rattle.cue.proofs.PackingLaws.{record-bytes-le}
 use Rattle.cue.proofs.PackerLaws.{output-append}
 use Rattle.parts.specs.Taking.{State, Standing, going, ended, faulted, Taken, Stopped, decidedAt, byteTaken, recordTaken, faultedBy}

@@ -10,7 +10,7 @@ use lib.Seq.{drop-drop}
 use Rattle.cue.specs.Records.{refused, recordsOf}
 use Rattle.cue.specs.Packing.{Command}
 use Rattle.cue.specs.Output.{outputOf}
-use Rattle.cue.specs.Inside.{outputBytes}
+use Rattle.cue.specs.Compile.{outputBytes}
 use Rattle.parts.specs.Taking.{State}
 use Rattle.parts.specs.Rule.{Opened}
 use Rattle.parts.specs.State.{frameRoom}

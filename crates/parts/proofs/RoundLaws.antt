@@ -13,7 +13,7 @@ use borrow.Author.Tests.{eq-eqb, ne-eqb, le-ltb}
 use Rattle.lbp16.specs.Word.{bit}
 use Rattle.packet.specs.Bytes.{number, bytesOf}
 use Rattle.packet.proofs.ByteLaws.{number-of-bytes}
-use Rattle.cue.specs.Inside.{Progress, summary}
+use Rattle.cue.specs.Summary.{Progress, summary}
 use Rattle.cue.specs.Guarded.{anyOf}
 use Rattle.cue.specs.declared.packer.Packer.{Packer}
 use Rattle.cue.proofs.GuardedLaws.{any-false}

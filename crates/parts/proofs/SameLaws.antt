@@ -15,7 +15,10 @@ use Rattle.packet.proofs.StepLaws.{row-plain}
 use Rattle.packet.specs.Rules.{pastEnd}
 use Rattle.cue.specs.Packing.{Open, commandsOf, started, turn}
 use Rattle.cue.specs.Output.{outputOf}
-use Rattle.cue.specs.Inside.{Progress, advance, finished, outputBytes, summary, brief, turnedBy, joinedBy, startedBy, closedBy, agrees, fits, roomAfter}
+use Rattle.cue.specs.Inside.{advance, finished, roomAfter}
+use Rattle.cue.specs.Summary.{Progress, summary, turnedBy, joinedBy, startedBy, closedBy, agrees, fits}
+use Rattle.cue.specs.Compile.{outputBytes}
+use Rattle.cue.specs.Records.{brief}
 use Rattle.cue.specs.declared.packer.Packer.{Packer}
 use Rattle.cue.proofs.RecordLaws.{good-element}
 use Rattle.cue.proofs.PackingLaws.{turn-cases}

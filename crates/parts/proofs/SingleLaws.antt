@@ -18,7 +18,7 @@ use Rattle.cue.specs.Guarded.{anyOf, turnedWithin, putWithin}
 use Rattle.cue.proofs.PackingLaws.{record-bytes-le}
 use Rattle.cue.proofs.GuardedLaws.{none-of}
 use Rattle.cue.specs.Records.{markAt, readMark, writeMark, recordKind, recordBytes, recordStep, recordRefusals, mostRecords}
-use Rattle.cue.specs.Inside.{recordAt}
+use Rattle.cue.specs.Records.{recordAt}
 use Rattle.cue.specs.declared.records.Record.{Record}
 use Rattle.cue.specs.declared.packer.Packer.{Packer}
 use Rattle.cue.proofs.ReadingLaws.{passing}

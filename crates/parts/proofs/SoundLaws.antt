@@ -9,8 +9,10 @@ use lib.ListN.{length}
 use lib.Seq.{sets, length-sets}
 use borrow.Author.Tests.{le-ltb}
 use Rattle.packet.specs.Step.{Step}
-use Rattle.cue.specs.Inside.{Progress, summary, brief, agrees, fits, joinedBy, startedBy, closedBy, turnedBy, wrote}
-use Rattle.cue.specs.Inside.{framedAt, unlockedAt, headedAt, unlockBytes, Roomy}
+use Rattle.cue.specs.Summary.{Progress, summary, agrees, fits, joinedBy, startedBy, closedBy, turnedBy, wrote}
+use Rattle.cue.specs.Records.{brief}
+use Rattle.cue.specs.Inside.{Roomy}
+use Rattle.cue.specs.Summary.{framedAt, unlockedAt, headedAt, unlockBytes}
 use Rattle.cue.specs.Guarded.{anyOf, outsideTests}
 use Rattle.cue.specs.declared.records.Record.{Record}
 use Rattle.cue.specs.declared.packer.Packer.{Packer}

@@ -14,7 +14,8 @@ use Rattle.packet.specs.Step.{Step}
 use Rattle.packet.specs.Command.{pickKind}
 use Rattle.packet.specs.Rules.{first}
 use Rattle.cue.specs.Records.{recordStep, recordRefusals}
-use Rattle.cue.specs.Inside.{Progress, summary, recordAt, brief, carriedBy, turnedBy, wrote}
+use Rattle.cue.specs.Summary.{Progress, summary, carriedBy, turnedBy, wrote}
+use Rattle.cue.specs.Records.{recordAt, brief}
 use Rattle.cue.specs.Guarded.{turnedWithin, putWithin}
 use Rattle.cue.specs.declared.records.Record.{Record}
 use Rattle.cue.specs.declared.packer.Packer.{Packer}

@@ -13,7 +13,7 @@ use Rattle.packet.specs.Rules.{first}
 use Rattle.packet.specs.Command.{pickKind}
 use Rattle.packet.proofs.RuleLaws.{none-holds}
 use Rattle.cue.specs.Records.{recordKind, recordBytes, recordStep, recordRefusals, mostRecords}
-use Rattle.cue.specs.Inside.{recordAt}
+use Rattle.cue.specs.Records.{recordAt}
 use Rattle.cue.specs.Guarded.{turnedWithin, putWithin}
 use Rattle.cue.specs.declared.records.Record.{Record}
 use Rattle.cue.specs.declared.packer.Packer.{Packer}

@@ -11,7 +11,7 @@ use Rattle.packet.specs.Command.{pickKind}
 use Rattle.packet.specs.Step.{Step}
 use Rattle.packet.specs.Rules.{first}
 use Rattle.cue.specs.Records.{readMark, writeMark, recordBytes, mostRecords, recordRefusals}
-use Rattle.cue.specs.Inside.{Progress, summary}
+use Rattle.cue.specs.Summary.{Progress, summary}
 use Rattle.cue.specs.declared.packer.Packer.{Packer}
 use Rattle.parts.specs.Taking.{State, Taken, Stopped, decidedAt, bytesTaken}
 use Rattle.parts.specs.State.{Held, heldPacking, heldTurned, written, packerAt, pairAt, standingOf, frameRoom}

@@ -15,7 +15,7 @@ use Rattle.cue.specs.Records.{records, refused, recordsOf}
 use Rattle.cue.specs.Packing.{Command, packetBytes}
 use Rattle.cue.specs.Play.{play}
 use Rattle.cue.specs.Demand3.{SameAsRecords, Demand3}
-use Rattle.cue.specs.Inside.{outputBytes}
+use Rattle.cue.specs.Compile.{outputBytes}
 use Rattle.parts.specs.Taking.{State, Stopped, called, answered, fresh}
 use Rattle.parts.specs.Rule.{Opened, packingRule, goodRecords, packetsOf, recordsHeld, countHeld}
 use Rattle.parts.specs.State.{stateBytes, frameRoom}

@@ -8,7 +8,7 @@ use Rattle.packet.specs.Step.{Step, isWrite, isStatus}
 use Rattle.packet.specs.Rules.{first}
 use Rattle.cue.specs.Records.{Listed, records, refused, recordsOf, recordKind, recordBytes, recordStep, recordRefusals}
 use Rattle.cue.specs.Packing.{Command, commandSteps, Open, commandsOf, started, turn, packets}
-use Rattle.cue.specs.Inside.{outputBytes}
+use Rattle.cue.specs.Compile.{outputBytes}
 use Rattle.parts.specs.Taking.{Packing}
 
 -- The open packet, if there is one.

@@ -19,7 +19,8 @@ use Rattle.lbp16.specs.Word.{bit}
 use Rattle.packet.specs.Bytes.{number, bytesOf}
 use Rattle.packet.specs.Step.{Step}
 use Rattle.cue.specs.Records.{mostRecords}
-use Rattle.cue.specs.Inside.{Progress, brief, summary, turnedBy, wrote}
+use Rattle.cue.specs.Summary.{Progress, summary, turnedBy, wrote}
+use Rattle.cue.specs.Records.{brief}
 use Rattle.cue.specs.Guarded.{anyOf}
 use Rattle.cue.specs.declared.packer.Packer.{Packer}
 use Rattle.parts.specs.Taking.{Packing, Turned, Standing, going, ended, faulted, State}

@@ -15,13 +15,13 @@ use Rattle.packet.specs.Step.{Kind, read, write, infoRead, Step, isInfo, isWrit
 use Rattle.packet.specs.Rules.{pastEnd, barred, anyStep}
 use Rattle.packet.specs.Command.{limit}
 use Rattle.packet.proofs.StepLaws.{row-plain}
-use Rattle.cue.specs.Records.{badElement, records}
+use Rattle.cue.specs.Records.{badElement}
 use Rattle.cue.specs.Packing.{Command, Open, commandFields, commandBytes}
 use Rattle.cue.specs.Packing.{packetBytes, joinAll, elementSteps, commandSteps, packetSteps}
 use Rattle.cue.specs.Packing.{commandsOf, joined, started, packFrom, packets}
 use Rattle.cue.specs.Output.{framed, outputOf}
 use Rattle.cue.specs.Compile.{packed, output}
-use Rattle.cue.specs.Inside.{brief}
+use Rattle.cue.specs.Records.{brief}
 use Rattle.cue.proofs.Relations.{Wide, Sound, SoundAll, Mixed, Good}
 use Rattle.cue.proofs.RecordLaws.{good-element, records-good}
 use Rattle.cue.proofs.PacketLaws.{packet-bytes-append, command-length}

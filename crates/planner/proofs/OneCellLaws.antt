@@ -10,7 +10,7 @@ use Rattle.packet.specs.Step.{Step, isWrite}
 use Rattle.packet.specs.Rules.{first}
 use Rattle.cue.specs.Records.{Listed, refused, records, recordsOf, recordsFrom}
 use Rattle.cue.specs.Records.{recordRefusals, recordStep, recordKind, recordBytes, withRecord, listedAt}
-use Rattle.cue.specs.Inside.{recordAt, brief}
+use Rattle.cue.specs.Records.{recordAt, brief}
 use Rattle.cue.specs.declared.records.Record.{Record}
 use Rattle.cue.proofs.ReadingLaws.{passing}
 use Rattle.planner.specs.Planner.{OneCell}

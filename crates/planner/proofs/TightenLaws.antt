@@ -8,8 +8,7 @@ use lib.ListN.{length, take, replicate}
 use Rattle.lbp16.specs.Answer.{Answer}
 use Rattle.packet.specs.Step.{Step}
 use Rattle.cue.specs.Records.{Listed, refused, records, recordsOf}
-use Rattle.cue.specs.Compile.{Compiled, compiled, compileListed, left, packed, output}
-use Rattle.cue.specs.Inside.{none, onward, outputBytes, planned, planAnswer}
+use Rattle.cue.specs.Compile.{Compiled, compiled, compileListed, left, packed, needed}
 use Rattle.cue.specs.declared.CompileAnswer.{CompileAnswer}
 use Rattle.cue.proofs.CompileLaws.{accepted-exactly, output-at-front, room-beyond, room-length, refusal-changes-nothing, whole}
 use Rattle.cue.proofs.AnswerLaws.{turned-away, too-small}
@@ -131,12 +130,12 @@ not-taken v b e h count f =
     omega arith
 
 -- what the compiler's first pass says of a good list
-pub packs-of : (list : List ℕ) (a : CompileAnswer) → compileListed a ≡ planAnswer (planned none (recordsOf list)) → (b n : ℕ)
+pub packs-of : (list : List ℕ) (a : CompileAnswer) → compileListed a ≡ needed (recordsOf list) → (b n : ℕ)
     → a ≡ CompileAnswer.Compiled b n → Packs list b
-unfolding compileListed planAnswer planned onward outputBytes output packed
+unfolding compileListed needed
 packs-of list a e b n d = go (recordsOf list) refl (rw d at e)
   where
-    go : (v : Listed) → recordsOf list ≡ v → Answer.accepted (b ∷ n ∷ []) ≡ planAnswer (planned none v) → Packs list b
+    go : (v : Listed) → recordsOf list ≡ v → Answer.accepted (b ∷ n ∷ []) ≡ needed v → Packs list b
     go (refused m i) r f = let z : _≡_ {A = ℕ} 0 1 = cc in absurd (omega arith)
     go (records xs) r f = record { xs = xs; list-records = r; size = cc }
 
@@ -170,7 +169,7 @@ unfolding left
 promised list room a after t e = (t, (e, tightened-demand3 list room (left a after) t))
 
 -- as the code comes to it: `a` is the first pass's answer
-module _ (list room : List ℕ) (a : CompileAnswer) (e : compileListed a ≡ planAnswer (planned none (recordsOf list))) where
+module _ (list room : List ℕ) (a : CompileAnswer) (e : compileListed a ≡ needed (recordsOf list)) where
   pub turned-away-all : (r : Refusal) → a ≡ CompileAnswer.Refused r → Promised list room a room
   unfolding left compileListed
   turned-away-all r d =

@@ -1,5 +1,5 @@
 -- Laws of the one packet that a list of reads of one cell gives.
-use Prim.Native.Nat.{ℕ, _+_, _/_, _%_, _≤_, _<_}
+use Prim.Native.Nat.{ℕ, _/_, _%_, _≤_, _<_}
 use mathlib.Core.Path.{_≡_, refl, sym, ap, _∙_}
 use mathlib.Core.List.{List, [], _∷_, _++_}
 use mathlib.Core.Bool.{true, false, not, _&&_}
@@ -17,7 +17,7 @@ use Rattle.lbp16.specs.declared.word.Written.the-variants.{Word, Refused}
 use Rattle.lbp16.specs.declared.Refusal.{Refusal}
 use Rattle.packet.specs.Bytes.{bytesOf}
 use Rattle.cue.specs.declared.records.Record.{Record}
-use Rattle.cue.specs.Inside.{recordAt, brief}
+use Rattle.cue.specs.Records.{recordAt, brief}
 use Rattle.packet.specs.Step.{Step}
 use Rattle.planner.specs.Planner.{OneCell}
 use Rattle.planner.specs.Inside.{framedCommand, stillFields, stillOutput, Proposed, StillPut}

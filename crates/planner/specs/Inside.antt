@@ -12,7 +12,7 @@ use Rattle.packet.specs.Step.{Step}
 use Rattle.cue.specs.Records.{records, recordsOf}
 use Rattle.cue.specs.Packing.{Command}
 use Rattle.cue.specs.Compile.{output}
-use Rattle.cue.specs.Inside.{brief}
+use Rattle.cue.specs.Records.{brief}
 use Rattle.cue.specs.declared.records.Record.{Record}
 use Rattle.tight.specs.Tight.{Checked}
 use Rattle.tight.specs.Tight

@@ -10,8 +10,7 @@ use lib.ListN.{length, take, drop, drop-of-length-le}
 use lib.Seq.{drop-cons, length-take-le}
 use Rattle.packet.specs.Command.{pickKind}
 use Rattle.packet.proofs.SliceLaws.{tail-whole}
-use Rattle.cue.specs.Records.{recordKind, recordBytes}
-use Rattle.cue.specs.Inside.{recordAt}
+use Rattle.cue.specs.Records.{recordKind, recordBytes, recordAt}
 use Rattle.cue.specs.declared.records.Record.{Record}
 use Rattle.salvage.specs.Salvage.{stands, sizeAt, Stretch, kept, skipped, skip, scan, scanFrom}
 use Rattle.salvage.specs.Inside.{gapOf, firstSpan, spanOf}

@@ -11,16 +11,15 @@ use Rattle.packet.specs.Step.{Step}
 use Rattle.cue.specs.Records.{Listed, records, recordsOf}
 use Rattle.cue.specs.Records
 use Rattle.cue.specs.Output.{apart}
-use Rattle.cue.specs.Compile.{output, packed, compileListed}
-use Rattle.cue.specs.Inside.{Progress, planned, planAnswer, onward, outputBytes}
+use Rattle.cue.specs.Compile.{output, compileListed, needed}
 use Rattle.cue.specs.declared.CompileAnswer.{CompileAnswer}
 use Rattle.tight.specs.Tight.{accepted, rejected, refused, partsChecked, proposalChecked, checked, checkListed}
 use Rattle.tight.specs.declared.TightAnswer.{TightAnswer}
 
 -- a refused list
-refused-by : (v : Listed) (n i : ℕ) (proposal : List ℕ) → Answer.refused n i ≡ planAnswer (planned Progress.none v)
+refused-by : (v : Listed) (n i : ℕ) (proposal : List ℕ) → Answer.refused n i ≡ needed v
     → refused n i ≡ proposalChecked v proposal
-unfolding planAnswer planned proposalChecked
+unfolding needed proposalChecked
 refused-by (Records.refused m j) n i proposal e = cc
 refused-by (Records.records xs) n i proposal e = let z : _≡_ {A = ℕ} 0 1 = cc in absurd (omega arith)
 
@@ -30,14 +29,14 @@ record Compiles (v : Listed) (bytes : ℕ) : Type 0 where
   same : v ≡ records xs
   size : bytes ≡ length (output xs)
 
-compiles : (v : Listed) (bytes count : ℕ) → Answer.accepted (bytes ∷ count ∷ []) ≡ planAnswer (planned Progress.none v)
+compiles : (v : Listed) (bytes count : ℕ) → Answer.accepted (bytes ∷ count ∷ []) ≡ needed v
     → Compiles v bytes
-unfolding planAnswer planned onward outputBytes output packed
+unfolding needed
 compiles (Records.refused m j) bytes count e = let z : _≡_ {A = ℕ} 0 1 = cc in absurd (omega arith)
 compiles (Records.records xs) bytes count e = record { xs = xs; same = refl; size = cc }
 
 module _ (list proposal : List ℕ) (a : CompileAnswer)
-    (e : compileListed a ≡ planAnswer (planned Progress.none (recordsOf list))) where
+    (e : compileListed a ≡ needed (recordsOf list)) where
   pub list-refused : (r : Refusal) → a ≡ CompileAnswer.Refused r → refused (r .number) (r .place) ≡ checked list proposal
   unfolding checked compileListed
   list-refused r d = refused-by (recordsOf list) _ _ proposal (rw d at e)

@@ -16,7 +16,7 @@ use Rattle.packet.specs.Step.{Step, isStatus, isWrite, isInfo, namesUnlock, car
 use Rattle.packet.specs.Command.{pickKind, payload}
 use Rattle.packet.proofs.StepLaws.{carried-le}
 use Rattle.cue.specs.Records.{recordStep, recordKind, recordSpace, recordBytes, valueBytes}
-use Rattle.cue.specs.Inside.{recordAt}
+use Rattle.cue.specs.Records.{recordAt}
 use Rattle.cue.specs.declared.records.Record.{Record}
 use Rattle.cue.proofs.ReadingLaws.{space-cases}
 use Rattle.tight.specs.Tight.{unlocks, sameKind, sameStep, sameBytes}

@@ -1,7 +1,7 @@
 use borrow.Author.Needs.{needs}
 use Rattle.cue.proofs.emit.put_frame.Statement.{statement}
 use Rattle.cue.proofs.emit.put_frame.Tie as tie
-use Rattle.cue.specs.Inside.{framedAt, frameBytes}
+use Rattle.cue.specs.Summary.{framedAt, frameBytes}
 
 cast-put4 : tie.Need-cast-put4
 cast-put4 c = search needs

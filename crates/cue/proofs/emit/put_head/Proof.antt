@@ -1,7 +1,7 @@
 use borrow.Author.Needs.{needs}
 use Rattle.cue.proofs.emit.put_head.Statement.{statement}
 use Rattle.cue.proofs.emit.put_head.Tie as tie
-use Rattle.cue.specs.Inside.{headedAt, headBytes}
+use Rattle.cue.specs.Summary.{headedAt, headBytes}
 use mathlib.Core.Path.{refl}
 
 word-of-requires : tie.Need-word-of-requires

@@ -1,7 +1,7 @@
 use borrow.Author.Needs.{needs}
 use Rattle.cue.proofs.emit.put_unlock.Statement.{statement}
 use Rattle.cue.proofs.emit.put_unlock.Tie as tie
-use Rattle.cue.specs.Inside.{unlockedAt}
+use Rattle.cue.specs.Summary.{unlockedAt}
 use Rattle.cue.proofs.WriteLaws.{unlock-is}
 use native.Mathlib.Omega.{arith}
 use mathlib.Core.Path.{refl}

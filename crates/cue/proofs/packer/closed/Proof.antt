@@ -2,7 +2,7 @@ use borrow.Author.Needs.{needs}
 use Rattle.cue.proofs.packer.closed.Statement.{statement}
 use Rattle.cue.proofs.packer.closed.Tie as tie
 use mathlib.Core.Path.{refl}
-use Rattle.cue.specs.Inside.{closedBy}
+use Rattle.cue.specs.Summary.{closedBy}
 
 add-t2 : tie.Need-add-t2
 add-t2 c = search needs

@@ -4,7 +4,7 @@ use Rattle.cue.proofs.packer.turned.Tie as tie
 use mathlib.Core.Path.{sym, _∙_, ap}
 use native.Mathlib.Omega.{arith}
 use Rattle.lbp16.specs.declared.space.Row.{Row}
-use Rattle.cue.specs.Inside.{closedBy}
+use Rattle.cue.specs.Summary.{closedBy}
 use Rattle.cue.proofs.PackerLaws.{Sized, sized, joined-is, started-is, opened-is, turn-joined, turn-started, turn-closed}
 
 cast-element : tie.Need-cast-element

@@ -5,12 +5,10 @@ use native.Mathlib.Omega.{arith}
 use lib.ListN.{length}
 use mathlib.Core.Path.{sym, _∙_}
 use Rattle.cue.proofs.ReadingLaws.{front-there}
-use Rattle.cue.proofs.LoopLaws.{Holding, held-first, roomy, plan-refused, plan-ended}
-use Rattle.cue.proofs.LoopLaws.{bytes-whole, held-again}
+use Rattle.cue.proofs.LoopLaws.{Holding, held-first, roomy, plan-refused, plan-ended, bytes-whole, held-again, shorter}
 use Rattle.cue.specs.Compile.{compileListed}
 use Prim.Native.Nat.{_≤_}
-use Rattle.cue.proofs.LoopLaws.{shorter}
-use Rattle.cue.specs.Inside.{none}
+use Rattle.cue.specs.Summary.{none}
 
 abbrev Inv-loop : tie.InvT-loop
 Inv-loop list rest₀ index₀ packer₀ rest index packer = Holding list rest index packer

@@ -1,8 +1,7 @@
 use borrow.Author.Needs.{needs}
 use Rattle.cue.proofs.records.record_at.Statement.{statement}
 use Rattle.cue.proofs.records.record_at.Tie as tie
-use Rattle.cue.specs.Inside.{recordAt}
-use Rattle.cue.specs.Records.{markAt}
+use Rattle.cue.specs.Records.{recordAt, markAt}
 
 pair-at-requires : tie.Need-pair-at-requires
 pair-at-requires c κs = search needs
