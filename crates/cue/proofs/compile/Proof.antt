@@ -20,7 +20,10 @@ returns c = let r = turned-away _ _ _ (c .before .before .plan .ensures) _ (c .e
 
 returns-2 : tie.Need-returns-2
 unfolding compileListed left
-returns-2 c = let b = c .before .before in let r = too-small _ _ _ (b .before .before .plan .ensures) _ _ (b .answer .given .1) (c .if1 .taken) in (r, demand3-of _ _ _ _ r)
+returns-2 c =
+    let at-plan = c .before .before .before .before in
+    let r = too-small _ _ _ (at-plan .plan .ensures) _ _ (c .before .before .answer .given .1) (c .if1 .taken) in
+    (r, demand3-of _ _ _ _ r)
 
 emit-requires : tie.Need-emit-requires
 emit-requires c κs = let b = c .before .before .before in may-write _ _ _ (b .before .before .plan .ensures) _ _ (b .answer .given .1) (c .before .if1 .left)
@@ -30,7 +33,12 @@ same-length c = search needs
 
 returns-3 : tie.Need-returns-3
 unfolding compileListed left
-returns-3 c = let b = c .before .before .before .before .before .before in let r = all-written _ _ _ (b .before .before .plan .ensures) _ _ (b .answer .given .1) _ (c .before .before .before .before .if1 .left) (c .before .before .emit .ensures) in (r, demand3-of _ _ _ _ r)
+returns-3 c =
+    let at-if1 = c .before .before .before .before in
+    let at-answer = at-if1 .before .before in
+    let at-plan = at-answer .before .before in
+    let r = all-written _ _ _ (at-plan .plan .ensures) _ _ (at-answer .answer .given .1) _ (at-if1 .if1 .left) (c .before .before .emit .ensures) in
+    (r, demand3-of _ _ _ _ r)
 
 pub compile-spec : {M : Type 1} → statement M
 compile-spec =

@@ -32,16 +32,42 @@ carried-requires : tie.Need-carried-requires Inv-loop μ-loop
 carried-requires c κs = search needs
 
 put-record-requires : tie.Need-put-record-requires Inv-loop μ-loop
-put-record-requires c κs = let t = c .before .before in let b = t .before .before .before .before in (put-placed _ _ _ _ _ _ _ (b .before .before .before .before .pre) (b .loop .inv) (t .before .before .before .loop-test .taken) (t .before .before .whole-record .ensures) (t .turned .ensures), c .carried .ensures .1, put-element _ _ _ _ _ _ _ (b .before .before .before .before .pre) (b .loop .inv) (t .before .before .before .loop-test .taken) (t .before .before .whole-record .ensures) (t .turned .ensures) _ (c .carried .ensures .0))
+put-record-requires c κs =
+    let at-turned = c .before .before in
+    let at-whole-record = at-turned .before .before in
+    let at-loop-test = at-whole-record .before in
+    let at-loop = at-loop-test .before in
+    let at-entry = at-loop .before .before .before .before in
+    (put-placed _ _ _ _ _ _ _
+       (at-entry .pre)
+       (at-loop .loop .inv)
+       (at-loop-test .loop-test .taken)
+       (at-whole-record .whole-record .ensures)
+       (at-turned .turned .ensures),
+     c .carried .ensures .1,
+     put-element _ _ _ _ _ _ _
+       (at-entry .pre)
+       (at-loop .loop .inv)
+       (at-loop-test .loop-test .taken)
+       (at-whole-record .whole-record .ensures)
+       (at-turned .turned .ensures) _
+       (c .carried .ensures .0))
 
 record-bytes-requires : tie.Need-record-bytes-requires Inv-loop μ-loop
 record-bytes-requires c κs = search needs
 
-whole : (c : tie.After-record-bytes Inv-loop μ-loop) → c .record-bytes .result ≤ length (c .before .before .before .before .before .before .before .before .before .before .loop .rest .now)
+whole : (c : tie.After-record-bytes Inv-loop μ-loop)
+    → c .record-bytes .result ≤ length (c .before .before .before .before .before .before .before .before .before .before .loop .rest .now)
 whole c =
     let t = c .before .before .before .before .before .before in
     let b = t .before .before .before .before in
-    put-whole _ _ _ _ _ _ _ (b .before .before .before .before .pre) (b .loop .inv) (t .before .before .before .loop-test .taken) (t .before .before .whole-record .ensures) (t .turned .ensures) _ (c .record-bytes .ensures .0)
+    put-whole _ _ _ _ _ _ _
+      (b .before .before .before .before .pre)
+      (b .loop .inv)
+      (t .before .before .before .loop-test .taken)
+      (t .before .before .whole-record .ensures)
+      (t .turned .ensures) _
+      (c .record-bytes .ensures .0)
 
 sub-rest : tie.Need-sub-rest Inv-loop μ-loop
 sub-rest c = whole c
@@ -53,10 +79,38 @@ part-rest-end : tie.Need-part-rest-end Inv-loop μ-loop
 part-rest-end c = let h = whole c in search needs
 
 loop-less : tie.Need-loop-less Inv-loop μ-loop
-loop-less c = let t = c .before .before .before .before .before .before .before in let b = t .before .before .before .before in put-shorter _ _ _ _ _ _ _ (b .before .before .before .before .pre) (b .loop .inv) (t .before .before .before .loop-test .taken) (t .before .before .whole-record .ensures) (t .turned .ensures) _ (c .before .record-bytes .ensures .0)
+loop-less c =
+    let at-turned = c .before .before .before .before .before .before .before in
+    let at-whole-record = at-turned .before .before in
+    let at-loop-test = at-whole-record .before in
+    let at-loop = at-loop-test .before in
+    let at-entry = at-loop .before .before .before .before in
+    put-shorter _ _ _ _ _ _ _
+      (at-entry .pre)
+      (at-loop .loop .inv)
+      (at-loop-test .loop-test .taken)
+      (at-whole-record .whole-record .ensures)
+      (at-turned .turned .ensures) _
+      (c .before .record-bytes .ensures .0)
 
 loop-again : tie.Need-loop-again Inv-loop μ-loop
-loop-again c = let t = c .before .before .before .before .before .before .before in let b = t .before .before .before .before in filled-again _ _ _ _ _ _ _ (b .before .before .before .before .pre) (b .loop .inv) (t .before .before .before .loop-test .taken) (t .before .before .whole-record .ensures) (t .turned .ensures) _ (c .before .record-bytes .ensures .0) _ _ (c .before .before .before .before .before .carried .ensures .0) (c .before .before .before .before .put-record .ensures)
+loop-again c =
+    let at-put-record = c .before .before .before .before in
+    let at-carried = at-put-record .before in
+    let at-turned = at-carried .before .before in
+    let at-whole-record = at-turned .before .before in
+    let at-loop-test = at-whole-record .before in
+    let at-loop = at-loop-test .before in
+    let at-entry = at-loop .before .before .before .before in
+    filled-again _ _ _ _ _ _ _
+      (at-entry .pre)
+      (at-loop .loop .inv)
+      (at-loop-test .loop-test .taken)
+      (at-whole-record .whole-record .ensures)
+      (at-turned .turned .ensures) _
+      (c .before .record-bytes .ensures .0) _ _
+      (at-carried .carried .ensures .0)
+      (at-put-record .put-record .ensures)
 
 same-length : tie.Need-same-length Inv-loop μ-loop
 same-length c = filled-length _ _ _ _ _ (c .before .before .before .before .before .pre) (c .before .loop .inv) (c .loop-test .left)

@@ -23,7 +23,22 @@ same-length : tie.Need-same-length
 same-length c = search needs
 
 returns : tie.Need-returns
-returns c = let b = c .before .before .before .before .before .before .before in let d = b .before .before .before .before in let g = d .before .before .before .before in let s = g .before .before .before .before in rw (c .before .before .put-element .ensures, b .put-head .ensures, d .put-unlock .ensures, g .put-frame .ensures) (wrote-is (s .args .q) (s .args .n) (now (s .args .rest)) (now (s .args .out)) (s .pre .2))
+returns c =
+    let at-put-head = c .before .before .before .before .before .before .before in
+    let at-put-unlock = at-put-head .before .before .before .before in
+    let at-put-frame = at-put-unlock .before .before .before .before in
+    let at-args = at-put-frame .before .before .before .before in
+    rw
+      (c .before .before .put-element .ensures,
+       at-put-head .put-head .ensures,
+       at-put-unlock .put-unlock .ensures,
+       at-put-frame .put-frame .ensures)
+      (wrote-is
+         (at-args .args .q)
+         (at-args .args .n)
+         (now (at-args .args .rest))
+         (now (at-args .args .out))
+         (at-args .pre .2))
 
 pub put-record-spec : {M : Type 1} → statement M
 put-record-spec =

@@ -17,14 +17,22 @@ add-put2 : tie.Need-add-put2
 add-put2 c = search needs
 
 put2-requires : tie.Need-put2-requires
-put2-requires c κs = let h = c .before .before .before .before .before .before .before .before .pre in let k = h .unlock (c .before .before .before .before .before .before .if1 .taken) in rw (c .before .before .before .put4 .ensures, length-sets) (omega (arith, h .word))
+put2-requires c κs =
+    let at-put4 = c .before .before .before in
+    let at-if1 = at-put4 .before .before .before in
+    let at-entry = at-if1 .before .before in
+    let h = at-entry .pre in
+    let k = h .unlock (at-if1 .if1 .taken) in rw (at-put4 .put4 .ensures, length-sets) (omega (arith, h .word))
 
 same-length : tie.Need-same-length
 same-length c = search needs
 
 returns : tie.Need-returns
 unfolding unlockedAt
-returns c = rw (c .before .before .put2 .ensures, c .before .before .before .before .before .before .put4 .ensures, c .before .before .before .before .before .before .before .before .before .if1 .taken) (unlock-is _ _)
+returns c =
+    let at-put4 = c .before .before .before .before .before .before in
+    let at-if1 = at-put4 .before .before .before in
+    rw (c .before .before .put2 .ensures, at-put4 .put4 .ensures, at-if1 .if1 .taken) (unlock-is _ _)
 
 returns-2 : tie.Need-returns-2
 unfolding unlockedAt

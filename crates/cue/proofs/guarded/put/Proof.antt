@@ -14,16 +14,35 @@ outside-requires : tie.Need-outside-requires
 outside-requires c κs = search needs
 
 returns : tie.Need-returns
-returns c = let b = c .before .before in put-kept _ _ _ _ _ _ (b .before .record-at .ensures) (b .carried .ensures .0) (c .before .outside .ensures) (c .if1 .taken)
+returns c =
+    let at-record-at = c .before .before .before in
+    put-kept _ _ _ _ _ _
+      (at-record-at .record-at .ensures)
+      (c .before .before .carried .ensures .0)
+      (c .before .outside .ensures)
+      (c .if1 .taken)
 
 put-record-requires : tie.Need-put-record-requires
-put-record-requires c κs = let b = c .before .before in let (placed, whole) = placed-within _ _ _ _ (sym (b .outside .ensures) ∙ c .before .if1 .left) in (placed, b .before .carried .ensures .1, whole)
+put-record-requires c κs =
+    let at-carried = c .before .before .before in
+    let (placed, whole) = placed-within _ _ _ _ (sym (c .before .before .outside .ensures) ∙ c .before .if1 .left) in
+    (placed, at-carried .carried .ensures .1, whole)
 
 same-length : tie.Need-same-length
 same-length c = search needs
 
 returns-2 : tie.Need-returns-2
-returns-2 c = let b = c .before .before .before .before .before in put-is _ _ _ _ _ _ (b .before .before .record-at .ensures) (b .before .carried .ensures .0) (b .outside .ensures) _ (c .before .before .before .before .if1 .left) (c .before .before .put-record .ensures)
+returns-2 c =
+    let at-if1 = c .before .before .before .before in
+    let at-outside = at-if1 .before in
+    let at-carried = at-outside .before in
+    let at-record-at = at-carried .before in
+    put-is _ _ _ _ _ _
+      (at-record-at .record-at .ensures)
+      (at-carried .carried .ensures .0)
+      (at-outside .outside .ensures) _
+      (at-if1 .if1 .left)
+      (c .before .before .put-record .ensures)
 
 pub put-spec : {M : Type 1} → statement M
 put-spec =

@@ -16,7 +16,12 @@ counted-requires : tie.Need-counted-requires
 counted-requires c κs = search needs
 
 returns : tie.Need-returns
-returns c = let s = c .before .before .row-of .ensures in let h = c .counted .ensures .1 in let k : c .before .before .row-of .result .element ≤ 4 = rw s (element-le _) in (rw (c .counted .ensures .0, s) (carried-counted _), omega arith)
+returns c =
+    let at-row-of = c .before .before in
+    let s = at-row-of .row-of .ensures in
+    let h = c .counted .ensures .1 in
+    let k : at-row-of .row-of .result .element ≤ 4 = rw s (element-le _) in
+    (rw (c .counted .ensures .0, s) (carried-counted _), omega arith)
 
 pub carried-spec : {M : Type 1} → statement M
 carried-spec = tie.close (tie.spec row-of-requires cast-counted counted-requires returns)

@@ -41,10 +41,17 @@ turned-requires c κs = (roomy (c .before .before .before .before .before .loop 
 record-bytes-requires : tie.Need-record-bytes-requires Inv-loop μ-loop
 record-bytes-requires c κs = search needs
 
-whole : (c : tie.After-record-bytes Inv-loop μ-loop) → c .record-bytes .result ≤ length (c .before .before .before .before .before .before .before .loop .rest .now)
+whole : (c : tie.After-record-bytes Inv-loop μ-loop)
+    → c .record-bytes .result ≤ length (c .before .before .before .before .before .before .before .loop .rest .now)
 whole c =
     let b = c .before .before .before .before in
-    bytes-whole _ _ _ _ _ _ _ _ (b .before .before .before .loop .inv .held) (b .before .before .loop-test .taken) (b .before .record-refusal .ensures) (b .if1 .left) (c .before .before .before .whole-record .ensures) (c .record-bytes .ensures .0)
+    bytes-whole _ _ _ _ _ _ _ _
+      (b .before .before .before .loop .inv .held)
+      (b .before .before .loop-test .taken)
+      (b .before .record-refusal .ensures)
+      (b .if1 .left)
+      (c .before .before .before .whole-record .ensures)
+      (c .record-bytes .ensures .0)
 
 sub-rest : tie.Need-sub-rest Inv-loop μ-loop
 sub-rest c = whole c
@@ -59,10 +66,39 @@ add-index : tie.Need-add-index Inv-loop μ-loop
 add-index c = let h = c .before .before .before .before .before .before .before .before .loop .inv .held .few in omega arith
 
 loop-less : tie.Need-loop-less Inv-loop μ-loop
-loop-less c = let b = c .before in let d = b .before .before .before .before .before .before in shorter _ _ _ _ _ _ _ _ (d .before .loop .inv .held) (d .loop-test .taken) (b .before .before .before .before .before .record-refusal .ensures) (b .before .before .before .before .if1 .left) (b .before .before .before .whole-record .ensures) (b .record-bytes .ensures .0)
+loop-less c =
+    let at-whole-record = c .before .before .before .before in
+    let at-if1 = at-whole-record .before in
+    let at-record-refusal = at-if1 .before in
+    let at-loop-test = at-record-refusal .before in
+    let at-loop = at-loop-test .before in
+    shorter _ _ _ _ _ _ _ _
+      (at-loop .loop .inv .held)
+      (at-loop-test .loop-test .taken)
+      (at-record-refusal .record-refusal .ensures)
+      (at-if1 .if1 .left)
+      (at-whole-record .whole-record .ensures)
+      (c .before .record-bytes .ensures .0)
 
 loop-again : tie.Need-loop-again Inv-loop μ-loop
-loop-again c = let b = c .before in let d = b .before .before .before .before .before .before in record { s = _; held = held-again _ _ _ _ _ _ _ _ (d .before .loop .inv .held) (d .loop-test .taken) (b .before .before .before .before .before .record-refusal .ensures) (b .before .before .before .before .if1 .left) (b .before .before .before .whole-record .ensures) (b .record-bytes .ensures .0) _ (b .before .turned .ensures) }
+loop-again c =
+    let at-whole-record = c .before .before .before .before in
+    let at-if1 = at-whole-record .before in
+    let at-record-refusal = at-if1 .before in
+    let at-loop-test = at-record-refusal .before in
+    let at-loop = at-loop-test .before in
+    record {
+      s = _;
+      held =
+          held-again _ _ _ _ _ _ _ _
+            (at-loop .loop .inv .held)
+            (at-loop-test .loop-test .taken)
+            (at-record-refusal .record-refusal .ensures)
+            (at-if1 .if1 .left)
+            (at-whole-record .whole-record .ensures)
+            (c .before .record-bytes .ensures .0) _
+            (c .before .before .turned .ensures);
+    }
 
 returns-2 : tie.Need-returns-2 Inv-loop μ-loop
 unfolding compileListed

@@ -22,10 +22,17 @@ rem-result : tie.Need-rem-result
 rem-result c = rw (c .before .before .before .row-of .ensures) (element-nonzero _)
 
 add-result : tie.Need-add-result
-add-result c = let h : c .before .before .before .before .row-of .result .element ≤ 4 = rw (c .before .before .before .before .row-of .ensures) (element-le _) in omega arith
+add-result c =
+    let at-row-of = c .before .before .before .before in
+    let h : at-row-of .row-of .result .element ≤ 4 = rw (at-row-of .row-of .ensures) (element-le _) in omega arith
 
 returns : tie.Need-returns
-returns c = let b = c .before .before .before .before .before .before in simp (b .is-absent .ensures, b .before .before .row-of .ensures, b .before .before .before .record-at .ensures, bad-element-is)
+returns c =
+    let at-is-absent = c .before .before .before .before .before .before in
+    let at-row-of = at-is-absent .before .before in
+    let at-record-at = at-row-of .before in
+    simp
+      (at-is-absent .is-absent .ensures, at-row-of .row-of .ensures, at-record-at .record-at .ensures, bad-element-is)
 
 pub bad-element-spec : {M : Type 1} → statement M
 bad-element-spec =

@@ -18,7 +18,11 @@ record-bytes-requires c κs = search needs
 
 returns-3 : tie.Need-returns-3
 unfolding markAt
-returns-3 c = refused-22 _ _ (c .before .before .before .before .if1 .left) (rw (← c .before .before .pair-at .ensures, ← c .before .record-bytes .ensures .0) (c .if3 .taken))
+returns-3 c =
+    let at-if1 = c .before .before .before .before in
+    refused-22 _ _
+      (at-if1 .if1 .left)
+      (rw (← c .before .before .pair-at .ensures, ← c .before .record-bytes .ensures .0) (c .if3 .taken))
 
 byte-at-requires : tie.Need-byte-at-requires
 byte-at-requires c κs = search needs
@@ -42,7 +46,11 @@ returns-4 c =
     let b = c .before .before .before .before .before in
     let mark = b .before .before .pair-at .ensures in
     rw (c .first-of2 .ensures, c .before .bad-element .ensures, c .before .before .first-of .ensures, c .before .before .before .before .byte-at .ensures, mark)
-    (refused-later _ _ (w .result) (w .ensures) (b .before .before .before .before .if1 .left) (rw (← mark, ← b .before .record-bytes .ensures .0) (b .if3 .left)))
+    (refused-later _ _
+       (w .result)
+       (w .ensures)
+       (b .before .before .before .before .if1 .left)
+       (rw (← mark, ← b .before .record-bytes .ensures .0) (b .if3 .left)))
 
 pub lowest-refusal-spec : {M : Type 1} → statement M
 lowest-refusal-spec =
