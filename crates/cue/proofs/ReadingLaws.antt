@@ -154,14 +154,15 @@ pub register-good : (rest : List ℕ) → 10 ≤ length rest → (eqb (markAt re
     → (index : ℕ) → eqb index mostRecords ≡ false → first (recordRefusals index rest) ≡ 0
 unfolding recordBytes isWrite recordAt isAbsent spaceOf row
 register-good rest l m s z a b index i =
-    rw
-      (chain-is index rest w (too-wide-is rest),
-       i,
-       known (eqb (markAt rest) readMark) (eqb (markAt rest) writeMark) m,
-       z,
-       narrow (eqb (markAt rest) writeMark),
-       good)
-      refl
+    rw (
+      chain-is index rest w (too-wide-is rest),
+      i,
+      known (eqb (markAt rest) readMark) (eqb (markAt rest) writeMark) m,
+      z,
+      narrow (eqb (markAt rest) writeMark),
+      good,
+    )
+    refl
   where
     w : Bool
     w = not (eqb (getD rest 2 0) 0) && not (eqb (number (take 2 (drop 8 rest))) 0)

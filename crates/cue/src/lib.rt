@@ -24,7 +24,8 @@ pub enum CompileAnswer {
 // Refused with 26, and the bytes needed as its place, where the list is good and the room too small.
 pub fn compile(list: &[u8], out: &mut [u8]) -> CompileAnswer
     ensures compiled { λ r. ⌜ left r (now (out .exit)) ≡ compiled (now (list .entry)) (now (out .entry)) ⌝ }
-    ensures demand3 { λ r. ⌜ ((bytes count : ℕ) → compileListed r ≡ Answer.accepted (bytes ∷ count ∷ []) → Demand3 (now (list .entry)) (now (out .exit)) bytes count) ⌝ }
+    ensures demand3 { λ r. ⌜ ((bytes count : ℕ) → compileListed r ≡ Answer.accepted (bytes ∷ count ∷ [])
+        → Demand3 (now (list .entry)) (now (out .exit)) bytes count) ⌝ }
 {
     let answer = plan::plan(list);
     let CompileAnswer::Compiled { bytes, packets } = answer else {

@@ -37,21 +37,22 @@ put-record-requires c κs =
     let at-whole-record = at-turned .before .before in
     let at-loop-test = at-whole-record .before in
     let at-loop = at-loop-test .before in
-    let at-entry = at-loop .before .before .before .before in
-    (put-placed _ _ _ _ _ _ _
-       (at-entry .pre)
-       (at-loop .loop .inv)
-       (at-loop-test .loop-test .taken)
-       (at-whole-record .whole-record .ensures)
-       (at-turned .turned .ensures),
-     c .carried .ensures .1,
-     put-element _ _ _ _ _ _ _
-       (at-entry .pre)
-       (at-loop .loop .inv)
-       (at-loop-test .loop-test .taken)
-       (at-whole-record .whole-record .ensures)
-       (at-turned .turned .ensures) _
-       (c .carried .ensures .0))
+    let at-entry = at-loop .before .before .before .before in (
+      put-placed _ _ _ _ _ _ _
+          (at-entry .pre)
+          (at-loop .loop .inv)
+          (at-loop-test .loop-test .taken)
+          (at-whole-record .whole-record .ensures)
+          (at-turned .turned .ensures),
+      c .carried .ensures .1,
+      put-element _ _ _ _ _ _ _
+          (at-entry .pre)
+          (at-loop .loop .inv)
+          (at-loop-test .loop-test .taken)
+          (at-whole-record .whole-record .ensures)
+          (at-turned .turned .ensures) _
+          (c .carried .ensures .0),
+    )
 
 record-bytes-requires : tie.Need-record-bytes-requires Inv-loop μ-loop
 record-bytes-requires c κs = search needs
@@ -62,12 +63,12 @@ whole c =
     let t = c .before .before .before .before .before .before in
     let b = t .before .before .before .before in
     put-whole _ _ _ _ _ _ _
-      (b .before .before .before .before .pre)
-      (b .loop .inv)
-      (t .before .before .before .loop-test .taken)
-      (t .before .before .whole-record .ensures)
-      (t .turned .ensures) _
-      (c .record-bytes .ensures .0)
+    (b .before .before .before .before .pre)
+    (b .loop .inv)
+    (t .before .before .before .loop-test .taken)
+    (t .before .before .whole-record .ensures)
+    (t .turned .ensures) _
+    (c .record-bytes .ensures .0)
 
 sub-rest : tie.Need-sub-rest Inv-loop μ-loop
 sub-rest c = whole c
@@ -86,12 +87,12 @@ loop-less c =
     let at-loop = at-loop-test .before in
     let at-entry = at-loop .before .before .before .before in
     put-shorter _ _ _ _ _ _ _
-      (at-entry .pre)
-      (at-loop .loop .inv)
-      (at-loop-test .loop-test .taken)
-      (at-whole-record .whole-record .ensures)
-      (at-turned .turned .ensures) _
-      (c .before .record-bytes .ensures .0)
+    (at-entry .pre)
+    (at-loop .loop .inv)
+    (at-loop-test .loop-test .taken)
+    (at-whole-record .whole-record .ensures)
+    (at-turned .turned .ensures) _
+    (c .before .record-bytes .ensures .0)
 
 loop-again : tie.Need-loop-again Inv-loop μ-loop
 loop-again c =
@@ -103,14 +104,14 @@ loop-again c =
     let at-loop = at-loop-test .before in
     let at-entry = at-loop .before .before .before .before in
     filled-again _ _ _ _ _ _ _
-      (at-entry .pre)
-      (at-loop .loop .inv)
-      (at-loop-test .loop-test .taken)
-      (at-whole-record .whole-record .ensures)
-      (at-turned .turned .ensures) _
-      (c .before .record-bytes .ensures .0) _ _
-      (at-carried .carried .ensures .0)
-      (at-put-record .put-record .ensures)
+    (at-entry .pre)
+    (at-loop .loop .inv)
+    (at-loop-test .loop-test .taken)
+    (at-whole-record .whole-record .ensures)
+    (at-turned .turned .ensures) _
+    (c .before .record-bytes .ensures .0) _ _
+    (at-carried .carried .ensures .0)
+    (at-put-record .put-record .ensures)
 
 same-length : tie.Need-same-length Inv-loop μ-loop
 same-length c = filled-length _ _ _ _ _ (c .before .before .before .before .before .pre) (c .before .loop .inv) (c .loop-test .left)

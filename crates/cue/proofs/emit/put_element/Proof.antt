@@ -39,10 +39,11 @@ loop-less c = omega arith
 
 loop-again : tie.Need-loop-again Inv-loop μ-loop
 loop-again c =
-    let at-loop = c .before .before in
-    (omega arith,
-     rw length-set (at-loop .loop .inv .1),
-     at-loop .loop .inv .2 ∙ copy-step _ _ 6 _ _ _ (c .before .loop-test .taken) (omega arith))
+    let at-loop = c .before .before in (
+      omega arith,
+      rw length-set (at-loop .loop .inv .1),
+      at-loop .loop .inv .2 ∙ copy-step _ _ 6 _ _ _ (c .before .loop-test .taken) (omega arith),
+    )
 
 same-length : tie.Need-same-length Inv-loop μ-loop
 same-length c = c .before .loop .inv .1

@@ -28,17 +28,18 @@ returns c =
     let at-put-unlock = at-put-head .before .before .before .before in
     let at-put-frame = at-put-unlock .before .before .before .before in
     let at-args = at-put-frame .before .before .before .before in
-    rw
-      (c .before .before .put-element .ensures,
-       at-put-head .put-head .ensures,
-       at-put-unlock .put-unlock .ensures,
-       at-put-frame .put-frame .ensures)
-      (wrote-is
-         (at-args .args .q)
-         (at-args .args .n)
-         (now (at-args .args .rest))
-         (now (at-args .args .out))
-         (at-args .pre .2))
+    rw (
+      c .before .before .put-element .ensures,
+      at-put-head .put-head .ensures,
+      at-put-unlock .put-unlock .ensures,
+      at-put-frame .put-frame .ensures,
+    )
+    (wrote-is
+    (at-args .args .q)
+    (at-args .args .n)
+    (now (at-args .args .rest))
+    (now (at-args .args .out))
+    (at-args .pre .2))
 
 pub put-record-spec : {M : Type 1} → statement M
 put-record-spec =

@@ -22,22 +22,22 @@ returns c =
     let at-row-of = at-word-of .before in
     let at-entry = at-row-of .before in
     word-is _ _ _
-      (at-entry .pre .0)
-      (at-entry .pre .1)
-      (ap (λ r. r .size) (at-row-of .row-of .ensures))
-      (at-word-of .word-of .ensures) _
-      (c .before .w .given .1)
+    (at-entry .pre .0)
+    (at-entry .pre .1)
+    (ap (λ r. r .size) (at-row-of .row-of .ensures))
+    (at-word-of .word-of .ensures) _
+    (c .before .w .given .1)
 
 returns-2 : tie.Need-returns-2
 returns-2 c =
     let at-row-of = c .before .before .before in
     let at-entry = at-row-of .before in
     word-not _ _ _
-      (at-entry .pre .0)
-      (at-entry .pre .1)
-      (ap (λ r. r .size) (at-row-of .row-of .ensures))
-      (c .before .before .word-of .ensures) _
-      (c .enum-told .given .1)
+    (at-entry .pre .0)
+    (at-entry .pre .1)
+    (ap (λ r. r .size) (at-row-of .row-of .ensures))
+    (c .before .before .word-of .ensures) _
+    (c .enum-told .given .1)
 
 pub word-of-spec : {M : Type 1} → statement M
 word-of-spec =

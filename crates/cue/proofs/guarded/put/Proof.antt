@@ -17,10 +17,10 @@ returns : tie.Need-returns
 returns c =
     let at-record-at = c .before .before .before in
     put-kept _ _ _ _ _ _
-      (at-record-at .record-at .ensures)
-      (c .before .before .carried .ensures .0)
-      (c .before .outside .ensures)
-      (c .if1 .taken)
+    (at-record-at .record-at .ensures)
+    (c .before .before .carried .ensures .0)
+    (c .before .outside .ensures)
+    (c .if1 .taken)
 
 put-record-requires : tie.Need-put-record-requires
 put-record-requires c κs =
@@ -38,11 +38,11 @@ returns-2 c =
     let at-carried = at-outside .before in
     let at-record-at = at-carried .before in
     put-is _ _ _ _ _ _
-      (at-record-at .record-at .ensures)
-      (at-carried .carried .ensures .0)
-      (at-outside .outside .ensures) _
-      (at-if1 .if1 .left)
-      (c .before .before .put-record .ensures)
+    (at-record-at .record-at .ensures)
+    (at-carried .carried .ensures .0)
+    (at-outside .outside .ensures) _
+    (at-if1 .if1 .left)
+    (c .before .before .put-record .ensures)
 
 pub put-spec : {M : Type 1} → statement M
 put-spec =

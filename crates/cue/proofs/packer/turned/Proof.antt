@@ -18,11 +18,11 @@ counted-requires-2 c κs = search needs
 
 element : (c : tie.After-counted2)
     → Sized
-        (c .before .before .before .before .args .p)
-        (c .before .before .before .before .args .r)
-        (c .before .before .before .before .args .line)
-        (c .before .before .counted .result)
-        (c .counted2 .result)
+    (c .before .before .before .before .args .p)
+    (c .before .before .before .before .args .r)
+    (c .before .before .before .before .args .line)
+    (c .before .before .counted .result)
+    (c .counted2 .result)
 element c =
     let at-entry = c .before .before .before .before in
     sized (at-entry .pre .0) (at-entry .pre .1) (c .before .before .counted .ensures .0) (c .counted2 .ensures .0)
@@ -41,10 +41,10 @@ returns c =
     let at-joined = c .before .before .before in
     let at-entry = at-joined .before in
     turn-joined _ _ _ _ _
-      (joined-is (element at-entry) _ (at-joined .joined .ensures))
-      (c .before .before .agrees .ensures)
-      (c .before .fits2 .ensures)
-      (c .if1 .taken)
+    (joined-is (element at-entry) _ (at-joined .joined .ensures))
+    (c .before .before .agrees .ensures)
+    (c .before .fits2 .ensures)
+    (c .if1 .taken)
 
 started-requires : tie.Need-started-requires
 started-requires c κs =
@@ -64,12 +64,12 @@ returns-2 c =
     let at-entry = at-joined .before in
     let z = element at-entry in
     turn-started _ _ _ _ _ _
-      (joined-is z _ (at-joined .joined .ensures))
-      (at-agrees .agrees .ensures)
-      (at-fits2 .fits2 .ensures)
-      (at-if1 .if1 .left)
-      (started-is z _ (c .before .before .started .ensures))
-      (sym (c .before .fits3 .ensures) ∙ c .if2 .taken)
+    (joined-is z _ (at-joined .joined .ensures))
+    (at-agrees .agrees .ensures)
+    (at-fits2 .fits2 .ensures)
+    (at-if1 .if1 .left)
+    (started-is z _ (c .before .before .started .ensures))
+    (sym (c .before .fits3 .ensures) ∙ c .if2 .taken)
 
 closed-requires : tie.Need-closed-requires
 closed-requires c κs = element (c .before .before .before .before .before .before .before .before .before .before) .roomy
@@ -92,13 +92,13 @@ returns-3 c =
     let at-entry = at-joined .before in
     let z = element at-entry in
     turn-closed _ _ _ _ _ _ _
-      (joined-is z _ (at-joined .joined .ensures))
-      (at-agrees .agrees .ensures)
-      (at-fits2 .fits2 .ensures)
-      (at-if1 .if1 .left)
-      (started-is z _ (at-started .started .ensures))
-      (sym (at-fits3 .fits3 .ensures) ∙ c .before .before .if2 .left)
-      (opened-is z _ _ (c .before .closed .ensures) (c .started2 .ensures))
+    (joined-is z _ (at-joined .joined .ensures))
+    (at-agrees .agrees .ensures)
+    (at-fits2 .fits2 .ensures)
+    (at-if1 .if1 .left)
+    (started-is z _ (at-started .started .ensures))
+    (sym (at-fits3 .fits3 .ensures) ∙ c .before .before .if2 .left)
+    (opened-is z _ _ (c .before .closed .ensures) (c .started2 .ensures))
 
 pub turned-spec : {M : Type 1} → statement M
 turned-spec =

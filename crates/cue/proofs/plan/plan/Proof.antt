@@ -46,12 +46,12 @@ whole : (c : tie.After-record-bytes Inv-loop μ-loop)
 whole c =
     let b = c .before .before .before .before in
     bytes-whole _ _ _ _ _ _ _ _
-      (b .before .before .before .loop .inv .held)
-      (b .before .before .loop-test .taken)
-      (b .before .record-refusal .ensures)
-      (b .if1 .left)
-      (c .before .before .before .whole-record .ensures)
-      (c .record-bytes .ensures .0)
+    (b .before .before .before .loop .inv .held)
+    (b .before .before .loop-test .taken)
+    (b .before .record-refusal .ensures)
+    (b .if1 .left)
+    (c .before .before .before .whole-record .ensures)
+    (c .record-bytes .ensures .0)
 
 sub-rest : tie.Need-sub-rest Inv-loop μ-loop
 sub-rest c = whole c
@@ -73,12 +73,12 @@ loop-less c =
     let at-loop-test = at-record-refusal .before in
     let at-loop = at-loop-test .before in
     shorter _ _ _ _ _ _ _ _
-      (at-loop .loop .inv .held)
-      (at-loop-test .loop-test .taken)
-      (at-record-refusal .record-refusal .ensures)
-      (at-if1 .if1 .left)
-      (at-whole-record .whole-record .ensures)
-      (c .before .record-bytes .ensures .0)
+    (at-loop .loop .inv .held)
+    (at-loop-test .loop-test .taken)
+    (at-record-refusal .record-refusal .ensures)
+    (at-if1 .if1 .left)
+    (at-whole-record .whole-record .ensures)
+    (c .before .record-bytes .ensures .0)
 
 loop-again : tie.Need-loop-again Inv-loop μ-loop
 loop-again c =
@@ -91,13 +91,13 @@ loop-again c =
       s = _;
       held =
           held-again _ _ _ _ _ _ _ _
-            (at-loop .loop .inv .held)
-            (at-loop-test .loop-test .taken)
-            (at-record-refusal .record-refusal .ensures)
-            (at-if1 .if1 .left)
-            (at-whole-record .whole-record .ensures)
-            (c .before .record-bytes .ensures .0) _
-            (c .before .before .turned .ensures);
+          (at-loop .loop .inv .held)
+          (at-loop-test .loop-test .taken)
+          (at-record-refusal .record-refusal .ensures)
+          (at-if1 .if1 .left)
+          (at-whole-record .whole-record .ensures)
+          (c .before .record-bytes .ensures .0) _
+          (c .before .before .turned .ensures);
     }
 
 returns-2 : tie.Need-returns-2 Inv-loop μ-loop

@@ -32,7 +32,7 @@ returns c =
     let at-row-of = at-is-absent .before .before in
     let at-record-at = at-row-of .before in
     simp
-      (at-is-absent .is-absent .ensures, at-row-of .row-of .ensures, at-record-at .record-at .ensures, bad-element-is)
+    (at-is-absent .is-absent .ensures, at-row-of .row-of .ensures, at-record-at .record-at .ensures, bad-element-is)
 
 pub bad-element-spec : {M : Type 1} → statement M
 bad-element-spec =

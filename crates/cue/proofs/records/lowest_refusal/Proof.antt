@@ -21,8 +21,8 @@ unfolding markAt
 returns-3 c =
     let at-if1 = c .before .before .before .before in
     refused-22 _ _
-      (at-if1 .if1 .left)
-      (rw (← c .before .before .pair-at .ensures, ← c .before .record-bytes .ensures .0) (c .if3 .taken))
+    (at-if1 .if1 .left)
+    (rw (← c .before .before .pair-at .ensures, ← c .before .record-bytes .ensures .0) (c .if3 .taken))
 
 byte-at-requires : tie.Need-byte-at-requires
 byte-at-requires c κs = search needs
@@ -47,10 +47,10 @@ returns-4 c =
     let mark = b .before .before .pair-at .ensures in
     rw (c .first-of2 .ensures, c .before .bad-element .ensures, c .before .before .first-of .ensures, c .before .before .before .before .byte-at .ensures, mark)
     (refused-later _ _
-       (w .result)
-       (w .ensures)
-       (b .before .before .before .before .if1 .left)
-       (rw (← mark, ← b .before .record-bytes .ensures .0) (b .if3 .left)))
+    (w .result)
+    (w .ensures)
+    (b .before .before .before .before .if1 .left)
+    (rw (← mark, ← b .before .record-bytes .ensures .0) (b .if3 .left)))
 
 pub lowest-refusal-spec : {M : Type 1} → statement M
 lowest-refusal-spec =

@@ -34,9 +34,9 @@ returns-2 c e index h =
     let space = and-true _ _ (spare .0) in
     let below : address .result < 65536 = omega arith in
     register-good _
-      (c .before .before .before .before .if1 .left)
-      (rw (← mark .ensures) (space .0))
-      (sym (c .before .byte-at .ensures) ∙ eqb-true _ _ (space .1))
+    (c .before .before .before .before .if1 .left)
+    (rw (← mark .ensures) (space .0))
+    (sym (c .before .byte-at .ensures) ∙ eqb-true _ _ (space .1))
     (sym (c .byte-at2 .ensures) ∙ eqb-true _ _ (spare .1)) (rw (← address .ensures) (eqb-true _ _ (aligned .1)))
     (rw (← address .ensures) below) index h
 
