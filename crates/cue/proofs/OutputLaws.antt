@@ -2,9 +2,8 @@
 use Prim.Native.Nat.{ℕ, zero, suc, _+_, _*_, _≤_, _<_}
 use mathlib.Core.Path.{_≡_, refl, _∙_}
 use mathlib.Core.List.{List, [], _∷_, _++_, map}
-use mathlib.Core.Bool.{false}
 use native.Mathlib.Omega.{arith}
-use lib.ListN.{length, take, drop, length-append}
+use lib.ListN.{length, take, length-append}
 use lib.Seq.{take-append-seam, drop-append-seam, drop-append-add}
 use borrow.Author.Tests.{le-ltb, eq-eqb, ne-eqb}
 use Rattle.packet.specs.Bytes.{number, bytesOf}
@@ -12,7 +11,7 @@ use Rattle.packet.specs.Step.{Step}
 use Rattle.packet.proofs.StepLaws.{carried-le}
 use Rattle.cue.specs.Records.{records, recordsOf, recordBytes}
 use Rattle.cue.specs.Packing.{Command, joinAll, packetBytes, Open, commandsOf, joined, started, packFrom, packets}
-use Rattle.cue.specs.Output.{packetMark, framed, outputOf, parts, withPart, lengthAt, Front, frontOf, partBytes, behindPart, withFront, apartFrom, apart}
+use Rattle.cue.specs.Output.{packetMark, framed, outputOf, parts, withPart, lengthAt, frontOf, partBytes, behindPart, withFront, apartFrom, apart}
 use Rattle.cue.specs.Output.{part}
 use Rattle.cue.specs.Compile.{packed, output}
 use Rattle.cue.proofs.Relations.{Good}

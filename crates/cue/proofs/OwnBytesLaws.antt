@@ -1,23 +1,20 @@
 -- A record is judged by its own bytes: what follows it in the list and, 21 apart, its index play no part.
-use Prim.Native.Nat.{ℕ, _+_, _≤_, _<_}
-use mathlib.Core.Path.{_≡_, refl, sym, ap, _∙_}
+use Prim.Native.Nat.{ℕ, _+_, _≤_}
+use mathlib.Core.Path.{_≡_, refl}
 use mathlib.Core.Logic.{_≢_}
 use mathlib.Core.List.{List, _++_}
-use mathlib.Core.Bool.{Bool, true, false, not, _&&_, _||_}
+use mathlib.Core.Bool.{Bool, true, false, not, _&&_}
 use native.Mathlib.Omega.{arith}
-use lib.Dec.{eqb, ltb}
+use lib.Dec.{eqb}
 use lib.ListN.{length, take, drop, getD, length-append, length-drop, List·getD-append}
 use lib.Seq.{take-append-le, drop-append-le}
 use borrow.Author.Tests.{le-ltb, ne-eqb}
 use Rattle.packet.specs.Step.{Kind, read, write, infoRead, isInfo, carried, isWrite}
 use Rattle.packet.proofs.StepLaws.{pick-plain}
-use Rattle.packet.specs.Bytes.{number}
 use Rattle.packet.specs.Rules.{first}
-use Rattle.packet.specs.Command.{pickKind}
 use Rattle.packet.proofs.RuleLaws.{none-holds, first-of-none}
-use Rattle.lbp16.proofs.BoolLaws.{or-false}
 use Rattle.cue.specs.Records.{recordRefusals, recordStep, recordKind, recordBytes, recordSpace, valueBytes, upperHalf}
-use Rattle.cue.specs.Records.{markAt, readMark, writeMark, mostRecords}
+use Rattle.cue.specs.Records.{markAt, writeMark, mostRecords}
 
 -- m bytes from d on, where they stand in the list's first part
 inside : (m d : ℕ) (r x : List ℕ) → d + m ≤ length r → take m (drop d (r ++ x)) ≡ take m (drop d r)

@@ -12,7 +12,7 @@ use Rattle.lbp16.specs.Word.{wordOf}
 use Rattle.lbp16.specs.declared.pointer.Pointers.{Pointers}
 use Rattle.lbp16.proofs.WordLaws.{InRange, fields-of-word, word-below}
 use Rattle.packet.specs.Bytes.{bytesOf}
-use Rattle.packet.specs.Step.{Kind, read, write, infoRead, isInfo, carried, isWrite, unlocked, replyBytes}
+use Rattle.packet.specs.Step.{Kind, read, write, infoRead, isInfo, carried, unlocked, replyBytes}
 use Rattle.packet.specs.Command.{limit, fieldsAt, kindOf, rowOf, commandBytes as commandLength}
 use Rattle.packet.specs.Command.{headerBytes, addressUsed, stride, payload, elements, handed, stepsAt}
 use Rattle.packet.specs.Judge.{Carried, accepted, begin, carry, judgeFrom, judge}

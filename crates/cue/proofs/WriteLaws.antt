@@ -1,12 +1,11 @@
 -- Laws of what the second pass writes.
-use Prim.Native.Nat.{ℕ, suc, _+_, _-_, _/_, _%_, _≤_, _<_}
+use Prim.Native.Nat.{ℕ, _+_, _-_, _/_, _%_, _≤_, _<_}
 use mathlib.Core.Path.{_≡_, refl, _∙_}
 use mathlib.Core.List.{List, [], _∷_, _++_}
 use mathlib.Core.Bool.{true, false}
 use native.Mathlib.Omega.{arith}
-use native.Mathlib.Nat.{add-zero}
-use lib.ListN.{length, take, drop, getD, set, length-take, length-drop}
-use lib.Seq.{sets, drop-cons}
+use lib.ListN.{length, take, drop, set, length-take, length-drop}
+use lib.Seq.{sets}
 use borrow.Author.Tests.{le-ltb}
 use Rattle.lbp16.specs.Space.{Space, registers, eeprom, status, information, absent, spaceOf, row}
 use Rattle.lbp16.specs.Answer.{Answer, refusal}

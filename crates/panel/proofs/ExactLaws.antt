@@ -2,7 +2,9 @@
 use Prim.Native.Nat.{ℕ, zero, suc, _+_, _-_, _*_, _%_, _^_, _≤_, _<_}
 use mathlib.Core.Path.{_≡_, refl, sym, ap, _∙_}
 use mathlib.Core.Bool.{Bool, _&&_}
-use native.Mathlib.Nat.{zero-lt-suc, zero-mul, mul-one, one-mul, mul-comm, mul-assoc, mul-pos, pow-suc, eq-of-mul-eq-mul-right, mul-lt-mul-of-pos-right, lt-irrefl, lt-of-not-le, not-le-of-lt, le-of-suc-le-suc}
+use native.Mathlib.Nat.{zero-lt-suc, zero-mul, mul-one, one-mul, mul-comm, mul-assoc, mul-pos, pow-suc}
+use native.Mathlib.Nat.{eq-of-mul-eq-mul-right, mul-lt-mul-of-pos-right, lt-irrefl, lt-of-not-le, not-le-of-lt}
+use native.Mathlib.Nat.{le-of-suc-le-suc}
 use native.Mathlib.Omega.{arith}
 use lib.IntN.{ℤ, pos, negsuc}
 use lib.Dec.{T, eqb, ltb, leb, eqb→eq, ltb→lt, leb→le}

@@ -1,5 +1,5 @@
 -- Laws of the reading itself: what zero and the full value read, and that no reading is a NaN.
-use Prim.Native.Nat.{ℕ, zero, suc, _-_, _*_, _^_, _≤_, _<_}
+use Prim.Native.Nat.{ℕ, zero, suc, _*_, _^_, _≤_, _<_}
 use mathlib.Core.Path.{_≡_, refl, sym, ap, _∙_}
 use mathlib.Core.Bool.{Bool, true, false, not, _||_, cond, true≢false, false≢true}
 use native.Mathlib.Nat.{zero-lt-suc, zero-mul, mul-one, mul-assoc, mul-comm, mul-left-comm, mul-right-comm, mul-pos, lt-irrefl}

@@ -111,7 +111,13 @@ good-kept (suc fuel) index (b ∷ bs) xs e h = go _ _ refl (good-kept fuel (inde
     rest = b ∷ bs
 
     go : (r : ℕ) (v : Listed) → first (recordRefusals index rest) ≡ r
-        → ((ys : List Step) → v ≡ records ys → length (drop (recordBytes (recordKind rest)) rest) ≤ fuel → AllKept (scan (drop (recordBytes (recordKind rest)) rest)))
+        → ((ys : List Step) → v ≡ records ys → length
+        (drop (recordBytes (recordKind rest)) rest)
+        ≤
+        fuel
+        →
+        AllKept
+        (scan (drop (recordBytes (recordKind rest)) rest)))
         → listedAt r index (withRecord (recordStep rest) v) ≡ records xs → AllKept (scan rest)
     go zero (refused m i) f more e = let z : _≡_ {A = ℕ} 0 1 = cc in absurd (omega arith)
     go zero (records ys) f more e =

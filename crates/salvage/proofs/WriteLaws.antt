@@ -13,7 +13,8 @@ use Rattle.salvage.specs.Salvage.{Stretch, kept, scan, keptBytes, logFro
 use Rattle.salvage.specs.Inside.{firstSpan, tally, recordPart, entryPart, Ready}
 use Rattle.salvage.specs.declared.scan.Span.{Span}
 use Rattle.salvage.specs.declared.scan.Counts.{Counts}
-use Rattle.salvage.proofs.LoopLaws.{Held, Turn, Counting, counting-first, counting-next, this, kept-one, log-one, log-length, entries-append, held-last, held-within}
+use Rattle.salvage.proofs.LoopLaws.{Held, Turn, Counting, counting-first, counting-next, this, kept-one, log-one}
+use Rattle.salvage.proofs.LoopLaws.{log-length, entries-append, held-last, held-within}
 
 -- a stretch's bytes in the output
 module _ (s : Span) (rest : List ℕ) where

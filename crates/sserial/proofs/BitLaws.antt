@@ -48,7 +48,8 @@ word-bits (w ∷ ws) zero p n b h l =
         ap (λ (x : ℕ). x * joined ws) t ∙ (rw (mul-assoc, mul-assoc) refl)
 word-bits (w ∷ ws) (suc k) p n (Each.more b bs) h l =
     let e : suc k * 32 + p ≡ 32 + (k * 32 + p) = rw suc-mul (omega arith) in
-    let d : (w + 2 ^ 32 * joined ws) / 2 ^ (32 + (k * 32 + p)) ≡ joined ws / 2 ^ (k * 32 + p) = sym (shr-shr _ 32 (k * 32 + p)) ∙ ap (λ (x : ℕ). x / 2 ^ (k * 32 + p)) (high-part 32 w (joined ws) b) in
+    let d : (w + 2 ^ 32 * joined ws) / 2 ^ (32 + (k * 32 + p)) ≡ joined ws / 2 ^ (k * 32 + p) =
+    sym (shr-shr _ 32 (k * 32 + p)) ∙ ap (λ (x : ℕ). x / 2 ^ (k * 32 + p)) (high-part 32 w (joined ws) b) in
     rw (e, d) (word-bits ws k p n bs (omega arith) l)
 
 -- a bit's place as its word and the place there
@@ -72,7 +73,8 @@ module _ (at : ℕ) where
         shifted : chunk * 2 ^ (at % 32) * 2 ^ (at / 32 * 32) ≡ chunk * 2 ^ at
         shifted =
             let s : at % 32 + at / 32 * 32 ≡ at = omega arith in
-            mul-assoc chunk (2 ^ (at % 32)) (2 ^ (at / 32 * 32)) ∙ ap (λ (x : ℕ). chunk * x) (sym (pow-add 2 (at % 32) (at / 32 * 32)) ∙ ap (λ (x : ℕ). 2 ^ x) s)
+            mul-assoc chunk (2 ^ (at % 32)) (2 ^ (at / 32 * 32))
+            ∙ ap (λ (x : ℕ). chunk * x) (sym (pow-add 2 (at % 32) (at / 32 * 32)) ∙ ap (λ (x : ℕ). 2 ^ x) s)
 
   pub chunk-got : (ws : List ℕ) (n : ℕ) → Each (2 ^ 32) ws → at / 32 < length ws → at % 32 + n ≤ 32
       → getD ws (at / 32) 0 / 2 ^ (at % 32) % 2 ^ n ≡ joined ws / 2 ^ at % 2 ^ n
@@ -130,7 +132,8 @@ module _ {before out : List ℕ} {low width value at left rest : ℕ} (h : Putti
       omega arith
 
 -- a field's bits read so far
-module _ (ws : List ℕ) (low done n bits chunk p : ℕ) (e : bits ≡ joined ws / 2 ^ low % 2 ^ done) (k : chunk ≡ joined ws / 2 ^ (low + done) % 2 ^ n) (q : p ≡ 2 ^ done) where
+module _ (ws : List ℕ) (low done n bits chunk p : ℕ) (e : bits ≡ joined ws / 2 ^ low % 2 ^ done)
+    (k : chunk ≡ joined ws / 2 ^ (low + done) % 2 ^ n) (q : p ≡ 2 ^ done) where
   pub got-more : bits + chunk * p ≡ joined ws / 2 ^ low % 2 ^ (done + n)
   got-more =
       let d : joined ws / 2 ^ low / 2 ^ done % 2 ^ n ≡ chunk = ap (λ (x : ℕ). x % 2 ^ n) (shr-shr (joined ws) low done) ∙ sym k in

@@ -23,10 +23,12 @@ use Rattle.sserial.proofs.ChannelLaws.{channel-set, row-at}
 use Rattle.sserial.proofs.CheckedLaws.{Laid, Counts, laid-checked, refused-checked}
 
 -- an outcome from its parts
-pub refused-by : {a : Answer} (kept : List ℕ) → a ≡ refused 40 0 → _≡_ {A = Outcome} (record { answer = a; left = kept }) (record { answer = refused 40 0; left = kept })
+pub refused-by : {a : Answer} (kept : List ℕ) → a ≡ refused 40 0
+    → _≡_ {A = Outcome} (record { answer = a; left = kept }) (record { answer = refused 40 0; left = kept })
 refused-by kept e = λ i. record { answer = e i; left = kept }
 
-pub left-by : {after new : List ℕ} → after ≡ new → _≡_ {A = Outcome} (record { answer = accepted []; left = after }) (record { answer = accepted []; left = new })
+pub left-by : {after new : List ℕ} → after ≡ new
+    → _≡_ {A = Outcome} (record { answer = accepted []; left = after }) (record { answer = accepted []; left = new })
 left-by e = λ i. record { answer = accepted []; left = e i }
 
 -- a channel that is there
@@ -95,7 +97,12 @@ module _ (fs : List Field) (channel : ℕ) (values registers : List ℕ) where
 
 -- the words of one channel are words
 row-each : (registers : List ℕ) (at : ℕ) → ((i : ℕ) → getD registers i 0 < 2 ^ 32) → Each (2 ^ 32) (take 3 (drop at registers))
-row-each registers at h = each-below (2 ^ 32) _ (λ i l. let s : i < 3 = let t = length-take 3 (drop at registers) in omega arith in rw (getD-take 3 (drop at registers) i 0 s, getD-drop at registers i 0) (h (at + i)))
+row-each registers at h =
+    each-below
+    (2 ^ 32) _
+    (λ i l.
+    let s : i < 3 = let t = length-take 3 (drop at registers) in omega arith in
+    rw (getD-take 3 (drop at registers) i 0 s, getD-drop at registers i 0) (h (at + i)))
 
 -- A table that is not refused: the fields of either direction can be laid.
 wide-all : (fs : List Field) → anyMiswide fs ≡ false → AllWide fs

@@ -1,5 +1,5 @@
 -- Words as rows of three, taken apart and put back.
-use Prim.Native.Nat.{ℕ, zero, suc, _+_, _-_, _*_, _≤_, _<_}
+use Prim.Native.Nat.{ℕ, zero, suc, _+_, _*_, _≤_, _<_}
 use mathlib.Core.Path.{_≡_, refl, sym, ap, _∙_}
 use mathlib.Core.List.{List, [], _∷_, _++_, append-assoc, append-nil}
 use native.Mathlib.Omega.{arith}
@@ -55,7 +55,8 @@ module _ (all : List (List ℕ)) (before words : List ℕ) (i : ℕ) (eight : le
   pub rows-more : (after : List ℕ) → i < 8 → length (getD all i []) ≡ 3 → after ≡ sets words (3 * i) (getD all i [])
       → Rows all before after (i + 1)
   rows-more after l t e =
-      let n : flat (take (suc i) all) ≡ flat (take i all) ++ getD all i [] = ap flat (take-suc all i [] (omega arith)) ∙ flat-snoc (take i all) (getD all i []) in
+      let n : flat (take (suc i) all) ≡ flat (take i all) ++ getD all i [] =
+      ap flat (take-suc all i [] (omega arith)) ∙ flat-snoc (take i all) (getD all i []) in
       let w : length (flat (take i all)) ≡ 3 * i = h .long in
       let z : 0 + 3 * i ≡ 3 * i = omega arith in
       record {

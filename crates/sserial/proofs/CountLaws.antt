@@ -1,5 +1,5 @@
 -- A table entry by entry, and what counting its fields answers.
-use Prim.Native.Nat.{ℕ, suc, _+_, _-_, _≤_, _<_}
+use Prim.Native.Nat.{ℕ, suc, _+_, _≤_, _<_}
 use mathlib.Core.Path.{_≡_, refl, sym, _∙_}
 use mathlib.Core.Bool.{Bool, true, false, _||_, cond}
 use mathlib.Core.List.{List, [], _∷_}
@@ -11,7 +11,8 @@ use lib.Seq.{drop-cons}
 use lib.Dec.{eqb, ltb}
 use borrow.Author.Tests.{ltb-true, ltb-false, lt-ltb, le-ltb, eqb-false}
 use Rattle.lbp16.specs.Answer.{accepted, refused}
-use Rattle.sserial.specs.Table.{Table, unreadable, fields, Checked, standsIn, directed, bits, anyMiswide, overfull, checked, checkedAt, tableFrom, tableAt, withField, withEntry}
+use Rattle.sserial.specs.Table.{Table, unreadable, fields, Checked, standsIn, directed, bits, anyMiswide}
+use Rattle.sserial.specs.Table.{overfull, checked, checkedAt, tableFrom, tableAt, withField, withEntry}
 use Rattle.sserial.specs.Calls.{counted}
 use Rattle.sserial.specs.Inside.{Small, Within, sumWith, sumsWith, sumsAnswer, countOn, entryAt}
 use Rattle.sserial.specs.declared.table.Field.{Field}

@@ -34,7 +34,12 @@ packed = 1 ∷ 2 ∷ 3 ∷ 5 ∷ 261632 ∷ 0 ∷ 7 ∷ 8 ∷ 9 ∷ 10 ∷ 11 �
 
 -- opens every definition
 all : Bool
-unfolding field mode card good registers packed Table.textBytes Table.nulOf Table.namePlace Table.fieldOf Table.soundField Table.soundMode Table.recordAt Table.entryOf Table.withField Table.withEntry Table.tableFrom Table.tableAt Table.standsIn Table.directed Table.bits Table.anyMiswide Table.overfull Table.checked Table.checkedAt Layout.joined Layout.wordsOf Layout.isSigned Layout.valueOf Layout.bitsOf Layout.inRange Layout.packed Layout.unpacked Layout.fitting Calls.counted Calls.shown Calls.front Calls.indexed Calls.noChannel Calls.packedBy Calls.packedTo Calls.unpackedBy Calls.unpackedTo
+unfolding field mode card good registers packed Table.textBytes Table.nulOf Table.namePlace Table.fieldOf
+    Table.soundField Table.soundMode Table.recordAt Table.entryOf Table.withField Table.withEntry Table.tableFrom
+    Table.tableAt Table.standsIn Table.directed Table.bits Table.anyMiswide Table.overfull Table.checked Table.checkedAt
+    Layout.joined Layout.wordsOf Layout.isSigned Layout.valueOf Layout.bitsOf Layout.inRange Layout.packed
+    Layout.unpacked Layout.fitting Calls.counted Calls.shown Calls.front Calls.indexed Calls.noChannel Calls.packedBy
+    Calls.packedTo Calls.unpackedBy Calls.unpackedTo
 all = true
 
 counts : counted (checkedAt good 0) ≡ accepted (1 ∷ 3 ∷ [])

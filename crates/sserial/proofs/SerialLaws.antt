@@ -142,7 +142,17 @@ module _ (fs : List Field) (wide : AllWide fs) (few : bits fs ≤ 96) (channel :
       let n : length w ≡ 3 = words-length 3 (packed fs values) in
       let r : take 3 (drop (3 * channel) (sets registers (3 * channel) w)) ≡ w = rw n at (set-there registers w (3 * channel) (omega arith)) in
       let b : packed fs values < 2 ^ (3 * 32) = lt-of-lt-of-le (packed-below fs values) (pow-mono few) in
-      rw (pack-done fs channel values registers (a .0) (a .1), unpack-done fs channel room (sets registers (3 * channel) w) (no-channel-sets channel (3 * channel) registers w ∙ a .0) (omega arith), r, joined-words 3 (packed fs values) b, pack-back fs values wide each (a .1)) refl
+      rw (
+        pack-done fs channel values registers (a .0) (a .1),
+        unpack-done fs channel room
+            (sets registers (3 * channel) w)
+            (no-channel-sets channel (3 * channel) registers w ∙ a .0)
+            (omega arith),
+        r,
+        joined-words 3 (packed fs values) b,
+        pack-back fs values wide each (a .1),
+      )
+      refl
 
   registers-back : (registers room other : List ℕ) → length other ≡ 24
       → unpackedBy fs channel registers room .answer ≡ accepted []
@@ -155,7 +165,12 @@ module _ (fs : List Field) (wide : AllWide fs) (few : bits fs ≤ 96) (channel :
       let a = accepted-unpack fs channel registers room h in
       let t = channel-there channel registers (a .0) in
       let n : ℕ = joined (take 3 (drop (3 * channel) registers)) in
-      rw (unpack-done fs channel room registers (a .0) (a .1), pack-done fs channel (unpacked fs n) other (same-room (a .0)) (unpacked-fits fs n wide), unpack-back fs n wide) refl
+      rw (
+        unpack-done fs channel room registers (a .0) (a .1),
+        pack-done fs channel (unpacked fs n) other (same-room (a .0)) (unpacked-fits fs n wide),
+        unpack-back fs n wide,
+      )
+      refl
     where
       same-room : noChannel channel registers ≡ false → noChannel channel other ≡ false
       same-room e = let t = channel-there channel registers e in there channel other (t .0) long
@@ -190,7 +205,8 @@ module _ (m : List ℕ) (at : ℕ) (d : Direction) (channel : ℕ) where
       (registers-back (directed d fs) (laid-wide fs (fits m at fs e d) d) (laid-bits fs (fits m at fs e d) d) channel registers room other long (rw e at h))
 
 -- A refusal changes nothing, and packing no word of another channel.
-kept-by : (t : Bool) (n p : ℕ) (kept new : List ℕ) → cond {A = Outcome} t (record { answer = refused 40 0; left = kept }) (record { answer = accepted []; left = new }) .answer ≡ refused n p
+kept-by : (t : Bool) (n p : ℕ) (kept new : List ℕ)
+    → cond {A = Outcome} t (record { answer = refused 40 0; left = kept }) (record { answer = accepted []; left = new }) .answer ≡ refused n p
     → cond {A = Outcome} t (record { answer = refused 40 0; left = kept }) (record { answer = accepted []; left = new }) .left ≡ kept
 kept-by true n p kept new h = refl
 kept-by false n p kept new h = let z : _≡_ {A = ℕ} 0 1 = cc in absurd (omega arith)
@@ -222,7 +238,14 @@ module _ (k : Checked) (d : Direction) (channel : ℕ) (values registers : List 
   other-words j h = go k
     where
       put : (t : Bool) (n : ℕ)
-          → getD (cond {A = Outcome} t (record { answer = refused 40 0; left = registers }) (record { answer = accepted []; left = sets registers (3 * channel) (wordsOf 3 n) }) .left) j 0
+          → getD
+          (cond
+          {A = Outcome}
+          t
+          (record { answer = refused 40 0; left = registers })
+          (record { answer = accepted []; left = sets registers (3 * channel) (wordsOf 3 n) }) .left)
+          j
+          0
           ≡ getD registers j 0
       put true n = refl
       put false n = set-elsewhere registers (wordsOf 3 n) (3 * channel) j (rw (words-length 3 n) h)

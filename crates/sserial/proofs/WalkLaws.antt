@@ -1,5 +1,5 @@
 -- The fields of one direction one after the other: `fs` are those still to come, `fs₀` all of them.
-use Prim.Native.Nat.{ℕ, suc, _+_, _-_, _*_, _/_, _%_, _^_, _≤_, _<_}
+use Prim.Native.Nat.{ℕ, suc, _+_, _*_, _/_, _%_, _^_, _≤_, _<_}
 use mathlib.Core.Path.{_≡_, refl, sym, ap, ap₂, _∙_}
 use mathlib.Core.Bool.{Bool, true, false, _&&_}
 use mathlib.Core.List.{List, [], _∷_, _++_, append-nil, append-assoc}
@@ -85,7 +85,8 @@ module _ {fs₀ fs : List Field} {vs words : List ℕ} {good : Bool} {low j : �
         let c = h .count in
         let k : length fs ≡ suc (length gs) = rw e refl in
         let p : joined words + 2 ^ low * (b + 2 ^ (f .width) * packed gs (drop (suc j) vs)) ≡ packed fs₀ vs = rw q (rw (e, d) at (h .sum)) in
-        let m : 2 ^ low * (b + 2 ^ (f .width) * packed gs (drop (suc j) vs)) ≡ b * 2 ^ low + 2 ^ (low + f .width) * packed gs (drop (suc j) vs) = spread b (packed gs (drop (suc j) vs)) in
+        let m : 2 ^ low * (b + 2 ^ (f .width) * packed gs (drop (suc j) vs)) ≡ b * 2 ^ low + 2 ^ (low + f .width) * packed gs (drop (suc j) vs) =
+        spread b (packed gs (drop (suc j) vs)) in
         record {
           count = omega arith;
           wide = tail-wide (rw e at (h .wide));
@@ -98,7 +99,12 @@ module _ {fs₀ fs : List Field} {vs words : List ℕ} {good : Bool} {low j : �
         }
       where
         spread : (b p : ℕ) → 2 ^ low * (b + 2 ^ (f .width) * p) ≡ b * 2 ^ low + 2 ^ (low + f .width) * p
-        spread b p = mul-add (2 ^ low) b (2 ^ (f .width) * p) ∙ ap₂ (λ (x y : ℕ). x + y) (mul-comm (2 ^ low) b) (sym (mul-assoc (2 ^ low) (2 ^ (f .width)) p) ∙ ap (λ (x : ℕ). x * p) (sym (pow-add 2 low (f .width))))
+        spread b p =
+            mul-add (2 ^ low) b (2 ^ (f .width) * p)
+            ∙ ap₂
+            (λ (x y : ℕ). x + y)
+            (mul-comm (2 ^ low) b)
+            (sym (mul-assoc (2 ^ low) (2 ^ (f .width)) p) ∙ ap (λ (x : ℕ). x * p) (sym (pow-add 2 low (f .width))))
 
   pub packing-done : length vs ≤ j → (good ≡ fitting fs₀ vs) × (words ≡ wordsOf 3 (packed fs₀ vs))
   unfolding packed fitting

@@ -1,6 +1,6 @@
 // Bits of a channel's three words, which are read as one number: the low bit of word 0 first.
 ghost use mathlib.Core.Path.{_≡_};
-ghost use Prim.Native.Nat.{_+_, _*_, _/_, _%_, _^_, _<_, _≤_, min};
+ghost use Prim.Native.Nat.{_+_, _*_, _/_, _%_, _^_, _<_, _≤_};
 ghost use Rattle.sserial.specs.Layout.{joined};
 ghost use Rattle.sserial.specs.Inside.{Each};
 

@@ -51,7 +51,8 @@ fn pack_fields(
     registers: &mut [u32],
 ) -> CallAnswer
     requires { ⌜ Packable d (now memory) table 0 n ⌝ }
-    ensures { λ r. ⌜ called r (now (registers .exit)) ≡ packedBy (fieldsLeft d (now (memory .entry)) table) channel (now (values .entry)) (now (registers .entry)) ⌝ }
+    ensures { λ r. ⌜ called r (now (registers .exit))
+        ≡ packedBy (fieldsLeft d (now (memory .entry)) table) channel (now (values .entry)) (now (registers .entry)) ⌝ }
 {
     if no_channel(channel, registers) {
         return bad_call();
@@ -80,7 +81,8 @@ fn unpack_fields(
     values: &mut [u64],
 ) -> CallAnswer
     requires { ⌜ Packable d (now memory) table 0 n ⌝ }
-    ensures { λ r. ⌜ called r (now (values .exit)) ≡ unpackedBy (fieldsLeft d (now (memory .entry)) table) channel (now (registers .entry)) (now (values .entry)) ⌝ }
+    ensures { λ r. ⌜ called r (now (values .exit))
+        ≡ unpackedBy (fieldsLeft d (now (memory .entry)) table) channel (now (registers .entry)) (now (values .entry)) ⌝ }
 {
     if no_channel(channel, registers) {
         return bad_call();
@@ -104,7 +106,8 @@ pub fn pack(
     values: &[u64],
     registers: &mut [u32],
 ) -> CallAnswer
-    ensures { λ r. ⌜ called r (now (registers .exit)) ≡ packedTo (checkedAt (now (memory .entry)) table) d channel (now (values .entry)) (now (registers .entry)) ⌝ }
+    ensures { λ r. ⌜ called r (now (registers .exit))
+        ≡ packedTo (checkedAt (now (memory .entry)) table) d channel (now (values .entry)) (now (registers .entry)) ⌝ }
 {
     let answer = count::count_fields(memory, table);
     match answer {
@@ -125,7 +128,8 @@ pub fn unpack(
     registers: &[u32],
     values: &mut [u64],
 ) -> CallAnswer
-    ensures { λ r. ⌜ called r (now (values .exit)) ≡ unpackedTo (checkedAt (now (memory .entry)) table) d channel (now (registers .entry)) (now (values .entry)) ⌝ }
+    ensures { λ r. ⌜ called r (now (values .exit))
+        ≡ unpackedTo (checkedAt (now (memory .entry)) table) d channel (now (registers .entry)) (now (values .entry)) ⌝ }
 {
     let answer = count::count_fields(memory, table);
     match answer {

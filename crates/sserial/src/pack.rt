@@ -17,7 +17,8 @@ pub(crate) struct Packed {
 
 pub(crate) fn pack_values(memory: &[u8], table: u16, d: Direction, values: &[u64]) -> Packed
     requires { ⌜ Packable d (now memory) table 0 (length (now values)) ⌝ }
-    ensures { λ r. ⌜ (r .good ≡ fitting (fieldsLeft d (now (memory .entry)) table) (now (values .entry))) × (r .words ≡ wordsOf 3 (packed (fieldsLeft d (now (memory .entry)) table) (now (values .entry)))) ⌝ }
+    ensures { λ r. ⌜ (r .good ≡ fitting (fieldsLeft d (now (memory .entry)) table) (now (values .entry)))
+        × (r .words ≡ wordsOf 3 (packed (fieldsLeft d (now (memory .entry)) table) (now (values .entry)))) ⌝ }
 {
     let mut words = [0u32; 3];
     let mut good = true;

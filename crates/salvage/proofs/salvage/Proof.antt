@@ -17,7 +17,10 @@ unfolding salvageListed
 returns-2 c = sym (too-few _ _ _ _ (c .before .before .count .ensures) (c .before .before .before .if1 .left) (c .if2 .taken))
 
 write-requires : tie.Need-write-requires
-write-requires c κs = ready _ _ _ _ (c .before .before .before .before .count .ensures) (c .before .before .before .before .before .if1 .left) (c .before .before .if2 .left)
+write-requires c κs =
+    let at-count = c .before .before .before .before in
+    let at-if1 = at-count .before in
+    ready _ _ _ _ (at-count .count .ensures) (at-if1 .if1 .left) (c .before .before .if2 .left)
 
 same-length : tie.Need-same-length
 same-length c = search needs
@@ -27,7 +30,17 @@ same-length-2 c = search needs
 
 returns-3 : tie.Need-returns-3
 unfolding salvageListed
-returns-3 c = sym (all-written _ _ _ _ (c .before .before .before .before .before .before .before .before .before .count .ensures) (c .before .before .before .before .before .before .before .before .before .before .if1 .left) _ _ (c .before .before .before .before .before .before .before .if2 .left) (c .before .before .before .before .write .ensures))
+returns-3 c =
+    let at-write = c .before .before .before .before in
+    let at-if2 = at-write .before .before .before in
+    let at-count = at-if2 .before .before in
+    let at-if1 = at-count .before in
+    sym
+    (all-written _ _ _ _
+    (at-count .count .ensures)
+    (at-if1 .if1 .left) _ _
+    (at-if2 .if2 .left)
+    (at-write .write .ensures))
 
 pub salvage-spec : {M : Type 1} → statement M
 salvage-spec =

@@ -83,7 +83,13 @@ returns-4 : tie.Need-returns-4
 unfolding boundsOf
 returns-4 c =
     let s = c .before .before .before in
-    c .scaled .ensures ∙ rw (s .bounds-of .ensures) (sym (sound _ _ _ _ _ (field-good (s .before)) (by-order _ (both-finite (s .before)) ∙ disordered (sym (s .bounds-of .ensures)) ∙ c .before .if3 .left)))
+    c .scaled .ensures
+    ∙ rw
+    (s .bounds-of .ensures)
+    (sym
+    (sound _ _ _ _ _
+    (field-good (s .before))
+    (by-order _ (both-finite (s .before)) ∙ disordered (sym (s .bounds-of .ensures)) ∙ c .before .if3 .left)))
 
 pub reading-spec : {M : Type 1} → statement M
 reading-spec =

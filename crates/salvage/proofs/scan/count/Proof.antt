@@ -32,16 +32,56 @@ span-at-requires : tie.Need-span-at-requires Inv-loop μ-loop
 span-at-requires c κs = search needs
 
 tallied-requires : tie.Need-tallied-requires Inv-loop μ-loop
-tallied-requires c κs = roomy _ _ _ _ _ (c .before .before .before .loop .inv .counting) (c .before .before .loop-test .taken) (c .span-at .ensures) (omega arith)
+tallied-requires c κs =
+    let at-loop = c .before .before .before in
+    roomy _ _ _ _ _
+    (at-loop .loop .inv .counting)
+    (c .before .before .loop-test .taken)
+    (c .span-at .ensures)
+    (omega arith)
 
 add-at : tie.Need-add-at Inv-loop μ-loop
-add-at c = omega (arith, behind-within _ _ _ _ _ (c .before .before .before .before .before .loop .inv .counting) (c .before .before .before .before .loop-test .taken) (c .before .before .span-at .ensures))
+add-at c =
+    let at-loop-test = c .before .before .before .before in
+    let at-loop = at-loop-test .before in
+    omega (
+      arith,
+      behind-within _ _ _ _ _
+          (at-loop .loop .inv .counting)
+          (at-loop-test .loop-test .taken)
+          (c .before .before .span-at .ensures),
+    )
 
 loop-less : tie.Need-loop-less Inv-loop μ-loop
-loop-less c = omega (arith, some-bytes _ _ _ _ _ (c .before .before .before .before .before .loop .inv .counting) (c .before .before .before .before .loop-test .taken) (c .before .before .span-at .ensures), behind-within _ _ _ _ _ (c .before .before .before .before .before .loop .inv .counting) (c .before .before .before .before .loop-test .taken) (c .before .before .span-at .ensures))
+loop-less c =
+    let at-span-at = c .before .before in
+    let at-loop-test = at-span-at .before .before in
+    let at-loop = at-loop-test .before in
+    omega (
+      arith,
+      some-bytes _ _ _ _ _
+          (at-loop .loop .inv .counting)
+          (at-loop-test .loop-test .taken)
+          (at-span-at .span-at .ensures),
+      behind-within _ _ _ _ _
+          (at-loop .loop .inv .counting)
+          (at-loop-test .loop-test .taken)
+          (at-span-at .span-at .ensures),
+    )
 
 loop-again : tie.Need-loop-again Inv-loop μ-loop
-loop-again c = record { done = _; counting = counting-next _ _ _ _ _ (c .before .before .before .before .before .loop .inv .counting) (c .before .before .before .before .loop-test .taken) (c .before .before .span-at .ensures) _ (c .before .tallied .ensures) }
+loop-again c =
+    let at-loop-test = c .before .before .before .before in
+    let at-loop = at-loop-test .before in
+    record {
+      done = _;
+      counting =
+          counting-next _ _ _ _ _
+          (at-loop .loop .inv .counting)
+          (at-loop-test .loop-test .taken)
+          (c .before .before .span-at .ensures) _
+          (c .before .tallied .ensures);
+    }
 
 returns : tie.Need-returns Inv-loop μ-loop
 returns c = counting-last (c .before .loop .inv .counting) (omega arith)

@@ -32,7 +32,11 @@ loop-less : tie.Need-loop-less Inv-loop μ-loop
 loop-less c = omega arith
 
 loop-again : tie.Need-loop-again Inv-loop μ-loop
-loop-again c = let l = c .before .before .loop in let h : l .i < length (c .before .before .before .args .rest .now) = omega arith in (omega arith, rw length-set (l .inv .1), rw (l .inv .2) (copy-more (c .before .before .before .args .out .now) _ _ _ h))
+loop-again c =
+    let at-args = c .before .before .before in
+    let l = c .before .before .loop in
+    let h : l .i < length (at-args .args .rest .now) = omega arith in
+    (omega arith, rw length-set (l .inv .1), rw (l .inv .2) (copy-more (at-args .args .out .now) _ _ _ h))
 
 same-length : tie.Need-same-length Inv-loop μ-loop
 same-length c = c .before .loop .inv .1

@@ -42,22 +42,72 @@ part-put-record-end : tie.Need-part-put-record-end Inv-loop μ-loop
 part-put-record-end c = let h = held-within (c .before .before .before .before .loop .inv .counting .held) in search needs
 
 put-record-requires : tie.Need-put-record-requires Inv-loop μ-loop
-put-record-requires c κs = let a = c .before .before in record-room _ _ _ _ _ _ _ (a .before .before .before .before .before .before .before .before .pre) (a .before .before .before .loop .inv) _ (a .before .before .loop-test .taken) (a .span-at .ensures)
+put-record-requires c κs =
+    let at-loop-test = c .before .before .before .before in
+    let at-loop = at-loop-test .before in
+    let at-entry = at-loop .before .before .before .before .before in
+    record-room _ _ _ _ _ _ _
+    (at-entry .pre)
+    (at-loop .loop .inv) _
+    (at-loop-test .loop-test .taken)
+    (c .before .before .span-at .ensures)
 
 put-entry-requires : tie.Need-put-entry-requires Inv-loop μ-loop
-put-entry-requires c κs = let a = c .before .before .before .before .before .before in entry-room _ _ _ _ _ _ _ (a .before .before .before .before .before .before .before .before .pre) (a .before .before .before .loop .inv) _ (a .before .before .loop-test .taken) (a .span-at .ensures)
+put-entry-requires c κs =
+    let at-span-at = c .before .before .before .before .before .before in
+    let at-loop-test = at-span-at .before .before in
+    let at-loop = at-loop-test .before in
+    let at-entry = at-loop .before .before .before .before .before in
+    entry-room _ _ _ _ _ _ _
+    (at-entry .pre)
+    (at-loop .loop .inv) _
+    (at-loop-test .loop-test .taken)
+    (at-span-at .span-at .ensures)
 
 tallied-requires : tie.Need-tallied-requires Inv-loop μ-loop
-tallied-requires c κs = let a = c .before .before .before .before .before .before .before .before .before in roomy _ _ _ _ _ (a .before .before .before .loop .inv .counting) (a .before .before .loop-test .taken) (a .span-at .ensures) (omega arith)
+tallied-requires c κs =
+    let at-span-at = c .before .before .before .before .before .before .before .before .before in
+    let at-loop-test = at-span-at .before .before in
+    let at-loop = at-loop-test .before in
+    roomy _ _ _ _ _
+    (at-loop .loop .inv .counting)
+    (at-loop-test .loop-test .taken)
+    (at-span-at .span-at .ensures)
+    (omega arith)
 
 add-at : tie.Need-add-at Inv-loop μ-loop
-add-at c = let a = c .before .before .before .before .before .before .before .before .before .before .before in let h = behind-within _ _ _ _ _ (a .before .before .before .loop .inv .counting) (a .before .before .loop-test .taken) (a .span-at .ensures) in omega arith
+add-at c =
+    let at-span-at = c .before .before .before .before .before .before .before .before .before .before .before in
+    let at-loop-test = at-span-at .before .before in
+    let at-loop = at-loop-test .before in
+    let h = behind-within _ _ _ _ _ (at-loop .loop .inv .counting) (at-loop-test .loop-test .taken) (at-span-at .span-at .ensures) in
+    omega arith
 
 loop-less : tie.Need-loop-less Inv-loop μ-loop
-loop-less c = let a = c .before .before .before .before .before .before .before .before .before .before .before in let h = behind-within _ _ _ _ _ (a .before .before .before .loop .inv .counting) (a .before .before .loop-test .taken) (a .span-at .ensures) in let k = some-bytes _ _ _ _ _ (a .before .before .before .loop .inv .counting) (a .before .before .loop-test .taken) (a .span-at .ensures) in omega arith
+loop-less c =
+    let at-span-at = c .before .before .before .before .before .before .before .before .before .before .before in
+    let at-loop-test = at-span-at .before .before in
+    let at-loop = at-loop-test .before in
+    let h = behind-within _ _ _ _ _ (at-loop .loop .inv .counting) (at-loop-test .loop-test .taken) (at-span-at .span-at .ensures) in
+    let k = some-bytes _ _ _ _ _ (at-loop .loop .inv .counting) (at-loop-test .loop-test .taken) (at-span-at .span-at .ensures) in
+    omega arith
 
 loop-again : tie.Need-loop-again Inv-loop μ-loop
-loop-again c = let a = c .before .before .before .before .before .before .before .before .before .before .before in writing-next _ _ _ _ _ _ _ (a .before .before .before .before .before .before .before .before .pre) (a .before .before .before .loop .inv) _ (a .before .before .loop-test .taken) (a .span-at .ensures) _ _ _ (c .before .tallied .ensures) (c .before .before .before .before .before .before .before .before .put-record .ensures) (c .before .before .before .before .put-entry .ensures)
+loop-again c =
+    let at-put-entry = c .before .before .before .before in
+    let at-put-record = at-put-entry .before .before .before .before in
+    let at-span-at = at-put-record .before .before .before in
+    let at-loop-test = at-span-at .before .before in
+    let at-loop = at-loop-test .before in
+    let at-entry = at-loop .before .before .before .before .before in
+    writing-next _ _ _ _ _ _ _
+    (at-entry .pre)
+    (at-loop .loop .inv) _
+    (at-loop-test .loop-test .taken)
+    (at-span-at .span-at .ensures) _ _ _
+    (c .before .tallied .ensures)
+    (at-put-record .put-record .ensures)
+    (at-put-entry .put-entry .ensures)
 
 same-length : tie.Need-same-length Inv-loop μ-loop
 same-length c = room-same _ _ _ _ _ _ _ (c .before .before .before .before .before .before .pre) (c .before .loop .inv)

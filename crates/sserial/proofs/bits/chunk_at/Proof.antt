@@ -29,7 +29,11 @@ rem-result : tie.Need-rem-result
 rem-result c = rw (c .power2 .ensures) (pow-pos _)
 
 returns : tie.Need-returns
-returns c = let p = c .before .before .pre in let l : length (c .before .before .args .t1) ≡ 3 = search needs in rw (c .power2 .ensures, c .before .power .ensures) (chunk-got _ _ _ (p .2) (omega arith) (p .1))
+returns c =
+    let at-entry = c .before .before in
+    let p = at-entry .pre in
+    let l : length (at-entry .args .t1) ≡ 3 = search needs in
+    rw (c .power2 .ensures, c .before .power .ensures) (chunk-got _ _ _ (p .2) (omega arith) (p .1))
 
 pub chunk-at-spec : {M : Type 1} → statement M
 chunk-at-spec =

@@ -15,7 +15,13 @@ abbrev μ-loop : tie.MeasureT-loop
 μ-loop words low width bits₀ done₀ bits done = width - done
 
 fits : (c : tie.After-power Inv-loop μ-loop) → c .before .before .before .before .loop .bits + c .before .chunk-at .result * c .power .result < 2 ^ 64
-fits c = let g = got-fits _ _ _ _ _ _ _ (c .before .before .before .before .loop .inv .1) (c .before .chunk-at .ensures) (c .power .ensures) in let w = c .before .before .within .ensures .0 in let m : 2 ^ (c .before .before .before .before .loop .done + c .before .before .within .result) ≤ 2 ^ 64 = pow-mono {j = 64} (omega arith) in omega arith
+fits c =
+    let at-within = c .before .before in
+    let at-loop = at-within .before .before in
+    let g = got-fits _ _ _ _ _ _ _ (at-loop .loop .inv .1) (c .before .chunk-at .ensures) (c .power .ensures) in
+    let w = at-within .within .ensures .0 in
+    let m : 2 ^ (at-loop .loop .done + at-within .within .result) ≤ 2 ^ 64 = pow-mono {j = 64} (omega arith) in
+    omega arith
 
 loop-holds : tie.Need-loop-holds Inv-loop μ-loop
 loop-holds c = (omega arith, omega arith)
@@ -48,7 +54,10 @@ loop-less : tie.Need-loop-less Inv-loop μ-loop
 loop-less c = let w = c .before .before .within .ensures in let v = w .2 (omega arith) in omega arith
 
 loop-again : tie.Need-loop-again Inv-loop μ-loop
-loop-again c = let w = c .before .before .within .ensures .0 in (omega arith, got-more _ _ _ _ _ _ _ (c .before .before .before .before .loop .inv .1) (c .before .chunk-at .ensures) (c .power .ensures))
+loop-again c =
+    let at-loop = c .before .before .before .before in
+    let w = c .before .before .within .ensures .0 in
+    (omega arith, got-more _ _ _ _ _ _ _ (at-loop .loop .inv .1) (c .before .chunk-at .ensures) (c .power .ensures))
 
 returns : tie.Need-returns Inv-loop μ-loop
 returns c = let i = c .before .loop .inv in let e : c .before .loop .done ≡ c .before .before .args .width = omega arith in rw e at (i .1)

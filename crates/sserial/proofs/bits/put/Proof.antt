@@ -27,7 +27,12 @@ rem-put-chunk : tie.Need-rem-put-chunk Inv-loop μ-loop
 rem-put-chunk c = rw (c .power .ensures) (pow-pos _)
 
 put-chunk-requires : tie.Need-put-chunk-requires Inv-loop μ-loop
-put-chunk-requires c κs = let i = c .before .before .before .loop .inv in let h = i .1 .end in let w = c .before .within .ensures in (omega arith, w .1, rw (c .power .ensures) (mod-lt _ (pow-pos _)), i .1 .free, i .1 .each)
+put-chunk-requires c κs =
+    let at-loop = c .before .before .before in
+    let i = at-loop .loop .inv in
+    let h = i .1 .end in
+    let w = c .before .within .ensures in
+    (omega arith, w .1, rw (c .power .ensures) (mod-lt _ (pow-pos _)), i .1 .free, i .1 .each)
 
 div-rest : tie.Need-div-rest Inv-loop μ-loop
 div-rest c = rw (c .before .power .ensures) (pow-pos _)
@@ -42,7 +47,18 @@ loop-less : tie.Need-loop-less Inv-loop μ-loop
 loop-less c = let w = c .before .before .within .ensures .2 (c .before .before .before .loop-test .taken) in omega arith
 
 loop-again : tie.Need-loop-again Inv-loop μ-loop
-loop-again c = let i = c .before .before .before .before .loop .inv in (i .0, put-more (i .1) _ _ _ (c .before .before .within .ensures .0) (c .before .power .ensures) (c .put-chunk .ensures .0) (c .put-chunk .ensures .1) (search needs))
+loop-again c =
+    let at-loop = c .before .before .before .before in
+    let i = at-loop .loop .inv in (
+      i .0,
+      put-more
+          (i .1) _ _ _
+          (c .before .before .within .ensures .0)
+          (c .before .power .ensures)
+          (c .put-chunk .ensures .0)
+          (c .put-chunk .ensures .1)
+          (search needs),
+    )
 
 returns : tie.Need-returns Inv-loop μ-loop
 returns c = let i = c .before .loop .inv in (put-done (i .1) (c .loop-test .left), i .1 .each)

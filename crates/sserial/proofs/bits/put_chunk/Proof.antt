@@ -12,7 +12,10 @@ power-requires : tie.Need-power-requires
 power-requires c κs = search needs
 
 fits : (c : tie.After-power) → getD (c .before .args .words) (c .before .args .at / 32) 0 + c .before .args .chunk * c .power .result < 2 ^ 32
-fits c = let p = c .before .pre in let l : length (c .before .args .words) ≡ 3 = search needs in rw (c .power .ensures) (word-fits _ _ _ _ (omega arith) (p .1) (p .2) (p .3))
+fits c =
+    let p = c .before .pre in
+    let l : length (c .before .args .words) ≡ 3 = search needs in
+    rw (c .power .ensures) (word-fits _ _ _ _ (omega arith) (p .1) (p .2) (p .3))
 
 mul-shifted : tie.Need-mul-shifted
 mul-shifted c = let h = fits c in record { fits = omega arith }
@@ -36,7 +39,10 @@ array-write-out : tie.Need-array-write-out
 array-write-out c = search needs
 
 returns : tie.Need-returns
-returns c = let p = c .before .pre in let l : length (c .before .args .words) ≡ 3 = search needs in (rw (c .power .ensures) (chunk-put _ _ _ _ (omega arith) (p .1) (p .2) (p .3)), each-set _ _ _ _ (p .4) (fits c))
+returns c =
+    let p = c .before .pre in
+    let l : length (c .before .args .words) ≡ 3 = search needs in
+    (rw (c .power .ensures) (chunk-put _ _ _ _ (omega arith) (p .1) (p .2) (p .3)), each-set _ _ _ _ (p .4) (fits c))
 
 pub put-chunk-spec : {M : Type 1} → statement M
 put-chunk-spec =

@@ -21,7 +21,12 @@ fields-of-requires c κs = search needs
 
 unpack-fields-requires : tie.Need-unpack-fields-requires
 unfolding tableListed checkedAt
-unpack-fields-requires c κs = let b = c .before .before .before in packable _ _ _ _ _ _ (accepted-checked _ _ _ (rw (b .answer2 .given .1) at (b .before .before .count-fields .ensures))) (c .before .fields-of .ensures)
+unpack-fields-requires c κs =
+    let at-answer2 = c .before .before .before in
+    let at-count-fields = at-answer2 .before .before in
+    packable _ _ _ _ _ _
+    (accepted-checked _ _ _ (rw (at-answer2 .answer2 .given .1) at (at-count-fields .count-fields .ensures)))
+    (c .before .fields-of .ensures)
 
 returns : tie.Need-returns
 unfolding tableListed callListed
@@ -32,7 +37,13 @@ same-length c = search needs
 
 returns-2 : tie.Need-returns-2
 unfolding tableListed checkedAt
-returns-2 c = let b = c .before .before .before .before .before .before in rw (unpacked-laid _ _ _ _ _ _ (accepted-checked _ _ _ (rw (b .answer2 .given .1) at (b .before .before .count-fields .ensures)) .laid)) (c .before .before .unpack-fields .ensures)
+returns-2 c =
+    let at-answer2 = c .before .before .before .before .before .before in
+    let at-count-fields = at-answer2 .before .before in
+    rw
+    (unpacked-laid _ _ _ _ _ _
+    (accepted-checked _ _ _ (rw (at-answer2 .answer2 .given .1) at (at-count-fields .count-fields .ensures)) .laid))
+    (c .before .before .unpack-fields .ensures)
 
 pub unpack-spec : {M : Type 1} → statement M
 unpack-spec =

@@ -20,7 +20,14 @@ bad-call-requires-2 : tie.Need-bad-call-requires-2
 bad-call-requires-2 c κs = search needs
 
 returns-2 : tie.Need-returns-2
-returns-2 c = rw (unpack-uncounted _ _ _ _ (sym (c .before .before .before .no-channel .ensures) ∙ c .before .before .if1 .left) (λ e. c .before .if2 .taken (e ∙ c .before .before .before .before .before .before .before .pre .count))) (refused-by _ (c .bad-call2 .ensures))
+returns-2 c =
+    let at-no-channel = c .before .before .before in
+    let at-entry = at-no-channel .before .before .before .before in
+    rw
+    (unpack-uncounted _ _ _ _
+    (sym (at-no-channel .no-channel .ensures) ∙ c .before .before .if1 .left)
+    (λ e. c .before .if2 .taken (e ∙ at-entry .pre .count)))
+    (refused-by _ (c .bad-call2 .ensures))
 
 channels-of-requires : tie.Need-channels-of-requires
 channels-of-requires c κs = let b = c .before in channel-there _ _ (sym (b .before .no-channel .ensures) ∙ b .if1 .left) .1
@@ -32,14 +39,35 @@ array-copy-out-words : tie.Need-array-copy-out-words
 array-copy-out-words c = let b = c .before .before in let h = channel-there _ _ (sym (b .before .no-channel .ensures) ∙ b .if1 .left) .0 in omega arith
 
 read-requires : tie.Need-read-requires
-read-requires c κs = let b = c .before .before .before .before in let a = b .before .before .before in let h = sym (b .before .no-channel .ensures) ∙ b .if1 .left in (rw (c .before .before .before .if2 .left) (a .before .before .pre), row-words _ _ _ h (c .before .before .channels-of .ensures) (λ i. a .shared-slice-known2 .given i .fits))
+read-requires c κs =
+    let at-if2 = c .before .before .before in
+    let at-if1 = at-if2 .before in
+    let at-no-channel = at-if1 .before in
+    let at-shared-slice-known2 = at-no-channel .before .before in
+    let at-entry = at-shared-slice-known2 .before .before in
+    let h = sym (at-no-channel .no-channel .ensures) ∙ at-if1 .if1 .left in (
+      rw (at-if2 .if2 .left) (at-entry .pre),
+      row-words _ _ _ h
+          (c .before .before .channels-of .ensures)
+          (λ i. at-shared-slice-known2 .shared-slice-known2 .given i .fits),
+    )
 
 same-length : tie.Need-same-length
 same-length c = search needs
 
 returns-3 : tie.Need-returns-3
 unfolding callListed
-returns-3 c = let b = c .before .before .before .before .before .before .before in let h = sym (b .before .no-channel .ensures) ∙ b .if1 .left in let n = c .before .before .before .before .before .before .if2 .left ∙ sym (b .before .before .before .before .before .pre .count) in rw (unpack-done _ _ _ _ h n) (left-by (row-read _ _ _ h (c .before .before .before .before .before .channels-of .ensures) _ _ (c .before .before .read .ensures)))
+returns-3 c =
+    let at-channels-of = c .before .before .before .before .before in
+    let at-if2 = at-channels-of .before in
+    let at-if1 = at-if2 .before in
+    let at-no-channel = at-if1 .before in
+    let at-entry = at-no-channel .before .before .before .before in
+    let h = sym (at-no-channel .no-channel .ensures) ∙ at-if1 .if1 .left in
+    let n = at-if2 .if2 .left ∙ sym (at-entry .pre .count) in
+    rw
+    (unpack-done _ _ _ _ h n)
+    (left-by (row-read _ _ _ h (at-channels-of .channels-of .ensures) _ _ (c .before .before .read .ensures)))
 
 pub unpack-fields-spec : {M : Type 1} → statement M
 unpack-fields-spec =

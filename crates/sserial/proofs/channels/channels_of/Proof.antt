@@ -29,7 +29,22 @@ row-of-requires-8 c κs = search needs
 
 returns : tie.Need-returns
 unfolding rowsFrom
-returns c = let d = c .before .before .before in simp (c .row-of8 .ensures, c .before .row-of7 .ensures, c .before .before .row-of6 .ensures, d .row-of5 .ensures, d .before .row-of4 .ensures, d .before .before .row-of3 .ensures, d .before .before .before .row-of2 .ensures, d .before .before .before .before .row-of .ensures)
+returns c =
+    let at-row-of5 = c .before .before .before in
+    let at-row-of4 = at-row-of5 .before in
+    let at-row-of3 = at-row-of4 .before in
+    let at-row-of2 = at-row-of3 .before in
+    let at-row-of = at-row-of2 .before in
+    simp (
+      c .row-of8 .ensures,
+      c .before .row-of7 .ensures,
+      c .before .before .row-of6 .ensures,
+      at-row-of5 .row-of5 .ensures,
+      at-row-of4 .row-of4 .ensures,
+      at-row-of3 .row-of3 .ensures,
+      at-row-of2 .row-of2 .ensures,
+      at-row-of .row-of .ensures,
+    )
 
 pub channels-of-spec : {M : Type 1} → statement M
 channels-of-spec =

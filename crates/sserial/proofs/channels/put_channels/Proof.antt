@@ -30,7 +30,11 @@ loop-less : tie.Need-loop-less Inv-loop μ-loop
 loop-less c = omega arith
 
 loop-again : tie.Need-loop-again Inv-loop μ-loop
-loop-again c = let b = c .before .before .before .before .before .before in let p = c .before .before .put-row .ensures in rows-more _ _ _ _ (search needs) (b .loop .inv) _ (c .before .before .before .before .before .loop-test .taken) (p .1) (p .0)
+loop-again c =
+    let at-loop-test = c .before .before .before .before .before in
+    let at-loop = at-loop-test .before in
+    let p = c .before .before .put-row .ensures in
+    rows-more _ _ _ _ (search needs) (at-loop .loop .inv) _ (at-loop-test .loop-test .taken) (p .1) (p .0)
 
 same-length : tie.Need-same-length Inv-loop μ-loop
 same-length c = let r = c .before .loop .inv .room in omega arith

@@ -32,7 +32,11 @@ answered-requires : tie.Need-answered-requires Inv-loop μ-loop
 answered-requires c κs = search needs
 
 returns : tie.Need-returns Inv-loop μ-loop
-returns c = c .answered .ensures ∙ count-ended (c .before .before .before .before .loop .inv) _ (c .before .before .before .entry-at .ensures) (c .before .enum-told .given .1)
+returns c =
+    let at-entry-at = c .before .before .before in
+    let at-loop = at-entry-at .before in
+    c .answered .ensures
+    ∙ count-ended (at-loop .loop .inv) _ (at-entry-at .entry-at .ensures) (c .before .enum-told .given .1)
 
 enum-told-2 : tie.Need-enum-told-2 Inv-loop μ-loop
 enum-told-2 c = search needs
@@ -51,7 +55,11 @@ sums-with-requires : tie.Need-sums-with-requires Inv-loop μ-loop
 sums-with-requires c κs = c .before .before .before .before .loop .inv .within
 
 lent : (c : tie.At-match-came Inv-loop μ-loop) → c .before .before .loop .at + 2 ≤ length (c .before .before .before .before .args .memory .now)
-lent c = ⊎-elim (λ w. entry-lent _ _ _ (c .before .entry-at .ensures) (ap readable (w .1 .given .1))) (λ w. entry-lent _ _ _ (c .before .entry-at .ensures) (ap readable (w .1 .given .1))) (c .match .came)
+lent c =
+    ⊎-elim
+    (λ w. entry-lent _ _ _ (c .before .entry-at .ensures) (ap readable (w .1 .given .1)))
+    (λ w. entry-lent _ _ _ (c .before .entry-at .ensures) (ap readable (w .1 .given .1)))
+    (c .match .came)
 
 add-at : tie.Need-add-at Inv-loop μ-loop
 add-at c = let h = lent c in omega arith
@@ -60,7 +68,12 @@ loop-less : tie.Need-loop-less Inv-loop μ-loop
 loop-less c = let h = lent c in omega arith
 
 loop-again : tie.Need-loop-again Inv-loop μ-loop
-loop-again c = ⊎-elim (λ w. count-mode (c .before .before .loop .inv) _ (c .before .entry-at .ensures) (w .1 .given .1) _ (w .2)) (λ w. count-more (c .before .before .loop .inv) _ _ (c .before .entry-at .ensures) (w .1 .given .1) _ (w .4 ∙ w .3 .ensures)) (c .match .came)
+loop-again c =
+    let at-loop = c .before .before in
+    ⊎-elim
+    (λ w. count-mode (at-loop .loop .inv) _ (c .before .entry-at .ensures) (w .1 .given .1) _ (w .2))
+    (λ w. count-more (at-loop .loop .inv) _ _ (c .before .entry-at .ensures) (w .1 .given .1) _ (w .4 ∙ w .3 .ensures))
+    (c .match .came)
 
 pub count-fields-spec : {M : Type 1} → statement M
 count-fields-spec =

@@ -26,7 +26,11 @@ returns c = field-refused _ _ _ _ _ (rw (c .before .answer .given .1) at (c .bef
 
 returns-2 : tie.Need-returns-2
 unfolding tableListed checkedAt
-returns-2 c = c .find .ensures ∙ field-found _ _ _ (accepted-checked _ _ _ (rw (c .before .enum-told .given .1) at (c .before .before .before .count-fields .ensures)) .laid) .1
+returns-2 c =
+    let at-count-fields = c .before .before .before in
+    c .find .ensures
+    ∙ field-found _ _ _
+    (accepted-checked _ _ _ (rw (c .before .enum-told .given .1) at (at-count-fields .count-fields .ensures)) .laid) .1
 
 pub field-spec : {M : Type 1} → statement M
 field-spec =

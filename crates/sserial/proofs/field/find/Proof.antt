@@ -30,7 +30,11 @@ past-last-requires : tie.Need-past-last-requires Inv-loop μ-loop
 past-last-requires c κs = search needs
 
 returns : tie.Need-returns Inv-loop μ-loop
-returns c = c .past-last .ensures ∙ find-end (c .before .before .before .before .loop .inv) _ (c .before .before .before .entry-at .ensures) (c .before .enum-told .given .1)
+returns c =
+    let at-entry-at = c .before .before .before in
+    let at-loop = at-entry-at .before in
+    c .past-last .ensures
+    ∙ find-end (at-loop .loop .inv) _ (at-entry-at .entry-at .ensures) (c .before .enum-told .given .1)
 
 enum-told-2 : tie.Need-enum-told-2 Inv-loop μ-loop
 enum-told-2 c = search needs
@@ -39,7 +43,10 @@ past-last-requires-2 : tie.Need-past-last-requires-2 Inv-loop μ-loop
 past-last-requires-2 c κs = search needs
 
 returns-2 : tie.Need-returns-2 Inv-loop μ-loop
-returns-2 c = absurd (find-cut (c .before .before .before .before .loop .inv) _ (c .before .before .before .entry-at .ensures) (c .before .enum-told2 .given .1))
+returns-2 c =
+    let at-entry-at = c .before .before .before in
+    let at-loop = at-entry-at .before in
+    absurd (find-cut (at-loop .loop .inv) _ (at-entry-at .entry-at .ensures) (c .before .enum-told2 .given .1))
 
 enum-told-3 : tie.Need-enum-told-3 Inv-loop μ-loop
 enum-told-3 c = search needs
@@ -49,13 +56,24 @@ enum-known-entry c = search needs
 
 returns-3 : tie.Need-returns-3 Inv-loop μ-loop
 unfolding fieldListed
-returns-3 c = let b = c .before .before .before .before in find-here (b .before .loop .inv) _ (b .entry-at .ensures) _ (c .before .before .entry .given .1) (c .if1 .taken)
+returns-3 c =
+    let at-entry-at = c .before .before .before .before in
+    let at-loop = at-entry-at .before in
+    find-here
+    (at-loop .loop .inv) _
+    (at-entry-at .entry-at .ensures) _
+    (c .before .before .entry .given .1)
+    (c .if1 .taken)
 
 sub-left : tie.Need-sub-left Inv-loop μ-loop
 sub-left c = omega arith
 
 lent : (c : tie.At-match-came Inv-loop μ-loop) → c .before .before .loop .at + 2 ≤ length (c .before .before .before .before .args .memory .now)
-lent c = ⊎-elim (λ w. entry-lent _ _ _ (c .before .entry-at .ensures) (ap readable (w .1 .given .1))) (λ w. entry-lent _ _ _ (c .before .entry-at .ensures) (ap readable (w .1 .given .1))) (c .match .came)
+lent c =
+    ⊎-elim
+    (λ w. entry-lent _ _ _ (c .before .entry-at .ensures) (ap readable (w .1 .given .1)))
+    (λ w. entry-lent _ _ _ (c .before .entry-at .ensures) (ap readable (w .1 .given .1)))
+    (c .match .came)
 
 add-at : tie.Need-add-at Inv-loop μ-loop
 add-at c = let h = lent c in omega arith
@@ -64,7 +82,12 @@ loop-less : tie.Need-loop-less Inv-loop μ-loop
 loop-less c = let h = lent c in omega arith
 
 loop-again : tie.Need-loop-again Inv-loop μ-loop
-loop-again c = ⊎-elim (λ w. find-mode (c .before .before .loop .inv) _ (c .before .entry-at .ensures) (w .1 .given .1) _ (w .2)) (λ w. find-more (c .before .before .loop .inv) _ (c .before .entry-at .ensures) _ (w .1 .given .1) (w .3 .left) _ (w .4)) (c .match .came)
+loop-again c =
+    let at-loop = c .before .before in
+    ⊎-elim
+    (λ w. find-mode (at-loop .loop .inv) _ (c .before .entry-at .ensures) (w .1 .given .1) _ (w .2))
+    (λ w. find-more (at-loop .loop .inv) _ (c .before .entry-at .ensures) _ (w .1 .given .1) (w .3 .left) _ (w .4))
+    (c .match .came)
 
 pub find-spec : {M : Type 1} → statement M
 find-spec =

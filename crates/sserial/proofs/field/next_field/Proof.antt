@@ -18,7 +18,8 @@ Inv-loop memory at d next₀ next = fieldsLeft d memory next ≡ fieldsLeft d me
 abbrev μ-loop : tie.MeasureT-loop
 μ-loop memory at d next₀ next = length memory - next
 
-some : (c : tie.After-entry-at Inv-loop μ-loop) → 0 < length (fieldsLeft (c .before .before .before .args .d) (c .before .before .before .args .memory .now) (c .before .loop .next))
+some : (c : tie.After-entry-at Inv-loop μ-loop)
+    → 0 < length (fieldsLeft (c .before .before .before .args .d) (c .before .before .before .args .memory .now) (c .before .loop .next))
 some c = rw (c .before .loop .inv) (c .before .before .before .pre)
 
 loop-holds : tie.Need-loop-holds Inv-loop μ-loop
@@ -46,7 +47,16 @@ add-t8 : tie.Need-add-t8 Inv-loop μ-loop
 add-t8 c = let b = c .before .before .before .before .before in let h = left-lent _ _ _ _ (b .entry-at .ensures) (some b) in omega arith
 
 returns : tie.Need-returns Inv-loop μ-loop
-returns c = let b = c .before .before .before .before .before in sym (b .before .loop .inv) ∙ left-taken _ _ _ _ (b .entry-at .ensures) (some b) _ (c .before .before .before .entry .given .1) (sym (c .before .stands-in .ensures) ∙ c .if1 .taken)
+returns c =
+    let at-entry = c .before .before .before in
+    let at-entry-at = at-entry .before .before in
+    let at-loop = at-entry-at .before in
+    sym (at-loop .loop .inv)
+    ∙ left-taken _ _ _ _
+    (at-entry-at .entry-at .ensures)
+    (some at-entry-at) _
+    (at-entry .entry .given .1)
+    (sym (c .before .stands-in .ensures) ∙ c .if1 .taken)
 
 add-next : tie.Need-add-next Inv-loop μ-loop
 add-next c = let h = left-lent _ _ _ _ (c .before .entry-at .ensures) (some (c .before)) in omega arith
@@ -54,10 +64,27 @@ add-next c = let h = left-lent _ _ _ _ (c .before .entry-at .ensures) (some (c .
 loop-less : tie.Need-loop-less Inv-loop μ-loop
 loop-less c = let h = left-lent _ _ _ _ (c .before .entry-at .ensures) (some (c .before)) in omega arith
 
-passed : (c : tie.At-match-came Inv-loop μ-loop) → fieldsLeft (c .before .before .before .before .args .d) (c .before .before .before .before .args .memory .now) (c .before .before .loop .next) ≡ fieldsLeft (c .before .before .before .before .args .d) (c .before .before .before .before .args .memory .now) (c .before .before .loop .next + 2)
-passed c = ⊎-elim (λ w. other (ap isField (w .1 .given .1))) (⊎-elim (λ w. other (ap isField (w .1 .given .1))) (⊎-elim (λ w. other (ap isField (w .1 .given .1))) (λ w. left-passed _ _ _ _ (c .before .entry-at .ensures) (some (c .before)) _ (w .1 .given .1) (sym (w .3 .ensures) ∙ w .4 .left)))) (c .match .came)
+passed : (c : tie.At-match-came Inv-loop μ-loop)
+    → fieldsLeft (c .before .before .before .before .args .d) (c .before .before .before .before .args .memory .now) (c .before .before .loop .next)
+    ≡ fieldsLeft (c .before .before .before .before .args .d) (c .before .before .before .before .args .memory .now) (c .before .before .loop .next + 2)
+passed c =
+    ⊎-elim
+    (λ w. other (ap isField (w .1 .given .1)))
+    (⊎-elim
+    (λ w. other (ap isField (w .1 .given .1)))
+    (⊎-elim
+    (λ w. other (ap isField (w .1 .given .1)))
+    (λ w.
+    left-passed _ _ _ _
+    (c .before .entry-at .ensures)
+    (some (c .before)) _
+    (w .1 .given .1)
+    (sym (w .3 .ensures) ∙ w .4 .left))))
+    (c .match .came)
   where
-    other : isField (c .before .entry-at .result) ≡ false → fieldsLeft (c .before .before .before .before .args .d) (c .before .before .before .before .args .memory .now) (c .before .before .loop .next) ≡ fieldsLeft (c .before .before .before .before .args .d) (c .before .before .before .before .args .memory .now) (c .before .before .loop .next + 2)
+    other : isField (c .before .entry-at .result) ≡ false
+        → fieldsLeft (c .before .before .before .before .args .d) (c .before .before .before .before .args .memory .now) (c .before .before .loop .next)
+        ≡ fieldsLeft (c .before .before .before .before .args .d) (c .before .before .before .before .args .memory .now) (c .before .before .loop .next + 2)
     other k = left-other _ _ _ _ (c .before .entry-at .ensures) (some (c .before)) k
 
 loop-again : tie.Need-loop-again Inv-loop μ-loop

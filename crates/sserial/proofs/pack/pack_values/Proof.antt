@@ -9,7 +9,8 @@ use Rattle.sserial.proofs.LayoutLaws.{bits-below}
 use Rattle.sserial.proofs.WalkLaws.{Packing, packing-first, packing-some, packing-wide, packing-room, packing-more, packing-done}
 
 abbrev Inv-loop : tie.InvT-loop
-Inv-loop memory table d values words₀ good₀ at₀ low₀ j₀ words good at low j = Packing (fieldsLeft d memory table) values (fieldsLeft d memory at) words good low j
+Inv-loop memory table d values words₀ good₀ at₀ low₀ j₀ words good at low j =
+    Packing (fieldsLeft d memory table) values (fieldsLeft d memory at) words good low j
 
 abbrev μ-loop : tie.MeasureT-loop
 μ-loop memory table d values words₀ good₀ at₀ low₀ j₀ words good at low j = length values - j
@@ -33,13 +34,25 @@ bits-of-requires : tie.Need-bits-of-requires Inv-loop μ-loop
 bits-of-requires c κs = let b = c .before .before .before in packing-wide (b .before .before .loop .inv) _ _ (b .next-field .ensures)
 
 put-requires : tie.Need-put-requires Inv-loop μ-loop
-put-requires c κs = let b = c .before .before .before .before in let i = b .before .before .loop .inv in (packing-room i _ _ (b .next-field .ensures), packing-wide i _ _ (b .next-field .ensures) .most, rw (c .bits-of .ensures) (bits-below _ _), i .free, i .each)
+put-requires c κs =
+    let at-next-field = c .before .before .before .before in
+    let at-loop = at-next-field .before .before in
+    let i = at-loop .loop .inv in (
+      packing-room i _ _ (at-next-field .next-field .ensures),
+      packing-wide i _ _ (at-next-field .next-field .ensures) .most,
+      rw (c .bits-of .ensures) (bits-below _ _),
+      i .free,
+      i .each,
+    )
 
 in-range-requires : tie.Need-in-range-requires Inv-loop μ-loop
 in-range-requires c κs = let b = c .before .before .before .before .before in packing-wide (b .before .before .loop .inv) _ _ (b .next-field .ensures)
 
 add-low : tie.Need-add-low Inv-loop μ-loop
-add-low c = let b = c .before .before .before .before .before .before in let h = packing-room (b .before .before .loop .inv) _ _ (b .next-field .ensures) in omega arith
+add-low c =
+    let at-next-field = c .before .before .before .before .before .before in
+    let at-loop = at-next-field .before .before in
+    let h = packing-room (at-loop .loop .inv) _ _ (at-next-field .next-field .ensures) in omega arith
 
 add-j : tie.Need-add-j Inv-loop μ-loop
 add-j c = omega arith
@@ -48,7 +61,19 @@ loop-less : tie.Need-loop-less Inv-loop μ-loop
 loop-less c = omega arith
 
 loop-again : tie.Need-loop-again Inv-loop μ-loop
-loop-again c = let b = c .before .before .before .before .before .before in packing-more (b .before .before .loop .inv) _ _ (b .next-field .ensures) (b .before .loop-test .taken) _ _ _ (c .before .before .bits-of .ensures) (c .in-range .ensures) (c .before .put .ensures .0) (c .before .put .ensures .1) (search needs)
+loop-again c =
+    let at-next-field = c .before .before .before .before .before .before in
+    let at-loop-test = at-next-field .before in
+    let at-loop = at-loop-test .before in
+    packing-more
+    (at-loop .loop .inv) _ _
+    (at-next-field .next-field .ensures)
+    (at-loop-test .loop-test .taken) _ _ _
+    (c .before .before .bits-of .ensures)
+    (c .in-range .ensures)
+    (c .before .put .ensures .0)
+    (c .before .put .ensures .1)
+    (search needs)
 
 returns : tie.Need-returns Inv-loop μ-loop
 returns c = packing-done (c .before .loop .inv) (c .loop-test .left)

@@ -13,7 +13,14 @@ use Rattle.sserial.proofs.WalkLaws.{Reading, reading-first, reading-som
 use lib.ListN.{length-set}
 
 abbrev Inv-loop : tie.InvT-loop
-Inv-loop memory table d words values₀ at₀ low₀ j₀ values at low j = (length values ≡ length values₀) × Reading (fieldsLeft d memory table) (joined words) (fieldsLeft d memory at) values low j
+Inv-loop memory table d words values₀ at₀ low₀ j₀ values at low j =
+    (length values ≡ length values₀) × Reading
+    (fieldsLeft d memory table)
+    (joined words)
+    (fieldsLeft d memory at)
+    values
+    low
+    j
 
 abbrev μ-loop : tie.MeasureT-loop
 μ-loop memory table d words values₀ at₀ low₀ j₀ values at low j = length values - j
@@ -28,10 +35,22 @@ cast-width : tie.Need-cast-width Inv-loop μ-loop
 cast-width c = search needs
 
 get-requires : tie.Need-get-requires Inv-loop μ-loop
-get-requires c κs = let b = c .before .before in let i = b .before .before .loop .inv .1 in (reading-room i _ _ (b .next-field .ensures), reading-wide i _ _ (b .next-field .ensures) .most, b .before .before .before .before .before .pre .1)
+get-requires c κs =
+    let at-next-field = c .before .before in
+    let at-loop = at-next-field .before .before in
+    let at-entry = at-loop .before .before .before in
+    let i = at-loop .loop .inv .1 in (
+      reading-room i _ _ (at-next-field .next-field .ensures),
+      reading-wide i _ _ (at-next-field .next-field .ensures) .most,
+      at-entry .pre .1,
+    )
 
 value-of-requires : tie.Need-value-of-requires Inv-loop μ-loop
-value-of-requires c κs = let b = c .before .before .before in let i = b .before .before .loop .inv .1 in (reading-wide i _ _ (b .next-field .ensures), rw (c .get .ensures) (mod-lt _ (pow-pos _)))
+value-of-requires c κs =
+    let at-next-field = c .before .before .before in
+    let at-loop = at-next-field .before .before in
+    let i = at-loop .loop .inv .1 in
+    (reading-wide i _ _ (at-next-field .next-field .ensures), rw (c .get .ensures) (mod-lt _ (pow-pos _)))
 
 mul-values : tie.Need-mul-values Inv-loop μ-loop
 mul-values c = search needs
@@ -49,7 +68,19 @@ loop-less : tie.Need-loop-less Inv-loop μ-loop
 loop-less c = simp length-set (omega arith)
 
 loop-again : tie.Need-loop-again Inv-loop μ-loop
-loop-again c = let b = c .before .before .before .before in let i = b .before .before .loop .inv in (search needs, reading-more (i .1) _ _ (b .next-field .ensures) (b .before .loop-test .taken) _ _ (c .before .get .ensures) (c .value-of .ensures))
+loop-again c =
+    let at-next-field = c .before .before .before .before in
+    let at-loop-test = at-next-field .before in
+    let at-loop = at-loop-test .before in
+    let i = at-loop .loop .inv in (
+      search needs,
+      reading-more
+          (i .1) _ _
+          (at-next-field .next-field .ensures)
+          (at-loop-test .loop-test .taken) _ _
+          (c .before .get .ensures)
+          (c .value-of .ensures),
+    )
 
 same-length : tie.Need-same-length Inv-loop μ-loop
 same-length c = c .before .loop .inv .0

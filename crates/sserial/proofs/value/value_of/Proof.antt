@@ -17,10 +17,21 @@ sub-result-2 : tie.Need-sub-result-2
 sub-result-2 c = search needs
 
 add-result : tie.Need-add-result
-add-result c = let u = half-under _ (c .before .before .before .pre .0) _ (c .before .before .half-of .ensures) in let t = half-twice _ (c .before .before .before .pre .0) _ (c .before .before .half-of .ensures) in let p = c .before .before .before .pre .1 in omega arith
+add-result c =
+    let at-half-of = c .before .before in
+    let at-entry = at-half-of .before in
+    let u = half-under _ (at-entry .pre .0) _ (at-half-of .half-of .ensures) in
+    let t = half-twice _ (at-entry .pre .0) _ (at-half-of .half-of .ensures) in let p = at-entry .pre .1 in omega arith
 
 add-result-2 : tie.Need-add-result-2
-add-result-2 c = let u = half-under _ (c .before .before .before .pre .0) _ (c .before .before .half-of .ensures) in let t = half-twice _ (c .before .before .before .pre .0) _ (c .before .before .half-of .ensures) in let p = c .before .before .before .pre .1 in let a = value-above _ (c .before .before .before .pre .0) _ (c .before .before .half-of .ensures) _ _ (c .before .is-signed .ensures) (c .if1 .taken) in omega arith
+add-result-2 c =
+    let at-half-of = c .before .before in
+    let at-entry = at-half-of .before in
+    let u = half-under _ (at-entry .pre .0) _ (at-half-of .half-of .ensures) in
+    let t = half-twice _ (at-entry .pre .0) _ (at-half-of .half-of .ensures) in
+    let p = at-entry .pre .1 in
+    let a = value-above _ (at-entry .pre .0) _ (at-half-of .half-of .ensures) _ _ (c .before .is-signed .ensures) (c .if1 .taken) in
+    omega arith
 
 returns : tie.Need-returns
 returns c = value-negative _ (c .before .before .before .pre .0) _ (c .before .before .half-of .ensures) _ _ (c .before .is-signed .ensures) (c .if1 .taken)
