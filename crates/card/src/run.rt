@@ -7,9 +7,11 @@ use lbp16::pointer::Pointers;
 use lbp16::word::Fields;
 use packet::command;
 use packet::command::Reach;
+use packet::command::Which;
 use packet::info;
 use packet::judge;
 use packet::judge::Verdict;
+use packet::refusal;
 ghost use mathlib.Core.Path.{_≡_};
 ghost use mathlib.Core.Bool.{true, false, cond};
 ghost use mathlib.Core.List.{List, _++_};
@@ -90,7 +92,8 @@ fn write_command(rest: &[u8], pointers: &[u32], f: Fields, r: Reach, store: &mut
     block::move_elements(rest, header, s.element, store, s.at, s.step, s.count, wide);
 }
 
-// Does a command that the check let pass: a read fills the front of the reply's unused tail, a write goes to the store.
+// Does a command that the check let pass: a read fills the front of the reply's unused tail, a write goes to the store. It is never
+// a refusal.
 fn do_command(
     rest: &[u8],
     pointers: &[u32],
@@ -104,10 +107,15 @@ fn do_command(
     ensures { λ q. ⌜ now (store .exit) ≡ storeAfter (stepsAt (pointersOf (now (pointers .entry))) f (now (rest .entry))) (now (store .entry)) ⌝ }
     ensures { λ q. ⌜ now (reply .exit) ≡ laid filled (valuesRead (stepsAt (pointersOf (now (pointers .entry))) f (now (rest .entry))) (now (store .entry))) (now (reply .entry)) ⌝ }
 {
-    if f.write {
-        write_command(rest, pointers, f, r, store);
-    } else {
-        read_command(rest, pointers, f, r, store, &mut reply[filled..]);
+    let which = refusal::which_of(0, f);
+    match which {
+        Which::Read => {
+            read_command(rest, pointers, f, r, store, &mut reply[filled..]);
+        }
+        Which::Write => {
+            write_command(rest, pointers, f, r, store);
+        }
+        Which::Refused(_) => {}
     }
 }
 

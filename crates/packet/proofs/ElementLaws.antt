@@ -1,13 +1,15 @@
 -- A command's elements: how many bytes they have, and rules 8 and 9 without a walk over them.
 use Prim.Native.Nat.{ℕ, zero, suc, _+_, _*_, _≤_, _<_}
 use mathlib.Core.Path.{_≡_, refl, ap, sym, _∙_}
-use mathlib.Core.List.{List}
+use mathlib.Core.List.{List, [], _∷_}
 use mathlib.Core.Bool.{Bool, true, false, not, _||_, _&&_, cond}
 use native.Mathlib.Omega.{arith}
 use native.Mathlib.Nat.{suc-mul, zero-mul, mul-zero, mul-le-mul}
 use lib.Dec.{eqb, ltb, eqb·suc-zero}
 use borrow.Author.Tests.{ltb-true, lt-ltb}
 use Rattle.lbp16.specs.Space.{Space, spaceOf}
+use Rattle.lbp16.specs.Word.{bit}
+use Rattle.lbp16.specs.Answer.{Answer}
 use Rattle.lbp16.specs.declared.word.Fields.{Fields}
 use Rattle.lbp16.specs.declared.pointer.Pointers.{Pointers}
 use Rattle.packet.specs.Step.{Kind, read, write, infoRead, isInfo, isWrite, rowBy, carried, answered}
@@ -15,8 +17,9 @@ use Rattle.lbp16.proofs.SpaceLaws.{area-element-le}
 use Rattle.packet.proofs.StepLaws.{carried-row, carried-none, answered-row}
 use Rattle.packet.specs.Rules.{pastEnd, barred, anyStep}
 use Rattle.packet.specs.Command.{Progress}
+use Rattle.packet.specs.declared.command.Which.{Which}
 use Rattle.packet.specs.declared.command.Which.the-variants.{Read, Write, Refused}
-use Rattle.packet.specs.Command.{elements, kindOf, rowOf, whichOf, nextBy, stepsAt, addressUsed, stride, handed}
+use Rattle.packet.specs.Command.{elements, kindOf, rowOf, whichOf, whichListed, nextBy, stepsAt, addressUsed, stride, handed}
 
 pub scaled-le : (n w : ℕ) → n < 256 → w ≤ 4 → n * w ≤ 1020
 scaled-le n w h k = mul-le-mul (let l : n ≤ 255 = omega arith in l) k
@@ -136,26 +139,51 @@ barred-quick p f rest = go (f .count)
     go zero = refl
     go (suc n) = barred-first _ _ n _ _ _ ∙ rw (eqb·suc-zero n, write-kind f) refl
 
-pub which-refused : (n : ℕ) (k : Kind) → (n ≡ 0 → ⊥) → whichOf n k ≡ Refused n
-unfolding whichOf
-which-refused zero k h = absurd (h refl)
-which-refused (suc n) k h = refl
+-- which of read, write or refusal, as the code lists it
+pub which-refused : (n place : ℕ) (k : Kind) → (n ≡ 0 → ⊥) → whichListed (Refused n) place ≡ whichOf n place k
+unfolding whichListed whichOf
+which-refused zero place k h = absurd (h refl)
+which-refused (suc n) place k h = refl
 
-pub which-none : (next g : Progress) (k : Kind) → nextBy (whichOf 0 k) next g ≡ next
+pub which-none : (next g : Progress) (place : ℕ) (k : Kind) → nextBy (whichOf 0 place k) next g ≡ next
 unfolding whichOf
-which-none next g read = refl
-which-none next g write = refl
-which-none next g infoRead = refl
+which-none next g place k = refl
 
 -- where no rule holds it is found to be what its write bit says
-pub which-write : (f : Fields) → f .write ≡ true → whichOf 0 (kindOf f) ≡ Write
-unfolding whichOf kindOf
-which-write f e = rw e refl
+pub which-write : (f : Fields) (place : ℕ) → f .write ≡ true → whichListed Write place ≡ whichOf 0 place (kindOf f)
+unfolding whichListed whichOf bit
+which-write f place e = rw (write-kind f, e) refl
 
-pub which-read : (f : Fields) → f .write ≡ false → whichOf 0 (kindOf f) ≡ Read
-unfolding whichOf kindOf
-which-read f e = rw e (go (f .info))
-  where
-    go : (i : Bool) → whichOf 0 (cond i infoRead read) ≡ Read
-    go true = refl
-    go false = refl
+pub which-read : (f : Fields) (place : ℕ) → f .write ≡ false → whichListed Read place ≡ whichOf 0 place (kindOf f)
+unfolding whichListed whichOf bit
+which-read f place e = rw (write-kind f, e) refl
+
+-- and a read or a write is no refusal
+pub which-passed : (b m place : ℕ) (k : Kind) → Answer.accepted (b ∷ []) ≡ whichOf m place k → (m ≡ 0) × (b ≡ bit (isWrite k))
+unfolding whichOf
+which-passed b zero place k e = (refl, cc)
+which-passed b (suc m) place k e = let z : _≡_ {A = ℕ} 0 1 = cc in absurd (omega arith)
+
+bit-set : (w : Bool) → 1 ≡ bit w → w ≡ true
+unfolding bit
+bit-set true e = refl
+bit-set false e = absurd (omega arith)
+
+pub bit-clear : (w : Bool) → 0 ≡ bit w → w ≡ false
+unfolding bit
+bit-clear true e = absurd (omega arith)
+bit-clear false e = refl
+
+-- A command that no rule refuses, by what its fields say.
+module _ (f : Fields) (w : Which) (e : (place : ℕ) → whichListed w place ≡ whichOf 0 place (kindOf f)) where
+  pub is-read : w ≡ Read → f .write ≡ false
+  unfolding whichListed
+  is-read h = bit-clear _ (which-passed _ _ _ _ (rw h at (e 0)) .1 ∙ ap bit (write-kind f))
+
+  pub is-write : w ≡ Write → f .write ≡ true
+  unfolding whichListed
+  is-write h = bit-set _ (which-passed _ _ _ _ (rw h at (e 0)) .1 ∙ ap bit (write-kind f))
+
+  pub never-refused : (n : ℕ) → w ≡ Refused n → ⊥
+  unfolding whichListed whichOf
+  never-refused n h = let q = rw h at (e 0) in let z : _≡_ {A = ℕ} 0 1 = cc in omega arith

@@ -7,7 +7,7 @@ use lib.ListN.{length, drop}
 use native.Mathlib.Omega.{arith}
 use Rattle.lbp16.specs.Pointer.{aboveSize}
 use Rattle.lbp16.specs.declared.pointer.Pointers.{Pointers}
-use Rattle.packet.specs.Step.{Kind, read, write, infoRead, unlocked, replyBytes}
+use Rattle.packet.specs.Step.{Kind, unlocked, replyBytes}
 use Rattle.packet.specs.Command.{fieldsAt, commandBytes, whichOf, found}
 use Rattle.packet.specs.Judge.{Carried, Verdict, accepted, begin, foundNext, carry, verdictAt, judgeFrom, judge}
 use Rattle.packet.proofs.CommandLaws.{Passed, passed, passes, pointer-kept}
@@ -21,18 +21,14 @@ abbrev pub onward : ℕ → Carried → List ℕ → Verdict
 onward fuel c rest = judgeFrom fuel (carry c rest) (drop (commandBytes (fieldsAt rest)) rest)
 
 -- at a command the check goes on exactly when there is no refusal's number
-verdict-past : (k : Kind) (place : ℕ) (v : Verdict) → verdictAt (whichOf 0 k) place v ≡ v
+verdict-past : (k : Kind) (place : ℕ) (v : Verdict) → verdictAt (whichOf 0 place k) v ≡ v
 unfolding whichOf
-verdict-past read place v = refl
-verdict-past write place v = refl
-verdict-past infoRead place v = refl
+verdict-past k place v = refl
 
 verdict-accepted : (n : ℕ) (k : Kind) (place : ℕ) (v : Verdict) (end : Carried)
-    → verdictAt (whichOf n k) place v ≡ accepted end → (n ≡ 0) × (v ≡ accepted end)
+    → verdictAt (whichOf n place k) v ≡ accepted end → (n ≡ 0) × (v ≡ accepted end)
 unfolding whichOf
-verdict-accepted zero read place v end e = (refl, e)
-verdict-accepted zero write place v end e = (refl, e)
-verdict-accepted zero infoRead place v end e = (refl, e)
+verdict-accepted zero k place v end e = (refl, e)
 verdict-accepted (suc n) k place v end e = let z : _≡_ {A = ℕ} 0 1 = cc in absurd (omega arith)
 
 -- a packet's end is accepted, whatever the fuel

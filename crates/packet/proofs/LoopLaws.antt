@@ -8,6 +8,7 @@ use native.Mathlib.Nat.{le-refl}
 use lib.ListN.{length, take, drop, set, length-take, length-drop, length-set}
 use Rattle.lbp16.specs.Answer.{Answer}
 use Rattle.lbp16.specs.Space.{spaceOf}
+use Rattle.lbp16.specs.Word.{bit}
 use Rattle.lbp16.specs.Pointer.{pointersOf, pointerList}
 use Rattle.lbp16.proofs.PointerLaws.{list-length, back-list, slot-below, slot-written}
 use lib.Dec.{eqb}
@@ -16,22 +17,22 @@ use Rattle.lbp16.specs.declared.word.Fields.{Fields}
 use Rattle.lbp16.specs.declared.pointer.Pointers.{Pointers}
 use Rattle.packet.specs.Step.{unlocked, replyBytes, answered}
 use Rattle.packet.specs.Rules.{first}
-use Rattle.packet.specs.Command.{limit, fieldsAt, kindOf, headerBytes, commandBytes, stride, elements, refusals, whichOf, numberOf, found}
+use Rattle.packet.specs.Command.{limit, fieldsAt, kindOf, headerBytes, commandBytes, stride, elements, refusals, whichOf, numberOf, Finding, found, whichListed, foundListed}
 use Rattle.packet.specs.Reach.{reachFrom, reachAt, ForRegisters, JudgedAt}
 use Rattle.packet.specs.declared.command.Reach.{Reach}
-use Rattle.packet.specs.declared.command.Found.{Found}
+use Rattle.packet.specs.declared.command.Which.{Which}
 use Rattle.packet.specs.declared.command.Which.the-variants.{Refused}
 use Rattle.packet.specs.declared.refusal.Judged.{Judged}
 use Rattle.packet.proofs.ProgressLaws.{progress-is}
 use Rattle.packet.specs.Command.{progressAfter, commandAt}
 use Rattle.packet.specs.Judge.{Carried, begin, carry, judgeFrom, judge, foundNext, verdictAt, accepted, refused}
 use Rattle.packet.specs.Judge
-use Rattle.packet.specs.Step.{Kind, read, write, infoRead}
+use Rattle.packet.specs.Step.{Kind}
 use Rattle.packet.specs.Verdict.{answerTo, start, progressOf}
 use Rattle.packet.specs.Command.{Progress}
 use Rattle.packet.specs.Command.{Command}
 use Rattle.packet.proofs.SliceLaws.{tail-whole}
-use Rattle.packet.proofs.ElementLaws.{which-none}
+use Rattle.packet.proofs.ElementLaws.{which-none, which-passed, bit-clear, write-kind}
 use Rattle.packet.proofs.StepLaws.{unlocked-append, reply-append}
 use Rattle.packet.proofs.UnlockLaws.{unlock-kept, not-status}
 use Rattle.packet.proofs.CommandLaws.{Passed, passed, passes}
@@ -70,14 +71,12 @@ unfolding answerTo progressOf
 verdict-end rest s e = rw (at-end rest s e, s .progress) refl
 
 -- the number that is found is the table's
-number-found : (n : ℕ) (k : Kind) → numberOf (whichOf n k) ≡ n
+number-found : (n place : ℕ) (k : Kind) → numberOf (whichOf n place k) ≡ n
 unfolding whichOf
-number-found zero read = refl
-number-found zero write = refl
-number-found zero infoRead = refl
-number-found (suc n) k = refl
+number-found zero place k = refl
+number-found (suc n) place k = refl
 
-verdict-refused : (n : ℕ) (k : Kind) (place : ℕ) (v : Judge.Verdict) → (n ≡ 0 → ⊥) → verdictAt (whichOf n k) place v ≡ refused n place
+verdict-refused : (n : ℕ) (k : Kind) (place : ℕ) (v : Judge.Verdict) → (n ≡ 0 → ⊥) → verdictAt (whichOf n place k) v ≡ refused n place
 unfolding whichOf
 verdict-refused zero k place v h = absurd (h refl)
 verdict-refused (suc n) k place v h = refl
@@ -111,7 +110,7 @@ module _ {p : Pointers} {packet : List ℕ} {c : Carried} {g : Progress} {place 
   number-at : numberOf (commandAt g place rest .found .which)
       ≡ first (refusals (g .pointers) (g .unlocked) (g .reply) (fieldsAt rest) rest)
   unfolding commandAt found
-  number-at = number-found _ _
+  number-at = number-found _ _ _
 
   pub at-refused : (n : ℕ) → n ≡ numberOf (commandAt g place rest .found .which) → (n ≡ 0 → ⊥)
       → Answer.refused n place ≡ answerTo (judge p packet)
@@ -126,7 +125,7 @@ module _ {p : Pointers} {packet : List ℕ} {c : Carried} {g : Progress} {place 
 
     next-is : commandAt g place rest .next ≡ progressAfter g (fieldsAt rest) rest
     unfolding commandAt found
-    next-is = rw (sym number-at ∙ e) (which-none _ g _)
+    next-is = rw (sym number-at ∙ e) (which-none _ g _ _)
 
     pub at-next : At p packet (carry c rest) (commandAt g place rest .next) (place + commandBytes (fieldsAt rest))
         (drop (commandBytes (fieldsAt rest)) rest)
@@ -197,12 +196,11 @@ checking-start list packet e =
       here = rw z (at-begin (pointersOf list) packet);
     }
 
-which-number : (n m : ℕ) (k : Kind) → whichOf m k ≡ Refused n → (n ≡ m) × (m ≡ 0 → ⊥)
+-- what is found, as a refusal
+which-number : (n at m place : ℕ) (k : Kind) → Answer.refused n at ≡ whichOf m place k → (n ≡ m) × (m ≡ 0 → ⊥) × (at ≡ place)
 unfolding whichOf
-which-number n zero read e = let z : _≡_ {A = ℕ} 0 1 = cc in absurd (omega arith)
-which-number n zero write e = let z : _≡_ {A = ℕ} 0 1 = cc in absurd (omega arith)
-which-number n zero infoRead e = let z : _≡_ {A = ℕ} 0 1 = cc in absurd (omega arith)
-which-number n (suc m) k e = (cc, λ z. omega arith)
+which-number n at zero place k e = let z : _≡_ {A = ℕ} 0 1 = cc in absurd (omega arith)
+which-number n at (suc m) place k e = (cc, λ z. omega arith, cc)
 
 -- What a turn leaves.
 pub record Checked (list packet pointers : List ℕ) (open? : Bool) (reply : ℕ) (rest : List ℕ) (r : Reach) : Type 0 where
@@ -269,22 +267,33 @@ module _ {list packet pointers : List ℕ} {open? : Bool} {reply : ℕ} {rest : 
   -- what is found at the command, and its reach
   module _ (some : 0 < length rest) (j : Judged)
       (q : JudgedAt (pointersOf pointers) open? reply (length packet - length rest) rest j) where
-    pub checking-refused : (n : ℕ) → j .found .which ≡ Refused n
-        → Answer.refused n (length packet - length rest) ≡ answerTo (judge (pointersOf list) packet)
-    unfolding commandAt found
-    checking-refused n w =
-        let e = which-number n _ _ (sym (ap (λ (y : Found). y .which) (q .found)) ∙ w) in
-        at-refused rest (s .here) some n (e .0 ∙ sym (number-found _ _)) (λ z. e .1 (sym (e .0) ∙ z))
-
     fields-found : j .found .fields ≡ fieldsAt rest
-    unfolding found
-    fields-found = ap (λ (y : Found). y .fields) (q .found)
+    unfolding found foundListed
+    fields-found = ap (λ (y : Finding). y .fields) (q .found)
 
-    module _ (none : numberOf (j .found .which) ≡ 0) where
+    number : ℕ
+    number = first (refusals (pointersOf pointers) open? reply (fieldsAt rest) rest)
+
+    which-found : whichListed (j .found .which) (j .found .place) ≡ whichOf number (length packet - length rest) (kindOf (fieldsAt rest))
+    unfolding found foundListed number
+    which-found = ap (λ (y : Finding). y .which) (q .found)
+
+    -- A refusal is the packet's, at the place that is found.
+    pub checking-refused : (n : ℕ) → j .found .which ≡ Refused n
+        → Answer.refused n (j .found .place) ≡ answerTo (judge (pointersOf list) packet)
+    unfolding commandAt found whichListed number
+    checking-refused n w =
+        let e = which-number n _ _ _ _ (sym (ap (λ (x : Which). whichListed x (j .found .place)) w) ∙ which-found) in
+        rw (e .2) (at-refused rest (s .here) some n (e .0 ∙ sym (number-found _ _ _)) (λ z. e .1 (sym (e .0) ∙ z)))
+
+    -- A read or a write, by its write bit.
+    module _ (b : ℕ) (is : whichListed (j .found .which) (j .found .place) ≡ Answer.accepted (b ∷ [])) where
+      bit-found : (number ≡ 0) × (b ≡ bit (j .found .fields .write))
+      bit-found = let e = which-passed _ _ _ _ (sym is ∙ which-found) in (e .0, rw fields-found (e .1 ∙ ap bit (write-kind (fieldsAt rest))))
+
       pub checking-passed : Passed (pointersOf pointers) open? reply (j .found .fields) rest
-      unfolding found
-      checking-passed =
-          rw fields-found (passed _ _ _ _ _ (sym (number-found _ _) ∙ sym (ap (λ (y : Found). numberOf (y .which)) (q .found)) ∙ none))
+      unfolding number
+      checking-passed = rw fields-found (passed _ _ _ _ _ (bit-found .0))
 
       pub checking-next : (o : Bool)
           → o ≡ unlocked open? (elements (kindOf (j .found .fields)) (spaceOf (j .found .fields .space)) (j .found .fields .count) (j .reach .used) (stride (j .found .fields)) (drop (headerBytes (j .found .fields)) rest))
@@ -297,6 +306,13 @@ module _ {list packet pointers : List ℕ} {open? : Bool} {reply : ℕ} {rest : 
       pub checking-registers : ForRegisters (fieldsAt rest) → Checked list packet pointers open? reply rest (j .reach)
       checking-registers r =
           checking-next open? (sym (unlock-kept _ _ _ _ _ _ _ (not-status _ (rw (fields-found, r .space) (and-false (fieldsAt rest .write))))))
+
+    -- Nor does a read.
+    pub checking-read : whichListed (j .found .which) (j .found .place) ≡ Answer.accepted (0 ∷ []) → (o : Bool) → o ≡ open?
+        → Checked list packet pointers o reply rest (j .reach)
+    checking-read is o e =
+        let w : j .found .fields .write ≡ false = bit-clear _ (bit-found 0 is .1) in
+        checking-next 0 is o (e ∙ sym (unlock-kept _ _ _ _ _ _ _ (not-status _ (rw w refl))))
 
 -- pointers by value, judged as their list
 pub judge-listed : (p : Pointers) (packet list : List ℕ) (a : Answer) → list ≡ pointerList p

@@ -18,7 +18,7 @@ use Rattle.lbp16.proofs.PointerLaws.{slot-read}
 use Rattle.packet.specs.Bytes.{number}
 use Rattle.packet.specs.Step.{read, write, isInfo, rowBy, carried, answered}
 use Rattle.packet.specs.Rules.{Rule, first, misaligned, anyStep, barred}
-use Rattle.packet.specs.Command.{fieldsAt, kindOf, rowOf, headerBytes, commandBytes, addressUsed, stride, stepsAt, refusals, whichOf, found}
+use Rattle.packet.specs.Command.{fieldsAt, kindOf, rowOf, headerBytes, commandBytes, addressUsed, stride, stepsAt, refusals, whichOf, found, whichListed, foundListed}
 use Rattle.packet.specs.Reach.{reachFrom, reachAt, Ruled, JudgedAt, ForRegisters}
 use Rattle.packet.specs.declared.command.Reach.{Reach}
 use Rattle.packet.specs.declared.command.Which.{Which}
@@ -186,9 +186,9 @@ next-is ps rest f r w e₁ e₂ e₃ = (e₂ ∙ e₁, e₃ ∙ ap (λ (g : Fiel
 
 -- what is found at the command, from its ruling
 pub judged-is : (p : Pointers) (o : Bool) (reply place : ℕ) (rest : List ℕ) (f : Fields) (r : Ruling) (x : Which)
-    → f ≡ fieldsAt rest → Ruled p o reply f rest r → x ≡ whichOf (r .number) (kindOf f)
+    → f ≡ fieldsAt rest → Ruled p o reply f rest r → whichListed x place ≡ whichOf (r .number) place (kindOf f)
     → JudgedAt p o reply place rest (record { found = record { fields = f; place = place; which = x }; reach = r .reach })
-unfolding found
+unfolding found foundListed
 judged-is p o reply place rest f r x e₁ e₂ e₃ =
     let q : Ruled p o reply (fieldsAt rest) rest r = rw (← e₁) e₂ in
     record { found = rw (e₃, e₁, q .number) refl; reach = q .reach }

@@ -68,10 +68,8 @@ ends-from (suc fuel) c (b ∷ bs) l =
     rest = b ∷ bs
 
     go : (n : ℕ) (k : Kind) {v : Verdict} → first (tableAt c rest) ≡ n → Ends (carry c rest) (behind rest) v
-        → Ends c rest (verdictAt (whichOf n k) (c .place) v)
-    go zero read e h = further (passed _ _ _ _ _ e) h
-    go zero write e h = further (passed _ _ _ _ _ e) h
-    go zero infoRead e h = further (passed _ _ _ _ _ e) h
+        → Ends c rest (verdictAt (whichOf n (c .place) k) v)
+    go zero k e h = further (passed _ _ _ _ _ e) h
     go (suc n) k e h = Ends.refuses Reaches.here (omega arith) e (omega arith)
 
 pub judge-ends : (p : Pointers) (packet : List ℕ) → Ends (begin p) packet (judge p packet)

@@ -5,7 +5,8 @@ use mathlib.Core.Bool.{Bool, false, not, _||_, _&&_, cond}
 use lib.ListN.{length, take, drop}
 use lib.Dec.{eqb, ltb}
 use Rattle.lbp16.specs.Space.{Space, spaceOf, isAbsent}
-use Rattle.lbp16.specs.Word.{fieldsOf}
+use Rattle.lbp16.specs.Word.{bit, fieldsOf}
+use Rattle.lbp16.specs.Answer.{Answer}
 use Rattle.lbp16.specs.Pointer.{pointerOf, withPointer}
 use Rattle.lbp16.specs.Info.{areaWords}
 use Rattle.lbp16.specs.declared.space.Row.{Row}
@@ -13,7 +14,7 @@ use Rattle.lbp16.specs.declared.word.Fields.{Fields}
 use Rattle.lbp16.specs.declared.pointer.Pointers.{Pointers}
 use Rattle.packet.specs.Bytes.{number, pairsOf}
 use Rattle.packet.specs.Step.{Kind, read, write, infoRead, Step, isInfo, rowBy, carried, answered}
-use Rattle.packet.specs.Step.{unlocked, replyBytes}
+use Rattle.packet.specs.Step.{isWrite, unlocked, replyBytes}
 use Rattle.packet.specs.Rules.{Rule, first, misaligned, pastEnd, barred, anyStep}
 use Rattle.packet.specs.declared.command.Found.{Found}
 use Rattle.packet.specs.declared.command.Which.{Which}
@@ -102,17 +103,30 @@ refusals p open? reply f rest =
     ∷ record { number = 12; holds = ltb limit (reply + f .count * answered k s) }
     ∷ []
 
-unfoldable pub whichOf : ℕ → Kind → Which
-whichOf zero read = Read
-whichOf zero write = Write
-whichOf zero infoRead = Read
-whichOf (suc n) k = Refused (suc n)
+-- which of read, write or refusal: the write bit of the command word, or the refusal's number and its place
+unfoldable pub whichOf : ℕ → ℕ → Kind → Answer
+whichOf zero place k = Answer.accepted (bit (isWrite k) ∷ [])
+whichOf (suc n) place k = Answer.refused (suc n) place
 
--- What is found at the command: its fields, its place, and which of read, write or refusal it is.
-unfoldable pub found : Pointers → Bool → ℕ → ℕ → List ℕ → Found
+-- What is found at a command: its fields, its place, and which of read, write or refusal it is.
+pub record Finding : Type 0 where
+  pub fields : Fields
+  pub place : ℕ
+  pub which : Answer
+
+unfoldable pub found : Pointers → Bool → ℕ → ℕ → List ℕ → Finding
 found p open? reply place rest =
     let f = fieldsAt rest in
-    record { fields = f; place = place; which = whichOf (first (refusals p open? reply f rest)) (kindOf f) }
+    record { fields = f; place = place; which = whichOf (first (refusals p open? reply f rest)) place (kindOf f) }
+
+-- the same as the code has it: its number and values, for each case
+unfoldable pub whichListed : Which → ℕ → Answer
+whichListed Read place = Answer.accepted (0 ∷ [])
+whichListed Write place = Answer.accepted (1 ∷ [])
+whichListed (Refused n) place = Answer.refused n place
+
+unfoldable pub foundListed : Found → Finding
+foundListed x = record { fields = x .fields; place = x .place; which = whichListed (x .which) (x .place) }
 
 -- A command sets the pointer of its space, or of its info area, to the address, and with increment moves it past all
 -- elements.
@@ -121,10 +135,9 @@ pointersAfter p f rest =
     withPointer p (isInfo (kindOf f)) (spaceOf (f .space)) (addressUsed p f rest + f .count * stride f)
 
 -- the number of what is found, 0 where it is no refusal
-abbrev pub numberOf : Which → ℕ
-numberOf Read = 0
-numberOf Write = 0
-numberOf (Refused n) = n
+abbrev pub numberOf : Answer → ℕ
+numberOf (Answer.accepted values) = 0
+numberOf (Answer.refused n place) = n
 
 -- What the commands before this one leave: the pointers, whether the unlock is open, the reply's bytes so far.
 pub record Progress : Type 0 where
@@ -134,13 +147,12 @@ pub record Progress : Type 0 where
 
 -- A command with what is found at it, and the progress after it; a refusal leaves the progress.
 pub record Command : Type 0 where
-  pub found : Found
+  pub found : Finding
   pub next : Progress
 
-abbrev pub nextBy : Which → Progress → Progress → Progress
-nextBy Read next g = next
-nextBy Write next g = next
-nextBy (Refused n) next g = g
+abbrev pub nextBy : Answer → Progress → Progress → Progress
+nextBy (Answer.accepted values) next g = next
+nextBy (Answer.refused n place) next g = g
 
 unfoldable pub progressAfter : Progress → Fields → List ℕ → Progress
 progressAfter g f rest =

@@ -9,7 +9,7 @@ use Rattle.lbp16.specs.declared.word.Fields.{Fields}
 use Rattle.lbp16.specs.declared.pointer.Pointers.{Pointers}
 use Rattle.packet.specs.Step.{isInfo, answered}
 use Rattle.packet.specs.Rules.{first}
-use Rattle.packet.specs.Command.{fieldsAt, kindOf, rowOf, commandBytes, addressUsed, stride, refusals, found}
+use Rattle.packet.specs.Command.{fieldsAt, kindOf, rowOf, commandBytes, addressUsed, stride, refusals, found, foundListed}
 use Rattle.packet.specs.declared.command.Reach.{Reach}
 use Rattle.packet.specs.declared.refusal.Ruling.{Ruling}
 use Rattle.packet.specs.declared.refusal.Judged.{Judged}
@@ -43,5 +43,5 @@ pub record Ruled (p : Pointers) (open? : Bool) (reply : ℕ) (f : Fields) (rest 
 
 -- what is found at a command, and its reach if it is not refused
 pub record JudgedAt (p : Pointers) (open? : Bool) (reply place : ℕ) (rest : List ℕ) (j : Judged) : Type 0 where
-  pub found : j .found ≡ found p open? reply place rest
+  pub found : foundListed (j .found) ≡ found p open? reply place rest
   pub reach : first (refusals p open? reply (fieldsAt rest) rest) ≡ 0 → j .reach ≡ reachAt p (fieldsAt rest) rest

@@ -65,18 +65,22 @@ pub fn judge_list(packet: &[u8], list: &[u32]) -> Verdict
             let c = refusal::register_at(rest, word, &pointers, reply, place);
             let found = c.found;
             let which = found.which;
-            if let Which::Refused(number) = which {
-                return refused(number, place);
+            match which {
+                Which::Read | Which::Write => {}
+                Which::Refused(number) => return refused(number, found.place),
             }
             c.reach
         } else {
             let c = refusal::area_at(rest, word, &pointers, unlocked, reply, place);
             let found = c.found;
             let which = found.which;
-            if let Which::Refused(number) = which {
-                return refused(number, place);
+            match which {
+                Which::Read => {}
+                Which::Write => {
+                    unlocked = command::unlocked_next(rest, unlocked, found.fields, c.reach.used);
+                }
+                Which::Refused(number) => return refused(number, found.place),
             }
-            unlocked = command::unlocked_next(rest, unlocked, found.fields, c.reach.used);
             c.reach
         };
         reply += reach.answered;

@@ -3,5 +3,5 @@ pub mod bytes;
 pub mod command;
 pub mod info;
 pub mod judge;
-mod refusal;
+pub mod refusal;
 pub mod rule;

@@ -13,7 +13,7 @@ use lbp16::word::Fields;
 ghost use mathlib.Core.Bool.{Bool, not, _&&_, cond};
 ghost use mathlib.Core.List.{List};
 ghost use mathlib.Core.Path.{_≡_};
-ghost use Prim.Native.Nat.{ℕ, _*_, _+_, _%_, _≤_};
+ghost use Prim.Native.Nat.{ℕ, _*_, _+_, _-_, _%_, _≤_};
 ghost use lib.ListN.{length, take, drop};
 ghost use lib.Dec.{eqb, ltb};
 ghost use Rattle.lbp16.specs.Word.{fieldsOf};
@@ -21,7 +21,7 @@ ghost use Rattle.lbp16.specs.Pointer.{pointersOf};
 ghost use Rattle.lbp16.specs.declared.pointer.Pointers.{Pointers};
 ghost use Rattle.packet.specs.Bytes.{number};
 ghost use Rattle.packet.specs.Rules.{first, anyStep, barred};
-ghost use Rattle.packet.specs.Command.{limit, fieldsAt, kindOf, rowOf, headerBytes, addressUsed, stepsAt, outOfPlace, refusals, whichOf};
+ghost use Rattle.packet.specs.Command.{limit, fieldsAt, kindOf, rowOf, headerBytes, addressUsed, stepsAt, outOfPlace, refusals, whichOf, found, whichListed, foundListed};
 ghost use Rattle.packet.specs.Reach.{reachAt, ForRegisters, Ruled, JudgedAt};
 
 // A command's number, 0 if no rule refuses it, and then its reach.
@@ -194,8 +194,9 @@ fn area_ruling(rest: &[u8], f: Fields, pointers: &[u32], unlocked: bool, reply: 
     Ruling { number, reach }
 }
 
-fn which_of(number: u32, f: Fields) -> Which
-    ensures { λ r. ⌜ r ≡ whichOf number (kindOf f) ⌝ }
+// Which of read, write or refusal a command is whose refusal's number, 0 for none, is this.
+pub fn which_of(number: u32, f: Fields) -> Which
+    ensures { λ r. ⌜ ((place : ℕ) → whichListed r place ≡ whichOf number place (kindOf f)) ⌝ }
 {
     if number != 0 {
         return Which::Refused(number);
@@ -252,4 +253,22 @@ pub(crate) fn area_at(
         return judged_by(f, place, cut_off());
     }
     judged_by(f, place, area_ruling(rest, f, pointers, unlocked, reply))
+}
+
+// The bytes of a reply of which so many are left.
+fn reply_before(left: usize) -> usize
+    ensures { λ r. ⌜ (r ≡ limit - left) × (r ≤ limit) ⌝ }
+{
+    if left < LIMIT { LIMIT - left } else { 0 }
+}
+
+// What is found at the command at the front of `rest`: on these pointers, with the unlock so, and so many bytes of the reply left.
+pub fn found_at(rest: &[u8], pointers: &[u32], unlocked: bool, left: usize, place: usize) -> Found
+    ensures { λ r. ⌜ foundListed r ≡ found (pointersOf (now (pointers .entry))) unlocked (limit - left) place (now (rest .entry)) ⌝ }
+{
+    let word = command::word_at(rest);
+    let reply = reply_before(left);
+    let judged = area_at(rest, word, pointers, unlocked, reply, place);
+    let found = judged.found;
+    found
 }

@@ -16,8 +16,6 @@ use Rattle.packet.specs.Command.{pointersAfter}
 use Rattle.packet.specs.Judge.{Carried, Verdict, accepted, refused, begin, carry, foundNext, verdictAt, judgeFrom, judge}
 use Rattle.packet.specs.Verdict.{answerTo, start, progressOf}
 use Rattle.packet.specs.Command.{Progress}
-use Rattle.packet.specs.declared.command.Which.{Which}
-use Rattle.packet.specs.declared.command.Which.the-variants.{Read, Write, Refused}
 use Rattle.packet.proofs.SliceLaws.{tail-whole}
 use Rattle.packet.proofs.CommandLaws.{Passed, advanced-used}
 use Rattle.packet.proofs.LoopLaws.{At, at-begin, at-end, at-accepted, at-passed, at-next, Turn, at-step}
@@ -40,11 +38,10 @@ rejected-on (suc fuel) c (b ∷ bs) list e =
     (rejected-on fuel (carry c (b ∷ bs)) (drop (commandBytes (fieldsAt (b ∷ bs))) (b ∷ bs)) list
     (append-rejected (c .steps) (stepsAt (c .pointers) (fieldsAt (b ∷ bs)) (b ∷ bs)) list e))
   where
-    go : (w : Which) (v : Verdict) → doingTakes (doneBy v) list ≡ Taken.Rejected
-        → doingTakes (doneBy (verdictAt w (c .place) v)) list ≡ Taken.Rejected
-    go Read v h = h
-    go Write v h = h
-    go (Refused n) v h = refl
+    go : (w : Answer) (v : Verdict) → doingTakes (doneBy v) list ≡ Taken.Rejected
+        → doingTakes (doneBy (verdictAt w v)) list ≡ Taken.Rejected
+    go (Answer.accepted values) v h = h
+    go (Answer.refused n place) v h = refl
 
 -- the check's answer as the code has it
 refused-none : (v : Verdict) (n place : ℕ) → Answer.refused n place ≡ answerTo v → doneBy v ≡ none

@@ -6,13 +6,16 @@ use borrow.Author.Tests.{eq-eqb, ne-eqb}
 use mathlib.Core.Path.{_≡_, refl, sym, _∙_}
 use mathlib.Core.Logic.{_⊎_, ⊎-elim}
 use lib.ListN.{length, length-take, length-drop}
-use Rattle.packet.specs.Command.{numberOf}
+use Rattle.packet.specs.Command.{whichListed}
+use Rattle.lbp16.specs.Answer.{Answer}
+use mathlib.Core.List.{[], _∷_}
+use Prim.Native.Nat.{ℕ}
 use Rattle.packet.specs.Verdict.{answerTo, verdictListed}
 use Rattle.packet.specs.declared.command.Which.{Which}
 use Rattle.packet.specs.declared.command.Which.the-variants.{Read, Write, Refused}
 use Rattle.packet.proofs.command.Which.{the-type}
 use Rattle.packet.proofs.ReachLaws.{registers-word}
-use Rattle.packet.proofs.LoopLaws.{Checking, Checked, checking-start, checking-refused, checking-passed, checking-next, checking-registers, checking-end}
+use Rattle.packet.proofs.LoopLaws.{Checking, Checked, checking-start, checking-refused, checking-passed, checking-next, checking-read, checking-registers, checking-end}
 use Rattle.packet.proofs.judge.judge_list.Statement.{statement}
 use Rattle.packet.proofs.judge.judge_list.Tie as tie
 
@@ -65,6 +68,12 @@ slice-aggregate-area-at c = search needs
 area-at-requires : tie.Need-area-at-requires Inv-loop μ-loop
 area-at-requires c κs = (c .before .before .before .word-at .ensures, c .before .before .before .before .before .loop .inv .within)
 
+enum-told : tie.Need-enum-told Inv-loop μ-loop
+enum-told c = search needs
+
+enum-told-2 : tie.Need-enum-told-2 Inv-loop μ-loop
+enum-told-2 c = search needs
+
 enum-known-which-2 : tie.Need-enum-known-which-2 Inv-loop μ-loop
 enum-known-which-2 c = search needs
 
@@ -74,21 +83,58 @@ refused-requires-3 c κs = search needs
 returns-3 : tie.Need-returns-3 Inv-loop μ-loop
 returns-3 c = rw (eq-eqb _ _ (c .before .before .before .before .before .before .before .before .before .before .before .before .before .if1 .left)) (c .refused3 .ensures ∙ checking-refused (c .before .before .before .before .before .before .before .before .before .before .before .loop .inv) (c .before .before .before .before .before .before .before .before .before .before .loop-test .taken) _ (c .before .before .before .before .before .area-at .ensures) _ (c .before .before .which2 .given .1))
 
--- what is found is no refusal
-no-refusal : (w : Which) → (tagOf the-type w ≡ 0) ⊎ (tagOf the-type w ≡ 1) → numberOf w ≡ 0
-no-refusal Read h = refl
-no-refusal Write h = refl
-no-refusal (Refused n) h = absurd (⊎-elim (λ e. omega arith) (λ e. omega arith) h)
+-- what is found is a read or a write
+some-bit : (w : Which) (place : ℕ) → (tagOf the-type w ≡ 0) ⊎ (tagOf the-type w ≡ 1)
+    → (b : ℕ) × (whichListed w place ≡ Answer.accepted (b ∷ []))
+unfolding whichListed
+some-bit Read place h = (0, refl)
+some-bit Write place h = (1, refl)
+some-bit (Refused n) place h = absurd (⊎-elim (λ e. omega arith) (λ e. omega arith) h)
+
+-- a write, by its listing
+is-write : (w : Which) (place : ℕ) → tagOf the-type w ≡ 1 → whichListed w place ≡ Answer.accepted (1 ∷ [])
+unfolding whichListed
+is-write Read place h = absurd (omega arith)
+is-write Write place h = refl
+is-write (Refused n) place h = absurd (omega arith)
+
+is-read : (w : Which) (place : ℕ) → tagOf the-type w ≡ 0 → whichListed w place ≡ Answer.accepted (0 ∷ [])
+unfolding whichListed
+is-read Read place h = refl
+is-read Write place h = absurd (omega arith)
+is-read (Refused n) place h = absurd (omega arith)
 
 unlocked-next-requires : tie.Need-unlocked-next-requires Inv-loop μ-loop
-unlocked-next-requires c κs = checking-passed (c .before .before .before .before .before .before .before .before .loop .inv) (c .before .before .before .before .before .before .before .loop-test .taken) _ (c .before .before .area-at .ensures) (no-refusal (c .before .before .area-at .result .found .which) (c .match2 .keys2)) .header
+unlocked-next-requires c κs =
+    let b = c .before .before .before in
+    let l = b .before .before .before .before .before .before in
+    let found = b .area-at .result .found in
+    checking-passed (l .loop .inv) (b .before .before .before .before .before .loop-test .taken) _ (b .area-at .ensures) 1
+    (is-write (found .which) (found .place) (c .before .match2 .keys2))
+    .header
 
 -- a turn of the loop
 step : (c : tie.After-struct-known Inv-loop μ-loop)
     → Checked (now (c .before .before .before .before .before .before .before .before .before .before .args .list)) (now (c .before .before .before .before .before .before .before .before .before .before .args .packet)) (c .before .before .before .before .before .loop .pointers) (c .before .if2 .unlocked) (c .before .before .before .before .before .loop .reply) (now (c .before .before .before .before .before .loop .rest)) (c .before .if2 .reach)
 step c =
-    ⊎-elim (λ w. rw (w .6, w .7) (checking-registers (c .before .before .before .before .before .loop .inv) (c .before .before .before .before .loop-test .taken) _ (w .2 .ensures _) (no-refusal (w .2 .result .found .which) (w .4 .keys2)) (rw (← c .before .before .before .word-at .ensures) (registers-word _ _ refl (sym (c .before .before .for-registers .ensures) ∙ w .0 .taken)))))
-    (λ w. rw (w .7, w .8) (checking-next (c .before .before .before .before .before .loop .inv) (c .before .before .before .before .loop-test .taken) _ (w .2 .ensures) (no-refusal (w .2 .result .found .which) (w .4 .keys2)) _ (w .5 .ensures)))
+    let l = c .before .before .before .before in
+    let inv = l .before .loop .inv in
+    let more = l .loop-test .taken in
+    let word = c .before .before .before .word-at .ensures in
+    let plain = c .before .before .for-registers .ensures in
+    ⊎-elim
+    (λ w.
+    let found = w .2 .result .found in
+    let (b, is) = some-bit (found .which) (found .place) (w .4 .keys1) in
+    rw (w .6, w .7)
+    (checking-registers inv more _ (w .2 .ensures _) b is (rw (← word) (registers-word _ _ refl (sym plain ∙ w .0 .taken)))))
+    (λ w.
+    let found = w .2 .result .found in
+    rw (w .6, w .7)
+    (⊎-elim
+    (λ v. checking-read inv more _ (w .2 .ensures) (is-read (found .which) (found .place) (v .0 .keys1)) _ (v .2))
+    (λ v. checking-next inv more _ (w .2 .ensures) 1 (is-write (found .which) (found .place) (v .0 .keys2)) _ (v .3 ∙ v .2 .ensures))
+    (w .4 .came)))
     (c .before .if2 .came)
 
 add-reply : tie.Need-add-reply Inv-loop μ-loop
@@ -139,10 +185,12 @@ judge-list-spec =
     returns-2
     slice-aggregate-area-at
     area-at-requires
+    enum-told
+    enum-told-2
+    unlocked-next-requires
     enum-known-which-2
     refused-requires-3
     returns-3
-    unlocked-next-requires
     add-reply
     mul-pointers
     array-write-pointers

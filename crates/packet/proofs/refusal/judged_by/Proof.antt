@@ -7,7 +7,7 @@ which-of-requires : tie.Need-which-of-requires
 which-of-requires c κs = search needs
 
 returns : tie.Need-returns
-returns c p o reply rest e h = judged-is p o reply _ rest _ (c .before .before .args .ruling) _ e h (c .before .which-of .ensures)
+returns c p o reply rest e h = judged-is p o reply _ rest _ (c .before .before .args .ruling) _ e h (c .before .which-of .ensures _)
 
 pub judged-by-spec : {M : Type 1} → statement M
 judged-by-spec = tie.close (tie.spec which-of-requires returns)
