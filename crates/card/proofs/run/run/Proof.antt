@@ -27,7 +27,10 @@ same-length-2 c = search needs
 
 returns : tie.Need-returns
 returns c =
-    ran-work _ _ _ _ _ _ _ (ran-listed _ _ _ _ (c .before .before .before .before .before .before .before .run-list .result) _ _ _ _ _ (c .before .before .before .before .before .before .before .before .before .before .before .listed .ensures) (c .before .before .before .before .before .before .before .run-list .ensures .0) refl refl (c .from-list .ensures))
+    let b = c .before .before .before .before .before .before .before in
+    let listed = b .before .before .before .before .listed .ensures in
+    ran-work _ _ _ _ _ _ _
+    (ran-listed _ _ _ _ (b .run-list .result) _ _ _ _ _ listed (b .run-list .ensures .0) refl refl (c .from-list .ensures))
 
 pub run-spec : {M : Type 1} → statement M
 run-spec =

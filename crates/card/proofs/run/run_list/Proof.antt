@@ -13,7 +13,9 @@ not-run-requires : tie.Need-not-run-requires
 not-run-requires c κs = search needs
 
 returns : tie.Need-returns
-returns c = list-work _ _ _ _ _ _ _ _ (other-room _ _ _ _ (c .before .before .if1 .taken) _ (ap verdictListed (c .not-run .ensures .0) ∙ c .before .refused .ensures) (c .not-run .ensures .1))
+returns c =
+    let answer = ap verdictListed (c .not-run .ensures .0) ∙ c .before .refused .ensures in
+    list-work _ _ _ _ _ _ _ _ (other-room _ _ _ _ (c .before .before .if1 .taken) _ answer (c .not-run .ensures .1))
 
 check-list-requires : tie.Need-check-list-requires
 check-list-requires c κs = search needs
@@ -35,19 +37,38 @@ same-length-2 c = search needs
 
 returns-2 : tie.Need-returns-2
 unfolding verdictListed
-returns-2 c = list-work _ _ _ _ _ _ _ _ (run-refused _ _ _ _ (c .before .before .before .before .before .before .if1 .left) _ _ _ (ap verdictListed (c .not-run2 .ensures .0 ∙ c .before .enum-told .given .1)) (ap verdictListed (sym (c .before .enum-told .given .1)) ∙ c .before .before .before .check-list .ensures) (c .not-run2 .ensures .1))
+returns-2 c =
+    let told = c .before .enum-told .given .1 in
+    let a = c .before .before .before in
+    let room = a .before .before .before .if1 .left in
+    let answer = ap verdictListed (c .not-run2 .ensures .0 ∙ told) in
+    let checked = ap verdictListed (sym told) ∙ a .check-list .ensures in
+    list-work _ _ _ _ _ _ _ _ (run-refused _ _ _ _ room _ _ _ answer checked (c .not-run2 .ensures .1))
 
 perform-requires : tie.Need-perform-requires
 unfolding verdictListed
-perform-requires c κs = let m = may-run-list _ _ _ (c .before .before .before .before .answer .given .0 .0) (ap verdictListed (sym (c .before .before .before .before .answer .given .1)) ∙ c .before .before .before .before .before .before .check-list .ensures) in (m .1, m .2, m .0, c .before .before .before .before .before .before .before .before .before .if1 .left)
+perform-requires c κs =
+    let a = c .before .before .before .before in
+    let checked = ap verdictListed (sym (a .answer .given .1)) ∙ a .before .before .check-list .ensures in
+    let m = may-run-list _ _ _ (a .answer .given .0 .0) checked in
+    (m .1, m .2, m .0, a .before .before .before .before .before .if1 .left)
 
 clear-unlock-requires : tie.Need-clear-unlock-requires
 unfolding verdictListed
-clear-unlock-requires c κs = c .before .before .before .before .before .before .before .perform .kept .1 .0 ∙ may-run-list _ _ _ (c .before .before .before .before .before .before .before .before .before .before .before .before .answer .given .0 .0) (ap verdictListed (sym (c .before .before .before .before .before .before .before .before .before .before .before .before .answer .given .1)) ∙ c .before .before .before .before .before .before .before .before .before .before .before .before .before .before .check-list .ensures) .2
+clear-unlock-requires c κs =
+    let p = c .before .before .before .before .before .before .before in
+    let a = p .before .before .before .before .before in
+    let checked = ap verdictListed (sym (a .answer .given .1)) ∙ a .before .before .check-list .ensures in
+    p .perform .kept .1 .0 ∙ may-run-list _ _ _ (a .answer .given .0 .0) checked .2
 
 count-packet-requires : tie.Need-count-packet-requires
 unfolding verdictListed
-count-packet-requires c κs = c .before .before .before .clear-unlock .kept .0 ∙ c .before .before .before .before .before .before .before .before .before .before .before .perform .kept .1 .0 ∙ may-run-list _ _ _ (c .before .before .before .before .before .before .before .before .before .before .before .before .before .before .before .before .answer .given .0 .0) (ap verdictListed (sym (c .before .before .before .before .before .before .before .before .before .before .before .before .before .before .before .before .answer .given .1)) ∙ c .before .before .before .before .before .before .before .before .before .before .before .before .before .before .before .before .before .before .check-list .ensures) .2
+count-packet-requires c κs =
+    let u = c .before .before .before in
+    let p = u .before .before .before .before .before .before .before .before in
+    let a = p .before .before .before .before .before in
+    let checked = ap verdictListed (sym (a .answer .given .1)) ∙ a .before .before .check-list .ensures in
+    u .clear-unlock .kept .0 ∙ p .perform .kept .1 .0 ∙ may-run-list _ _ _ (a .answer .given .0 .0) checked .2
 
 same-length-3 : tie.Need-same-length-3
 same-length-3 c = search needs
@@ -61,11 +82,13 @@ same-length-5 c = search needs
 returns-3 : tie.Need-returns-3
 unfolding verdictListed
 returns-3 c =
-    list-work _ _ _ _ _ _ _ _ (run-done _ _ _ _ (c .before .before .before .before .before .before .before .before .before .before .before .before .before .before .before .before .before .before .before .before .before .before .before .before .if1 .left) (c .before .before .before .before .before .before .before .before .before .before .before .before .before .before .before .before .before .before .before .answer .given .0 .0) _ _ _ _ refl
-    (ap verdictListed (sym (c .before .before .before .before .before .before .before .before .before .before .before .before .before .before .before .before .before .before .before .answer .given .1)) ∙ c .before .before .before .before .before .before .before .before .before .before .before .before .before .before .before .before .before .before .before .before .before .check-list .ensures)
-    (c .before .before .before .before .before .before .before .before .before .before .before .before .before .before .perform .ensures)
-    _
-    (c .before .before .count-packet .ensures ∙ ap counted (c .before .before .before .before .before .before .clear-unlock .ensures)))
+    let u = c .before .before .before .before .before .before in
+    let p = u .before .before .before .before .before .before .before .before in
+    let a = p .before .before .before .before .before in
+    let checked = ap verdictListed (sym (a .answer .given .1)) ∙ a .before .before .check-list .ensures in
+    let left = c .before .before .count-packet .ensures ∙ ap counted (u .clear-unlock .ensures) in
+    list-work _ _ _ _ _ _ _ _
+    (run-done _ _ _ _ (a .before .before .before .before .before .if1 .left) (a .answer .given .0 .0) _ _ _ _ refl checked (p .perform .ensures) _ left)
 
 pub run-list-spec : {M : Type 1} → statement M
 run-list-spec =

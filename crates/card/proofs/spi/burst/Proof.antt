@@ -34,11 +34,13 @@ stride-of-requires c κs = search needs
 
 -- past the test the burst is sound
 ready : (c : tie.After-stride-of)
-    → Ready (now (c .before .before .before .before .before .before .before .before .before .before .before .args .words)) (now (c .before .before .before .before .before .before .before .before .before .before .before .args .store)) (now (c .before .before .before .before .before .before .before .before .before .before .before .args .answer)) (c .before .before .header-of .result) (c .stride-of .result)
+    → let s = c .before .before .before .before .before .before .before .before .before .before .before .args in
+    Ready (now (s .words)) (now (s .store)) (now (s .answer)) (c .before .before .header-of .result) (c .stride-of .result)
 ready c =
+    let h = c .before .before in
     record {
-      passed = sym (c .before .before .before .before .before .refusal-of .ensures) ∙ c .before .before .before .before .if1 .left;
-      header = c .before .before .header-of .ensures ∙ ap headerOf (c .before .before .before .first-word .ensures);
+      passed = sym (h .before .before .before .refusal-of .ensures) ∙ h .before .before .if1 .left;
+      header = h .header-of .ensures ∙ ap headerOf (h .before .first-word .ensures);
       apart = c .stride-of .ensures .0;
     }
 
@@ -46,10 +48,18 @@ sub-came : tie.Need-sub-came
 sub-came c = ready-lengths _ _ _ _ _ (ready c) .1
 
 write-cells-requires : tie.Need-write-cells-requires
-write-cells-requires c κs = let r = ready (c .before .before .before .before) in let l = ready-lengths _ _ _ _ _ r in (l .0, l .1, c .before .before .before .before .stride-of .ensures .1, ready-within _ _ _ _ _ r)
+write-cells-requires c κs =
+    let b = c .before .before .before .before in
+    let r = ready b in
+    let l = ready-lengths _ _ _ _ _ r in
+    (l .0, l .1, b .stride-of .ensures .1, ready-within _ _ _ _ _ r)
 
 read-cells-requires : tie.Need-read-cells-requires
-read-cells-requires c κs = let r = ready (c .before .before .before .before) in let l = ready-lengths _ _ _ _ _ r in (l .0, omega (arith, l .1, l .2), c .before .before .before .before .stride-of .ensures .1, rw (← l .2) at (ready-within _ _ _ _ _ r))
+read-cells-requires c κs =
+    let b = c .before .before .before .before in
+    let r = ready b in
+    let l = ready-lengths _ _ _ _ _ r in
+    (l .0, omega (arith, l .1, l .2), b .stride-of .ensures .1, rw (← l .2) at (ready-within _ _ _ _ _ r))
 
 same-length-3 : tie.Need-same-length-3
 same-length-3 c = search needs
@@ -59,7 +69,10 @@ same-length-4 c = search needs
 
 returns-2 : tie.Need-returns-2
 unfolding burstListed
-returns-2 c = burst-bounded _ _ _ _ _ _ _ refl (burst-writes _ _ _ _ _ (ready (c .before .before .before .before .before .before .before .before .before)) (c .before .before .before .before .before .before .before .if2 .taken) _ _ (c .before .before .before .before .write-cells .ensures .0) (c .before .before .before .before .write-cells .ensures .1))
+returns-2 c =
+    let r = ready (c .before .before .before .before .before .before .before .before .before) in
+    let done = c .before .before .before .before .write-cells .ensures in
+    burst-bounded _ _ _ _ _ _ _ refl (burst-writes _ _ _ _ _ r (c .before .before .before .before .before .before .before .if2 .taken) _ _ (done .0) (done .1))
 
 same-length-5 : tie.Need-same-length-5
 same-length-5 c = search needs
@@ -69,7 +82,9 @@ same-length-6 c = search needs
 
 returns-3 : tie.Need-returns-3
 unfolding burstListed
-returns-3 c = burst-bounded _ _ _ _ _ _ _ refl (burst-reads _ _ _ _ _ (ready (c .before .before .before .before .before .before .before)) (c .before .before .before .before .before .if2 .left) _ (c .before .before .read-cells .ensures))
+returns-3 c =
+    let r = ready (c .before .before .before .before .before .before .before) in
+    burst-bounded _ _ _ _ _ _ _ refl (burst-reads _ _ _ _ _ r (c .before .before .before .before .before .if2 .left) _ (c .before .before .read-cells .ensures))
 
 pub burst-spec : {M : Type 1} → statement M
 burst-spec =

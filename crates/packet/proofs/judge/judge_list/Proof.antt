@@ -15,7 +15,8 @@ use Rattle.packet.specs.declared.command.Which.{Which}
 use Rattle.packet.specs.declared.command.Which.the-variants.{Read, Write, Refused}
 use Rattle.packet.proofs.command.Which.{the-type}
 use Rattle.packet.proofs.ReachLaws.{registers-word}
-use Rattle.packet.proofs.LoopLaws.{Checking, Checked, checking-start, checking-refused, checking-passed, checking-next, checking-read, checking-registers, checking-end}
+use Rattle.packet.proofs.LoopLaws.{Checking, Checked, checking-start, checking-refused, checking-passed}
+use Rattle.packet.proofs.LoopLaws.{checking-next, checking-read, checking-registers, checking-end}
 use Rattle.packet.proofs.judge.judge_list.Statement.{statement}
 use Rattle.packet.proofs.judge.judge_list.Tie as tie
 
@@ -51,7 +52,10 @@ slice-aggregate-register-at : tie.Need-slice-aggregate-register-at Inv-loop μ-l
 slice-aggregate-register-at c = search needs
 
 register-at-requires : tie.Need-register-at-requires Inv-loop μ-loop
-register-at-requires c κs = (c .before .before .before .word-at .ensures, registers-word _ _ refl (sym (c .before .before .for-registers .ensures) ∙ c .before .if2 .taken), c .before .before .before .before .before .loop .inv .within)
+register-at-requires c κs =
+    let b = c .before .before in
+    let plain = sym (b .for-registers .ensures) ∙ c .before .if2 .taken in
+    (b .before .word-at .ensures, registers-word _ _ refl plain, b .before .before .before .loop .inv .within)
 
 enum-known-which : tie.Need-enum-known-which Inv-loop μ-loop
 enum-known-which c = search needs
@@ -60,7 +64,13 @@ refused-requires-2 : tie.Need-refused-requires-2 Inv-loop μ-loop
 refused-requires-2 c κs = search needs
 
 returns-2 : tie.Need-returns-2 Inv-loop μ-loop
-returns-2 c = rw (eq-eqb _ _ (c .before .before .before .before .before .before .before .before .before .before .before .before .before .if1 .left)) (c .refused2 .ensures ∙ checking-refused (c .before .before .before .before .before .before .before .before .before .before .before .loop .inv) (c .before .before .before .before .before .before .before .before .before .before .loop-test .taken) _ (c .before .before .before .before .before .register-at .ensures _) _ (c .before .before .which .given .1))
+returns-2 c =
+    let b = c .before .before .before .before .before in
+    let l = b .before .before .before .before .before in
+    let eight = l .before .before .before .if1 .left in
+    let is = c .before .before .which .given .1 in
+    rw (eq-eqb _ _ eight)
+    (c .refused2 .ensures ∙ checking-refused (l .before .loop .inv) (l .loop-test .taken) _ (b .register-at .ensures _) _ is)
 
 slice-aggregate-area-at : tie.Need-slice-aggregate-area-at Inv-loop μ-loop
 slice-aggregate-area-at c = search needs
@@ -81,7 +91,13 @@ refused-requires-3 : tie.Need-refused-requires-3 Inv-loop μ-loop
 refused-requires-3 c κs = search needs
 
 returns-3 : tie.Need-returns-3 Inv-loop μ-loop
-returns-3 c = rw (eq-eqb _ _ (c .before .before .before .before .before .before .before .before .before .before .before .before .before .if1 .left)) (c .refused3 .ensures ∙ checking-refused (c .before .before .before .before .before .before .before .before .before .before .before .loop .inv) (c .before .before .before .before .before .before .before .before .before .before .loop-test .taken) _ (c .before .before .before .before .before .area-at .ensures) _ (c .before .before .which2 .given .1))
+returns-3 c =
+    let b = c .before .before .before .before .before in
+    let l = b .before .before .before .before .before in
+    let eight = l .before .before .before .if1 .left in
+    let is = c .before .before .which2 .given .1 in
+    rw (eq-eqb _ _ eight)
+    (c .refused3 .ensures ∙ checking-refused (l .before .loop .inv) (l .loop-test .taken) _ (b .area-at .ensures) _ is)
 
 -- what is found is a read or a write
 some-bit : (w : Which) (place : ℕ) → (tagOf the-type w ≡ 0) ⊎ (tagOf the-type w ≡ 1)
@@ -115,7 +131,10 @@ unlocked-next-requires c κs =
 
 -- a turn of the loop
 step : (c : tie.After-struct-known Inv-loop μ-loop)
-    → Checked (now (c .before .before .before .before .before .before .before .before .before .before .args .list)) (now (c .before .before .before .before .before .before .before .before .before .before .args .packet)) (c .before .before .before .before .before .loop .pointers) (c .before .if2 .unlocked) (c .before .before .before .before .before .loop .reply) (now (c .before .before .before .before .before .loop .rest)) (c .before .if2 .reach)
+    → let l = c .before .before .before .before .before in
+    let s = l .before .before .before .before .before .args in
+    Checked (now (s .list)) (now (s .packet)) (l .loop .pointers) (c .before .if2 .unlocked) (l .loop .reply) (now (l .loop .rest))
+    (c .before .if2 .reach)
 step c =
     let l = c .before .before .before .before in
     let inv = l .before .loop .inv in
