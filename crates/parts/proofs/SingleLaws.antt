@@ -2,7 +2,7 @@
 use Prim.Native.Nat.{ℕ, zero, suc, _+_, _*_, _/_, _-_, _^_, _≤_, _<_}
 use mathlib.Core.Path.{_≡_, refl, sym, _∙_}
 use mathlib.Core.List.{List, [], _∷_, _++_}
-use mathlib.Core.Bool.{Bool, true, false, not, _||_}
+use mathlib.Core.Bool.{Bool, true, false, not, _||_, _&&_, cond}
 use native.Mathlib.Omega.{arith}
 use lib.Dec.{eqb, ltb}
 use lib.ListN.{length, take, drop, getD, set, length-append}
@@ -11,7 +11,6 @@ use Rattle.lbp16.specs.Answer.{accepted}
 use Rattle.lbp16.proofs.BoolLaws.{or-false}
 use Rattle.packet.specs.Bytes.{number}
 use Rattle.packet.specs.Command.{pickKind}
-use Rattle.packet.specs.Step.{isWrite}
 use Rattle.packet.specs.Rules.{first}
 use Rattle.packet.proofs.RuleLaws.{none-holds}
 use Rattle.cue.specs.Guarded.{anyOf, turnedWithin, putWithin}
@@ -62,14 +61,20 @@ room-is : (s : List ℕ) → length s ≡ 1504 → take 10 (drop 2 s) ≡ getD s
 unfolding padded
 room-is s l = rw (padded-is 10 2 s (omega arith), padded-is 8 4 s (omega arith)) refl
 
--- a mark that the code knows
-pub marked-write : (mark at : ℕ) → mark ≡ writeMark → ltb at 9 ≡ true → Marked mark at
-unfolding recordBytes isWrite
-marked-write mark at e t = let h = ltb-true at 9 t in record { known = rw e refl; longer = rw e (omega arith) }
+-- a mark that the code knows, of a write or of a read
+abbrev pub markOf : Bool → ℕ
+markOf w = cond w writeMark readMark
 
-pub marked-read : (mark at : ℕ) → mark ≡ readMark → ltb at 5 ≡ true → Marked mark at
-unfolding recordBytes isWrite
-marked-read mark at e t = let h = ltb-true at 5 t in record { known = rw e refl; longer = rw e (omega arith) }
+known-mark : (w : Bool) → ((not (eqb (markOf w) readMark) && not (eqb (markOf w) writeMark)) ≡ false) × (eqb (markOf w) writeMark ≡ w)
+known-mark true = (refl, refl)
+known-mark false = (refl, refl)
+
+pub marked : (w : Bool) (mark at last : ℕ) → last + 1 ≡ recordBytes (pickKind w) → mark ≡ markOf w → ltb at last ≡ true
+    → Marked mark at
+marked w mark at last n e t =
+    let (known, kind) = known-mark w in
+    let h = ltb-true at last t in
+    record { known = rw e known; longer = rw (e, kind) (omega arith) }
 
 pub marked-few : {mark at : ℕ} → Marked mark at → at ≤ 8
 marked-few {mark} m = omega (arith, m .longer, record-bytes-le (pickKind (eqb mark writeMark)))
