@@ -24,7 +24,19 @@ use Rattle.parts.specs.Promise.{freshState}
 
 -- opens every definition that the examples compute with
 all : Bool
-unfolding Space.spaceOf Space.spaceNumber Space.areaRow Space.isAbsent Space.row Word.bit Word.wordOf Bytes.number Bytes.bytesOf Step.isInfo Step.rowBy Step.carried Step.answered Step.isStatus Step.isWrite Step.namesUnlock Rules.first Rules.misaligned Rules.pastEnd Rules.barred Records.markAt Records.recordKind Records.recordBytes Records.recordSpace Records.valueBytes Records.recordStep Records.reserved Records.badElement Records.upperHalf Records.recordRefusals Records.brief Summary.carriedBy Summary.answeredBy Summary.summary Summary.agrees Summary.fits Summary.joinedBy Summary.unlockFor Summary.startedBy Summary.closedBy Summary.turnedBy Summary.frameBytes Summary.lastFields Summary.headBytes Summary.framedAt Summary.unlockedAt Summary.headedAt Summary.wrote Taking.unknownMark Taking.decidedAt Taking.faultedBy Taking.recordTaken Taking.byteTaken Taking.isGoing Taking.goesOn Taking.oneMore Taking.bytesTaken Taking.endTaken Taking.partTaken Taking.answerBy Taking.answered Taking.called State.unopened State.written State.heldTurned State.heldPacking State.pairAt State.packerAt State.standingOf State.stateOf State.badNumbers State.badState State.standingByte State.padded State.packerBytes State.bytesOfState Parts.untouched Parts.leaves Parts.partOf Promise.freshState
+unfolding Space.spaceOf Space.spaceNumber Space.areaRow Space.isAbsent Space.row Word.bit Word.wordOf Bytes.number Bytes.bytesOf
+    Step.isInfo Step.rowBy Step.carried Step.answered Step.isStatus Step.isWrite Step.namesUnlock Rules.first Rules.misaligned
+    Rules.pastEnd Rules.barred
+    Records.markAt Records.recordKind Records.recordBytes Records.recordSpace Records.valueBytes Records.recordStep
+    Records.reserved Records.badElement Records.upperHalf Records.recordRefusals
+    Records.brief Summary.carriedBy Summary.answeredBy Summary.summary Summary.agrees Summary.fits Summary.joinedBy Summary.unlockFor
+    Summary.startedBy Summary.closedBy Summary.turnedBy Summary.frameBytes Summary.lastFields Summary.headBytes Summary.framedAt
+    Summary.unlockedAt Summary.headedAt Summary.wrote
+    Taking.unknownMark Taking.decidedAt Taking.faultedBy Taking.recordTaken Taking.byteTaken Taking.isGoing Taking.goesOn
+    Taking.oneMore Taking.bytesTaken Taking.endTaken Taking.partTaken Taking.answerBy Taking.answered Taking.called
+    State.unopened State.written State.heldTurned State.heldPacking State.pairAt State.packerAt State.standingOf State.stateOf
+    State.badNumbers State.badState State.standingByte State.padded State.packerBytes State.bytesOfState
+    Parts.untouched Parts.leaves Parts.partOf Promise.freshState
 all = true
 
 room : List ℕ
@@ -36,7 +48,8 @@ first = partOf freshState (0x57 ∷ 0x52 ∷ 0x02 ∷ []) false room
 second : PartCall
 second =
     partOf (first .state)
-    (0x00 ∷ 0x20 ∷ 0x00 ∷ 0x20 ∷ 0x00 ∷ 0x00 ∷ 0x00 ∷ 0x57 ∷ 0x52 ∷ 0x02 ∷ 0x00 ∷ 0x22 ∷ 0x00 ∷ 0xA8 ∷ 0xC0 ∷ 0x00 ∷ 0x00 ∷ [])
+    (0x00 ∷ 0x20 ∷ 0x00 ∷ 0x20 ∷ 0x00 ∷ 0x00 ∷ 0x00
+    ∷ 0x57 ∷ 0x52 ∷ 0x02 ∷ 0x00 ∷ 0x22 ∷ 0x00 ∷ 0xA8 ∷ 0xC0 ∷ 0x00 ∷ 0x00 ∷ [])
     true
     room
 
@@ -49,7 +62,8 @@ cut-in-record = (refl, refl)
 
 handed-out-at-end : (second .answer ≡ accepted (18 ∷ [])) × (second .taken ≡ 17)
     × (take 18 (second .room)
-    ≡ 0x4C ∷ 0x42 ∷ 0x0E ∷ 0x00 ∷ 0x01 ∷ 0xD9 ∷ 0x1A ∷ 0x00 ∷ 0x02 ∷ 0x5A ∷ 0x82 ∷ 0xC9 ∷ 0x20 ∷ 0x00 ∷ 0x20 ∷ 0x00 ∷ 0xA8 ∷ 0xC0 ∷ [])
+    ≡ 0x4C ∷ 0x42 ∷ 0x0E ∷ 0x00 ∷ 0x01 ∷ 0xD9 ∷ 0x1A ∷ 0x00 ∷ 0x02 ∷ 0x5A
+    ∷ 0x82 ∷ 0xC9 ∷ 0x20 ∷ 0x00 ∷ 0x20 ∷ 0x00 ∷ 0xA8 ∷ 0xC0 ∷ [])
 unfolding all first second room
 handed-out-at-end = (refl, refl, refl)
 

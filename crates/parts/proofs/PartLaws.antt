@@ -23,11 +23,12 @@ pub going-first : (k : Kept) (part room old : List ℕ) → Ranged k → Rooms r
     → Going (startAt k room) part old k 0 0 room old
 unfolding startAt moreBy
 going-first k part room old rg rm =
+    let b = bytesTaken heldPacking (startAt k room) part in
     record {
       t = startAt k room;
       leaves = record { state = refl; written = refl; handed = refl; lent = refl; ranged = rg; rooms = rm };
       within = omega arith;
-      same = λ i. record { taken = zero-is (bytesTaken heldPacking (startAt k room) part .taken) i; left = bytesTaken heldPacking (startAt k room) part .left };
+      same = λ i. record { taken = zero-is (b .taken) i; left = b .left };
     }
   where
     zero-is : (n : ℕ) → n ≡ 0 + n

@@ -2,7 +2,7 @@
 use Prim.Native.Nat.{ℕ, zero, suc, _+_, _*_, _-_, _/_, _%_, _≤_, _<_}
 use mathlib.Core.Path.{_≡_, refl, sym, ap, _∙_}
 use mathlib.Core.List.{List, [], _∷_, _++_}
-use mathlib.Core.Bool.{Bool, true, false, not, _&&_}
+use mathlib.Core.Bool.{Bool, true, false, _&&_}
 use native.Mathlib.Omega.{arith}
 use native.Mathlib.Decide.{decLe}
 use native.Mathlib.Nat.{sub-zero}
@@ -19,7 +19,8 @@ use Rattle.cue.specs.declared.packer.Packer.{Packer}
 use Rattle.cue.proofs.GuardedLaws.{any-false}
 use Rattle.cue.proofs.PackerLaws.{Following}
 use Rattle.parts.specs.Taking.{State, Standing, going, ended, faulted}
-use Rattle.parts.specs.State.{Held, unopened, pairAt, packerAt, padded, packerBytes, standingByte, standingOf, stateOf, badNumbers, badState, bytesOfState}
+use Rattle.parts.specs.State.{Held, unopened, pairAt, packerAt, padded, packerBytes, standingByte, standingOf, stateOf}
+use Rattle.parts.specs.State.{badNumbers, badState, bytesOfState}
 use Rattle.parts.specs.Inside.{Alone, Sound}
 use Rattle.parts.proofs.StateLaws.{length-packer}
 use Rattle.parts.specs.Rule.{Opened}

@@ -120,9 +120,11 @@ save-parts k room b p r e f =
 
 pub saved : (k : Kept) (s b p now : List ℕ) → Ranged k → b ≡ padded 10 0 (take (k .collected) (k .bytes))
     → p ≡ packerBytes (k .packer)
-    → now ≡ (k .stands % 256 ∷ k .collected % 256 ∷ getD b 0 0 ∷ getD b 1 0 ∷ getD b 2 0 ∷ getD b 3 0 ∷ getD b 4 0 ∷ getD b 5 0 ∷ getD b 6 0 ∷ getD b 7 0 ∷ getD b 8 0 ∷ getD b 9 0
+    → now ≡ (k .stands % 256 ∷ k .collected % 256
+    ∷ getD b 0 0 ∷ getD b 1 0 ∷ getD b 2 0 ∷ getD b 3 0 ∷ getD b 4 0 ∷ getD b 5 0 ∷ getD b 6 0 ∷ getD b 7 0 ∷ getD b 8 0 ∷ getD b 9 0
     ∷ k .index % 256 ∷ k .index / 256 % 256 ∷ k .index / 256 / 256 % 256 ∷ k .index / 256 / 256 / 256 % 256
-    ∷ getD p 0 0 ∷ getD p 1 0 ∷ getD p 2 0 ∷ getD p 3 0 ∷ getD p 4 0 ∷ getD p 5 0 ∷ getD p 6 0 ∷ getD p 7 0 ∷ getD p 8 0 ∷ getD p 9 0 ∷ getD p 10 0 ∷ getD p 11 0 ∷ []) ++ drop 28 s
+    ∷ getD p 0 0 ∷ getD p 1 0 ∷ getD p 2 0 ∷ getD p 3 0 ∷ getD p 4 0 ∷ getD p 5 0 ∷ getD p 6 0 ∷ getD p 7 0 ∷ getD p 8 0 ∷ getD p 9 0
+    ∷ getD p 10 0 ∷ getD p 11 0 ∷ []) ++ drop 28 s
     → now ≡ bytesOfState (meant k (drop 28 s))
 unfolding padded bytesOf
 saved k s b p now r e f g = g ∙ save-parts k (drop 28 s) b p r e f

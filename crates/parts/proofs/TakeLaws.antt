@@ -1,5 +1,5 @@
 -- Taking a byte, as the code does it.
-use Prim.Native.Nat.{ℕ, zero, suc, _+_, _-_, _≤_, _<_}
+use Prim.Native.Nat.{ℕ, zero, suc, _+_, _≤_, _<_}
 use mathlib.Core.Path.{_≡_, refl, sym, ap, _∙_}
 use mathlib.Core.List.{List, [], _∷_, _++_}
 use mathlib.Core.Bool.{true, false, not, _||_, _&&_}
@@ -147,6 +147,13 @@ record-leaves k rest room old rg rm good q n out room₂ t e =
       written = t .count;
       handed = t .handed;
       lent = t .lent;
-      ranged = record { stands = omega arith; collected = omega arith; bytes = rg .bytes; index = omega (arith, rg .index, w .few); sound = Sound.alone (t .alone) };
+      ranged =
+          record {
+            stands = omega arith;
+            collected = omega arith;
+            bytes = rg .bytes;
+            index = omega (arith, rg .index, w .few);
+            sound = Sound.alone (t .alone);
+          };
       rooms = record { held = rw (d, length-wrote) (rm .held); lent = rw (t .lent) (rm .lent) };
     }

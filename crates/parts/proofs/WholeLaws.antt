@@ -241,6 +241,7 @@ module _ (k : Kept) (rest room old : List ℕ) (rg : Ranged k) (rm : Rooms room 
         → Going (startAt k room) rest old (plain (k₂ .bytes) (r .packer) (r .index)) 0 (1 + r .taken) room₃ out₂
     unfolding plain
     stretch-more r room₃ j =
+        let others = take (length rest - 1) (drop 1 rest) in
         let (long, stands, none, waiting) = more in
         let h : 1 < length rest = omega (arith, some, long) in
         let t : (ltb 1 (length rest) && (eqb (k₂ .stands) 0 && eqb n₂ 0)) ≡ true = rw (lt-ltb 1 (length rest) h, stands, none) refl in
@@ -248,5 +249,5 @@ module _ (k : Kept) (rest room old : List ℕ) (rg : Ranged k) (rm : Rooms room 
         λ i. record { stands = stands i; collected = waiting i; bytes = k₂ .bytes; index = k₂ .index; packer = k₂ .packer } in
         going-next (startAt k room) rest old k₂ n₂ 1 room₂ out₂ byte-going _ _ _ _ _ t
         (subst
-        (λ (q : Kept). Going (startAt q room₂) (take (length rest - 1) (drop 1 rest)) out₂ (plain (k₂ .bytes) (r .packer) (r .index)) 0 (r .taken) room₃ out₂)
+        (λ (q : Kept). Going (startAt q room₂) others out₂ (plain (k₂ .bytes) (r .packer) (r .index)) 0 (r .taken) room₃ out₂)
         (sym same) (j .going (k₂ .bytes) out₂ (l .ranged .bytes) (l .rooms)))

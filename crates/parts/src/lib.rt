@@ -47,7 +47,8 @@ fn part_of(c: Outcome) -> Part
 // Takes bytes of a part until a packet is finished and written, a fault shows or the part ends. `last`: the list ends at
 // this part's end. The next call gets the state as this one left it, and the bytes not yet taken.
 pub fn compile_part(state: &mut [u8], part: &[u8], last: bool, out: &mut [u8]) -> Part
-    ensures compiled { λ r. ⌜ partLeft (r .answer) (r .taken) (now (state .exit)) (now (out .exit)) ≡ partOf (now (state .entry)) (now (part .entry)) last (now (out .entry)) ⌝ }
+    ensures compiled { λ r. ⌜ partLeft (r .answer) (r .taken) (now (state .exit)) (now (out .exit))
+        ≡ partOf (now (state .entry)) (now (part .entry)) last (now (out .entry)) ⌝ }
     ensures promise { λ r. ⌜ Promised (now (state .exit)) ⌝ }
 {
     if out.len() < 1476 {

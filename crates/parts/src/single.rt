@@ -100,7 +100,8 @@ pub(crate) fn lengthened(s: &mut [u8], b: u8) -> bool
 
 // Takes the byte if it completes a good record that joins the open packet; whether it did. `k` is what the state holds.
 pub(crate) fn completed(k: Kept, part: &[u8], last: bool, s: &mut [u8]) -> bool
-    requires { ⌜ (length (now s) ≡ 1504) × (k ≡ keptAt (now s)) × (anyOf (badNumbers (k .stands) (k .collected) (k .index) (k .packer)) ≡ false) × (k .stands ≡ 0) ⌝ }
+    requires { ⌜ (length (now s) ≡ 1504) × (k ≡ keptAt (now s))
+        × (anyOf (badNumbers (k .stands) (k .collected) (k .index) (k .packer)) ≡ false) × (k .stands ≡ 0) ⌝ }
     ensures { λ r. ⌜ Single r (now (s .entry)) (now (part .entry)) last (now (s .exit)) ⌝ }
 {
     if (part.len() != 1) | last {

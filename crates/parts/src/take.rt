@@ -72,7 +72,8 @@ fn decided_at(index: usize, rest: &[u8]) -> usize
 // The packer after a record that no rule refuses; if the record opens the next packet, the one before is handed out.
 fn turned(p: Packer, rest: &[u8], room: &[u8], out: &mut [u8]) -> Turn
     requires { ⌜ Sound p × Rooms (now room) (now out) × Good (now rest) ⌝ }
-    ensures { λ r. ⌜ Turns (record { packer = p; room = now (room .entry) }) (recordStep (now (rest .entry))) (r .packer) (r .written) (now (out .exit)) (now (out .entry)) ⌝ }
+    ensures { λ r. ⌜ Turns (record { packer = p; room = now (room .entry) }) (recordStep (now (rest .entry))) (r .packer) (r .written)
+        (now (out .exit)) (now (out .entry)) ⌝ }
 {
     let r = records::record_at(rest);
     let q = guarded::turned(p, r);
@@ -93,7 +94,8 @@ fn turned(p: Packer, rest: &[u8], room: &[u8], out: &mut [u8]) -> Turn
 // A record that no rule refuses.
 fn record_taken(k: Kept, rest: &[u8], room: &mut [u8], out: &mut [u8]) -> Took
     requires { ⌜ Ranged k × Rooms (now room) (now out) × (first (recordRefusals (k .index) (now rest)) ≡ 0) ⌝ }
-    ensures { λ r. ⌜ Leaves (recordTaken heldPacking 0 (meant k (now (room .entry))) (recordStep (now (rest .entry)))) (r .kept) (r .written) (now (room .exit)) (now (out .exit)) (now (out .entry)) ⌝ }
+    ensures { λ r. ⌜ Leaves (recordTaken heldPacking 0 (meant k (now (room .entry))) (recordStep (now (rest .entry)))) (r .kept) (r .written)
+        (now (room .exit)) (now (out .exit)) (now (out .entry)) ⌝ }
 {
     let t = turned(k.packer, rest, room, out);
     guarded::put(t.packer, rest, room);
@@ -129,7 +131,8 @@ fn stopped(k: Kept, stands: u32) -> Kept
 // One byte, where no fault stands and the list has not ended.
 fn byte_taken(k: Kept, b: u8, room: &mut [u8], out: &mut [u8]) -> Took
     requires { ⌜ Ranged k × Rooms (now room) (now out) × (k .stands ≡ 0) ⌝ }
-    ensures { λ r. ⌜ Leaves (byteTaken heldPacking (meant k (now (room .entry))) b) (r .kept) (r .written) (now (room .exit)) (now (out .exit)) (now (out .entry)) ⌝ }
+    ensures { λ r. ⌜ Leaves (byteTaken heldPacking (meant k (now (room .entry))) b) (r .kept) (r .written)
+        (now (room .exit)) (now (out .exit)) (now (out .entry)) ⌝ }
 {
     let mut bytes = k.bytes;
     let at = k.collected;
@@ -220,7 +223,8 @@ fn records_joined(p: Packer, first: usize, part: &[u8], room: &mut [u8]) -> Run
 // A byte, and the whole records behind it if none is left waiting.
 fn stretch_taken(k: Kept, rest: &[u8], room: &mut [u8], out: &mut [u8]) -> Stop
     requires { ⌜ Ranged k × Rooms (now room) (now out) × (k .stands ≡ 0) × (1 ≤ length (now rest)) ⌝ }
-    ensures { λ r. ⌜ Going (startAt k (now (room .entry))) (now (rest .entry)) (now (out .entry)) (r .kept) (r .written) (r .taken) (now (room .exit)) (now (out .exit)) × (1 ≤ r .taken) ⌝ }
+    ensures { λ r. ⌜ Going (startAt k (now (room .entry))) (now (rest .entry)) (now (out .entry)) (r .kept) (r .written)
+        (r .taken) (now (room .exit)) (now (out .exit)) × (1 ≤ r .taken) ⌝ }
 {
     let t = byte_taken(k, rest[0], room, out);
     let kept = t.kept;
@@ -250,7 +254,8 @@ fn stretch_taken(k: Kept, rest: &[u8], room: &mut [u8], out: &mut [u8]) -> Stop
 // A part's bytes, until a packet is handed out or a fault shows.
 fn bytes_taken(k: Kept, part: &[u8], room: &mut [u8], out: &mut [u8]) -> Stop
     requires { ⌜ Ranged k × Rooms (now room) (now out) ⌝ }
-    ensures { λ r. ⌜ Stops (bytesTaken heldPacking (startAt k (now (room .entry))) (now (part .entry))) r (now (room .exit)) (now (out .exit)) (now (out .entry)) ⌝ }
+    ensures { λ r. ⌜ Stops (bytesTaken heldPacking (startAt k (now (room .entry))) (now (part .entry))) r
+        (now (room .exit)) (now (out .exit)) (now (out .entry)) ⌝ }
 {
     let mut kept = k;
     let mut written: usize = 0;
@@ -272,7 +277,8 @@ fn bytes_taken(k: Kept, part: &[u8], room: &mut [u8], out: &mut [u8]) -> Stop
 // The list's end: the open packet is handed out, or a record is cut.
 fn end_taken(k: Kept, room: &[u8], out: &mut [u8]) -> Took
     requires { ⌜ Ranged k × Rooms (now room) (now out) ⌝ }
-    ensures { λ r. ⌜ Leaves (endTaken heldPacking (meant k (now (room .entry))) (take (k .collected) (k .bytes))) (r .kept) (r .written) (now (room .entry)) (now (out .exit)) (now (out .entry)) ⌝ }
+    ensures { λ r. ⌜ Leaves (endTaken heldPacking (meant k (now (room .entry))) (take (k .collected) (k .bytes))) (r .kept) (r .written)
+        (now (room .entry)) (now (out .exit)) (now (out .entry)) ⌝ }
 {
     if k.collected != 0 {
         return Took {
@@ -292,7 +298,8 @@ fn end_taken(k: Kept, room: &[u8], out: &mut [u8]) -> Took
 // A part's bytes, and the list's end if it is the part's and the call has not stopped before.
 pub(crate) fn part_taken(k: Kept, part: &[u8], last: bool, room: &mut [u8], out: &mut [u8]) -> Stop
     requires { ⌜ Ranged k × Rooms (now room) (now out) ⌝ }
-    ensures { λ r. ⌜ Stops (partTaken heldPacking (meant k (now (room .entry))) (now (part .entry)) last) r (now (room .exit)) (now (out .exit)) (now (out .entry)) ⌝ }
+    ensures { λ r. ⌜ Stops (partTaken heldPacking (meant k (now (room .entry))) (now (part .entry)) last) r
+        (now (room .exit)) (now (out .exit)) (now (out .entry)) ⌝ }
 {
     let s = bytes_taken(k, part, room, out);
     let kept = s.kept;

@@ -24,19 +24,33 @@ same-length-2 : tie.Need-same-length-2
 same-length-2 c = search needs
 
 returns-2 : tie.Need-returns-2
-returns-2 c = (part-is _ _ _ _ _ _ _ (c .before .before .before .before .before .called .ensures) _ (c .part-of .ensures), λ list at out s calls. promise calls)
+returns-2 c =
+    let b = c .before .before .before .before .before in
+    (part-is _ _ _ _ _ _ _ (b .called .ensures) _ (c .part-of .ensures), λ list at out s calls. promise calls)
 
 shared-slice-read-lengthened : tie.Need-shared-slice-read-lengthened
-shared-slice-read-lengthened c = let t = one-test (length (now (c .before .before .before .before .before .before .before .args .part))) (length (now (c .before .before .before .before .before .before .before .args .state))) (c .before .before .before .before .before .before .before .args .last) (c .before .before .if2 .left) in omega (arith, t .0)
+shared-slice-read-lengthened c =
+    let b = c .before .before .before .before .before .before .before in
+    let t = one-test (length (now (b .args .part))) (length (now (b .args .state))) (b .args .last) (c .before .before .if2 .left) in
+    omega (arith, t .0)
 
 lengthened-requires : tie.Need-lengthened-requires
-lengthened-requires c κs = one-test (length (now (c .before .before .before .before .before .before .before .args .part))) (length (now (c .before .before .before .before .before .before .before .args .state))) (c .before .before .before .before .before .before .before .args .last) (c .before .before .if2 .left) .2
+lengthened-requires c κs =
+    let b = c .before .before .before .before .before .before .before in
+    one-test (length (now (b .args .part))) (length (now (b .args .state))) (b .args .last) (c .before .before .if2 .left) .2
 
 same-length-3 : tie.Need-same-length-3
 same-length-3 c = search needs
 
 returns-3 : tie.Need-returns-3
-returns-3 c = (single-taken _ _ _ _ _ _ (c .before .before .before .lengthened .ensures) (c .before .before .before .before .before .before .before .if1 .left) (c .if3 .taken) (one-test (length (now (c .before .before .before .before .before .before .before .before .before .before .before .args .part))) (length (now (c .before .before .before .before .before .before .before .before .before .before .before .args .state))) (c .before .before .before .before .before .before .before .before .before .before .before .args .last) (c .before .before .before .before .before .before .if2 .left)), λ list at out s calls. promise calls)
+returns-3 c =
+    let b = c .before .before .before in
+    let d = b .before .before .before in
+    let e = d .before .before .before .before .before in (
+      single-taken _ _ _ _ _ _ (b .lengthened .ensures) (d .before .if1 .left) (c .if3 .taken)
+          (one-test (length (now (e .args .part))) (length (now (e .args .state))) (e .args .last) (d .if2 .left)),
+      λ list at out s calls. promise calls,
+    )
 
 called-requires-2 : tie.Need-called-requires-2
 called-requires-2 c κs = search needs
@@ -51,7 +65,14 @@ same-length-5 : tie.Need-same-length-5
 same-length-5 c = search needs
 
 returns-4 : tie.Need-returns-4
-returns-4 c = (part-is _ _ _ _ _ _ _ (single-still (c .before .before .before .before .before .before .before .before .before .before .before .lengthened .ensures) (c .before .before .before .before .before .before .before .before .if3 .left) _ _ _ _ _ _ (c .before .before .before .before .before .called2 .ensures)) _ (c .part-of2 .ensures), λ list at out s calls. promise calls)
+returns-4 c =
+    let b = c .before .before .before .before .before in
+    let d = b .before .before .before in (
+      part-is _ _ _ _ _ _ _
+          (single-still (d .before .before .before .lengthened .ensures) (d .if3 .left) _ _ _ _ _ _ (b .called2 .ensures)) _
+          (c .part-of2 .ensures),
+      λ list at out s calls. promise calls,
+    )
 
 pub compile-part-spec : {M : Type 1} → statement M
 compile-part-spec =

@@ -47,7 +47,10 @@ add-result-3 : tie.Need-add-result-3
 add-result-3 c = search needs
 
 returns : tie.Need-returns
-returns c = behind-is (now (c .before .before .before .before .before .args .s)) (c .before .before .before .before .before .pre) _ _ _ _ (c .before .before .before .pair-at .ensures) (c .before .before .pair-at2 .ensures) (c .before .pair-at3 .ensures) (c .pair-at4 .ensures)
+returns c =
+    let b = c .before .before .before in
+    behind-is (now (b .before .before .args .s)) (b .before .before .pre) _ _ _ _ (b .pair-at .ensures)
+    (c .before .before .pair-at2 .ensures) (c .before .pair-at3 .ensures) (c .pair-at4 .ensures)
 
 pub behind-mark-spec : {M : Type 1} → statement M
 behind-mark-spec =

@@ -35,7 +35,9 @@ add-place : tie.Need-add-place
 add-place c = omega (arith, c .slice-known2 .given 1)
 
 slice-write-s : tie.Need-slice-write-s
-slice-write-s c = omega (arith, c .before .before .before .before .before .before .before .before .pre, c .before .before .waits .ensures (not-false _ (c .before .if2 .left)) .few)
+slice-write-s c =
+    let b = c .before .before .before .before .before .before .before .before in
+    omega (arith, b .pre, c .before .before .waits .ensures (not-false _ (c .before .if2 .left)) .few)
 
 add-s : tie.Need-add-s
 add-s c = omega (arith, c .before .before .waits .ensures (not-false _ (c .before .if2 .left)) .few)
@@ -47,7 +49,14 @@ same-length-3 : tie.Need-same-length-3
 same-length-3 c = search needs
 
 returns-3 : tie.Need-returns-3
-returns-3 c = record { taken = λ t. lengthened-is (now (c .before .before .before .before .before .before .before .before .args .s)) _ (c .before .before .before .before .before .before .before .before .pre) (λ i. omega (arith, c .slice-known2 .given i)) (sym (c .before .before .before .before .before .unfit .ensures) ∙ c .before .before .before .before .if1 .left) (c .before .before .waits .ensures (not-false _ (c .before .if2 .left))); still = λ e. no-true (sym e) }
+returns-3 c =
+    let b = c .before .before .before .before in
+    let d = b .before .before .before .before in
+    record {
+      taken = λ t. lengthened-is (now (d .args .s)) _ (d .pre) (λ i. omega (arith, c .slice-known2 .given i))
+          (sym (b .before .unfit .ensures) ∙ b .if1 .left) (c .before .before .waits .ensures (not-false _ (c .before .if2 .left)));
+      still = λ e. no-true (sym e);
+    }
 
 pub lengthened-spec : {M : Type 1} → statement M
 lengthened-spec =

@@ -64,7 +64,15 @@ shared-slice-read-result-5 c = search needs
 -- src/single.rt:16:1
 returns : tie.Need-returns
 unfolding unfitTests pairAt
-returns c = let b = c .before .before .before .before .before in rw (b .before .before .before .before .pair-at .ensures, b .before .before .before .pair-at2 .ensures, b .before .before .pair-at3 .ensures, b .before .pair-at4 .ensures, b .pair-at5 .ensures) refl
+returns c =
+    let b = c .before .before .before .before .before in
+    rw (
+      b .before .before .before .before .pair-at .ensures,
+      b .before .before .before .pair-at2 .ensures,
+      b .before .before .pair-at3 .ensures,
+      b .before .pair-at4 .ensures,
+      b .pair-at5 .ensures,
+    ) refl
 
 pub unfit-spec : {M : Type 1} → statement M
 unfit-spec =

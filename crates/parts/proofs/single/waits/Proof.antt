@@ -24,7 +24,10 @@ shared-slice-read-result : tie.Need-shared-slice-read-result
 shared-slice-read-result c = search needs
 
 returns-2 : tie.Need-returns-2
-returns-2 c = waits-first (now (c .before .before .before .before .before .before .before .before .args .s)) (c .before .before .before .before .before .before .before .before .pre) _ _ (c .before .before .before .before .before .behind-mark .ensures) (c .before .before .if2 .left) (c .before .if3 .taken)
+returns-2 c =
+    let b = c .before .before .before .before .before in
+    let d = b .before .before .before in
+    waits-first (now (d .args .s)) (d .pre) _ _ (b .behind-mark .ensures) (c .before .before .if2 .left) (c .before .if3 .taken)
 
 shared-slice-read-longer : tie.Need-shared-slice-read-longer
 shared-slice-read-longer c = search needs
@@ -42,7 +45,12 @@ longer-requires : tie.Need-longer-requires
 longer-requires c κs = search needs
 
 returns-3 : tie.Need-returns-3
-returns-3 c = λ t. waits-second (now (c .before .before .before .before .before .before .before .before .before .args .s)) (c .before .before .before .before .before .before .before .before .before .pre) _ _ (c .before .before .before .before .before .before .behind-mark .ensures) (c .before .before .before .if2 .left) (c .before .before .before .before .before .if1 .taken) (c .before .before .if3 .left) (c .longer .ensures t)
+returns-3 c =
+    let b = c .before .before .before in
+    let d = b .before .before .before in
+    let e = d .before .before .before in
+    λ t. waits-second (now (e .args .s)) (e .pre) _ _ (d .behind-mark .ensures) (b .if2 .left) (b .before .before .if1 .taken)
+    (c .before .before .if3 .left) (c .longer .ensures t)
 
 pair-at-requires : tie.Need-pair-at-requires
 pair-at-requires c κs = search needs
@@ -60,7 +68,11 @@ shr-result : tie.Need-shr-result
 shr-result c = omega (arith, marked-few (c .before .longer2 .ensures (c .if4 .taken)))
 
 returns-4 : tie.Need-returns-4
-returns-4 c = waits-later (now (c .before .before .before .before .before .before .before .args .s)) (c .before .before .before .before .before .before .before .pre) _ _ (c .before .before .before .before .behind-mark .ensures) (c .before .before .before .if1 .left) _ (c .before .before .pair-at .ensures) (c .before .longer2 .ensures (c .if4 .taken))
+returns-4 c =
+    let b = c .before .before .before in
+    let d = b .before .before .before .before in
+    waits-later (now (d .args .s)) (d .pre) _ _ (b .before .behind-mark .ensures) (b .if1 .left) _
+    (c .before .before .pair-at .ensures) (c .before .longer2 .ensures (c .if4 .taken))
 
 returns-5 : tie.Need-returns-5
 returns-5 c = no-true

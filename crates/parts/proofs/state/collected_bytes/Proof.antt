@@ -36,7 +36,21 @@ byte-of-requires-10 c κs = search needs
 
 returns : tie.Need-returns
 unfolding padded
-returns c = rw (c .byte-of10 .ensures, c .before .byte-of9 .ensures, c .before .before .byte-of8 .ensures, c .before .before .before .byte-of7 .ensures, c .before .before .before .before .byte-of6 .ensures, c .before .before .before .before .before .byte-of5 .ensures, c .before .before .before .before .before .before .byte-of4 .ensures, c .before .before .before .before .before .before .before .byte-of3 .ensures, c .before .before .before .before .before .before .before .before .byte-of2 .ensures, c .before .before .before .before .before .before .before .before .before .byte-of .ensures) refl
+returns c =
+    let b = c .before .before .before in
+    let d = b .before .before .before in
+    rw (
+      c .byte-of10 .ensures,
+      c .before .byte-of9 .ensures,
+      c .before .before .byte-of8 .ensures,
+      b .byte-of7 .ensures,
+      b .before .byte-of6 .ensures,
+      b .before .before .byte-of5 .ensures,
+      d .byte-of4 .ensures,
+      d .before .byte-of3 .ensures,
+      d .before .before .byte-of2 .ensures,
+      d .before .before .before .byte-of .ensures,
+    ) refl
 
 pub collected-bytes-spec : {M : Type 1} → statement M
 collected-bytes-spec =

@@ -70,7 +70,10 @@ packer-at-requires c κs = search needs
 
 returns : tie.Need-returns
 unfolding pairAt padded
-returns c = let b = c .before .before .before .before .before .before .before .before in kept-is _ (b .before .before .before .before .before .before .before .before .pre) _ _ _ (c .before .before .pair-at .ensures) (c .before .pair-at2 .ensures) (c .packer-at .ensures)
+returns c =
+    let b = c .before .before .before .before .before .before .before .before in
+    kept-is _ (b .before .before .before .before .before .before .before .before .pre) _ _ _ (c .before .before .pair-at .ensures)
+    (c .before .pair-at2 .ensures) (c .packer-at .ensures)
 
 pub load-spec : {M : Type 1} → statement M
 load-spec =

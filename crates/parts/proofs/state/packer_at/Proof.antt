@@ -49,7 +49,11 @@ add-t18 c = search needs
 
 returns-2 : tie.Need-returns-2
 unfolding pairAt
-returns-2 c = let b = c .before .before .before .before in let d = b .before .before .before in packer-some _ _ _ _ _ (d .before .pair-at .ensures) (d .if1 .left) (b .pair-at2 .ensures) (c .before .before .pair-at3 .ensures) (c .pair-at4 .ensures)
+returns-2 c =
+    let b = c .before .before .before .before in
+    let d = b .before .before .before in
+    packer-some _ _ _ _ _ (d .before .pair-at .ensures) (d .if1 .left) (b .pair-at2 .ensures) (c .before .before .pair-at3 .ensures)
+    (c .pair-at4 .ensures)
 
 pub packer-at-spec : {M : Type 1} → statement M
 packer-at-spec =

@@ -37,7 +37,9 @@ cast-t25 : tie.Need-cast-t25
 cast-t25 c = search needs
 
 returns-2 : tie.Need-returns-2
-returns-2 c = let b = c .before .before .before .before .before .before in packer-put _ _ _ (b .before .before .if1 .left) (b .before .flag .ensures) (b .flag2 .ensures)
+returns-2 c =
+    let b = c .before .before .before .before .before .before in
+    packer-put _ _ _ (b .before .before .if1 .left) (b .before .flag .ensures) (b .flag2 .ensures)
 
 pub packer-bytes-spec : {M : Type 1} → statement M
 packer-bytes-spec =

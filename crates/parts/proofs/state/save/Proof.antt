@@ -104,7 +104,11 @@ same-length : tie.Need-same-length
 same-length c = search needs
 
 returns : tie.Need-returns
-returns c = let b = c .before .before .before .before .before .before .before in let g = b .before .before .before in saved _ (now (g .args .s)) _ _ _ (g .pre .1) (b .before .collected-bytes .ensures) (b .packer-bytes .ensures) (c .before .before .put-front .ensures)
+returns c =
+    let b = c .before .before .before .before .before .before .before in
+    let g = b .before .before .before in
+    saved _ (now (g .args .s)) _ _ _ (g .pre .1) (b .before .collected-bytes .ensures) (b .packer-bytes .ensures)
+    (c .before .before .put-front .ensures)
 
 pub save-spec : {M : Type 1} → statement M
 save-spec =

@@ -19,7 +19,11 @@ decided-at-requires : tie.Need-decided-at-requires
 decided-at-requires c κs = search needs
 
 returns : tie.Need-returns
-returns c = let p = c .before .before .before .before .before .before .before .pre in let d = c .before .before .decided-at .ensures in byte-waits _ _ (p .0) _ _ (p .1) _ (d .0) (p .2) (d .1) (c .before .if1 .taken)
+returns c =
+    let b = c .before .before .before .before .before .before .before in
+    let p = b .pre in
+    let d = c .before .before .decided-at .ensures in
+    byte-waits _ _ (p .0) _ _ (p .1) _ (d .0) (p .2) (d .1) (c .before .if1 .taken)
 
 array-share-prefix-bytes-2 : tie.Need-array-share-prefix-bytes-2
 array-share-prefix-bytes-2 c = shown-fits _ _ (c .before .before .before .before .before .before .pre .0)
@@ -34,7 +38,13 @@ stopped-requires : tie.Need-stopped-requires
 stopped-requires c κs = search needs
 
 returns-2 : tie.Need-returns-2
-returns-2 c = let p = c .before .before .before .before .before .before .before .before .before .before .pre in let d = c .before .before .before .before in byte-faults _ _ (p .0) _ _ (p .1) _ (d .before .decided-at .ensures .0) (d .if1 .left) _ (c .before .before .record-refusal .ensures) (c .before .if2 .taken) _ (c .stopped .ensures)
+returns-2 c =
+    let b = c .before .before .before .before in
+    let e = b .before .before .before .before .before .before in
+    let p = e .pre in
+    let d = b in
+    byte-faults _ _ (p .0) _ _ (p .1) _ (d .before .decided-at .ensures .0) (d .if1 .left) _
+    (c .before .before .record-refusal .ensures) (c .before .if2 .taken) _ (c .stopped .ensures)
 
 array-share-prefix-bytes-3 : tie.Need-array-share-prefix-bytes-3
 array-share-prefix-bytes-3 c = shown-fits _ _ (c .before .before .before .before .before .before .before .before .before .pre .0)
@@ -52,7 +62,15 @@ same-length-2 : tie.Need-same-length-2
 same-length-2 c = search needs
 
 returns-3 : tie.Need-returns-3
-returns-3 c = let p = c .before .before .before .before .before .before .before .before .before .before .before .before .before .before .before .before .before .pre in let b = c .before .before .before .before .before .before .before .before in let d = b .before .before .before in byte-record _ _ (p .0) _ _ (p .1) _ (d .before .decided-at .ensures .0) (d .if1 .left) _ (b .before .record-refusal .ensures) (b .if2 .left) _ _ _ _ (c .before .before .before .before .record-taken .ensures)
+returns-3 c =
+    let e = c .before .before .before .before in
+    let g = e .before .before .before .before in
+    let m = g .before .before .before .before .before .before .before .before .before in
+    let p = m .pre in
+    let b = g in
+    let d = b .before .before .before in
+    byte-record _ _ (p .0) _ _ (p .1) _ (d .before .decided-at .ensures .0) (d .if1 .left) _ (b .before .record-refusal .ensures)
+    (b .if2 .left) _ _ _ _ (e .record-taken .ensures)
 
 pub byte-taken-spec : {M : Type 1} → statement M
 byte-taken-spec =

@@ -29,16 +29,45 @@ part-stretch-taken-end : tie.Need-part-stretch-taken-end Inv-loop μ-loop
 part-stretch-taken-end c = search needs
 
 stretch-taken-requires : tie.Need-stretch-taken-requires Inv-loop μ-loop
-stretch-taken-requires c κs = let t = c .before .before .before .if1 .taken in let l = c .before .before .before .before .before .loop in let k = l .inv .1 .leaves in let n = length (now (c .before .before .before .before .before .before .before .before .before .args .part)) in (k .ranged, k .rooms, test-going (l .at) n (l .kept .stands) (l .written) t, some-left (l .at) n (l .kept .stands) (l .written) t (now (c .before .before .before .before .before .before .before .before .before .args .part)) refl)
+stretch-taken-requires c κs =
+    let b = c .before .before .before in
+    let d = b .before .before .before .before .before .before in
+    let t = b .if1 .taken in
+    let l = b .before .before .loop in
+    let k = l .inv .1 .leaves in
+    let n = length (now (d .args .part)) in (
+      k .ranged,
+      k .rooms,
+      test-going (l .at) n (l .kept .stands) (l .written) t,
+      some-left (l .at) n (l .kept .stands) (l .written) t (now (d .args .part)) refl,
+    )
 
 add-at : tie.Need-add-at Inv-loop μ-loop
-add-at c = let l = c .before .before .before .before .before .before .before .before .before .before .before .before .loop .inv .1 in let w = rest-within (now (c .before .before .before .before .before .before .before .before .before .before .before .before .before .before .before .before .args .part)) _ _ (l .within) (c .before .before .before .before .before .before .stretch-taken .ensures .0 .within) in omega (arith, w, c .before .before .before .before .before .before .before .before .before .before .before .before .before .before .before .before .good)
+add-at c =
+    let b = c .before .before .before .before .before .before in
+    let d = b .before .before .before .before .before .before in
+    let e = d .before .before .before .before in
+    let l = d .loop .inv .1 in
+    let w = rest-within (now (e .args .part)) _ _ (l .within) (b .stretch-taken .ensures .0 .within) in
+    omega (arith, w, e .good)
 
 loop-less : tie.Need-loop-less Inv-loop μ-loop
-loop-less c = let l = c .before .before .before .before .before .before .before .before .before .before .before .before .loop in fewer-left (l .at) (length (now (c .before .before .before .before .before .before .before .before .before .before .before .before .before .before .before .before .args .part))) (l .kept .stands) (l .written) (c .before .before .before .before .before .before .before .before .before .before .if1 .taken) _ (c .before .before .before .before .before .before .stretch-taken .ensures .1)
+loop-less c =
+    let b = c .before .before .before .before .before .before in
+    let d = b .before .before .before .before in
+    let e = d .before .before .before .before .before .before in
+    let l = d .before .before .loop in
+    fewer-left (l .at) (length (now (e .args .part))) (l .kept .stands) (l .written) (d .if1 .taken) _ (b .stretch-taken .ensures .1)
 
 loop-again : tie.Need-loop-again Inv-loop μ-loop
-loop-again c = let m = c .before .before .before .before .before .before .stretch-taken .ensures .0 in let l = c .before .before .before .before .before .before .before .before .before .before .before .before .loop in (m .leaves .rooms .held ∙ sym (l .inv .1 .leaves .rooms .held) ∙ l .inv .0, going-next _ _ _ _ _ _ _ _ (l .inv .1) _ _ _ _ _ (c .before .before .before .before .before .before .before .before .before .before .if1 .taken) m)
+loop-again c =
+    let b = c .before .before .before .before .before .before in
+    let d = b .before .before .before .before in
+    let m = b .stretch-taken .ensures .0 in
+    let l = d .before .before .loop in (
+      m .leaves .rooms .held ∙ sym (l .inv .1 .leaves .rooms .held) ∙ l .inv .0,
+      going-next _ _ _ _ _ _ _ _ (l .inv .1) _ _ _ _ _ (d .if1 .taken) m,
+    )
 
 same-length : tie.Need-same-length Inv-loop μ-loop
 same-length c = c .before .before .loop .inv .0

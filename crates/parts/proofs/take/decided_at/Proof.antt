@@ -21,7 +21,11 @@ record-bytes-requires c κs = search needs
 
 returns-3 : tie.Need-returns-3
 unfolding markAt
-returns-3 c = let r = c .record-bytes .ensures in (decided-late _ _ _ (c .before .before .before .pair-at .ensures) (c .before .before .if1 .left) _ (c .before .if2 .left) (r .0), r .1)
+returns-3 c =
+    let r = c .record-bytes .ensures in (
+      decided-late _ _ _ (c .before .before .before .pair-at .ensures) (c .before .before .if1 .left) _ (c .before .if2 .left) (r .0),
+      r .1,
+    )
 
 pub decided-at-spec : {M : Type 1} → statement M
 decided-at-spec =

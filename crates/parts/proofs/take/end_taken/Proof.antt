@@ -23,7 +23,12 @@ same-length : tie.Need-same-length
 same-length c = search needs
 
 returns-2 : tie.Need-returns-2
-returns-2 c = let p = c .before .before .before .before .before .before .before .before .before .before .before .pre in end-whole _ _ _ (p .0) (p .1) (c .before .before .before .before .before .before .before .if1 .left) _ _ (c .stopped2 .ensures) (c .before .before .before .put-front .ensures)
+returns-2 c =
+    let b = c .before .before .before in
+    let d = b .before .before .before .before in
+    let e = d .before .before .before .before in
+    let p = e .pre in
+    end-whole _ _ _ (p .0) (p .1) (d .if1 .left) _ _ (c .stopped2 .ensures) (b .put-front .ensures)
 
 pub end-taken-spec : {M : Type 1} → statement M
 end-taken-spec =

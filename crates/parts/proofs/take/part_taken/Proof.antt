@@ -16,7 +16,11 @@ same-length-2 : tie.Need-same-length-2
 same-length-2 c = search needs
 
 returns : tie.Need-returns
-returns c = part-ends _ _ _ _ _ _ _ _ (c .before .before .before .before .before .before .before .before .before .before .before .before .before .before .bytes-taken .ensures) (c .before .before .before .before .before .before .if1 .taken) _ _ _ (c .before .before .before .end-taken .ensures)
+returns c =
+    let b = c .before .before .before in
+    let d = b .before .before .before in
+    let e = d .before .before .before .before .before .before .before .before in
+    part-ends _ _ _ _ _ _ _ _ (e .bytes-taken .ensures) (d .if1 .taken) _ _ _ (b .end-taken .ensures)
 
 same-length-3 : tie.Need-same-length-3
 same-length-3 c = search needs

@@ -31,7 +31,9 @@ loop-less : tie.Need-loop-less Inv-loop μ-loop
 loop-less c = omega arith
 
 loop-again : tie.Need-loop-again Inv-loop μ-loop
-loop-again c = let l = c .before .before .loop in (omega arith, rw length-set (l .inv .1), rw (l .inv .2) (front-step _ _ _ (c .before .loop-test .taken) (omega arith)))
+loop-again c =
+    let l = c .before .before .loop in
+    (omega arith, rw length-set (l .inv .1), rw (l .inv .2) (front-step _ _ _ (c .before .loop-test .taken) (omega arith)))
 
 same-length : tie.Need-same-length Inv-loop μ-loop
 same-length c = c .before .loop .inv .1

@@ -31,7 +31,14 @@ same-length : tie.Need-same-length
 same-length c = search needs
 
 returns-3 : tie.Need-returns-3
-returns-3 c = let p = c .before .before .before .before .before .before .before .before .before .before .before .before .before .pre in runs-record _ _ _ _ (p .0) (p .1) (p .2) _ (c .before .before .before .before .before .before .before .before .before .before .record-refusal .ensures) (c .before .before .before .before .before .before .before .before .before .if1 .left) _ (c .before .before .before .before .before .before .before .before .record-at .ensures) _ (c .before .before .before .before .before .before .before .turned .ensures) (c .before .before .before .before .before .if2 .left) _ (c .before .before .before .put .ensures) _ (c .record-bytes .ensures .0)
+returns-3 c =
+    let b = c .before .before .before in
+    let d = b .before .before .before .before in
+    let e = d .before .before .before in
+    let p = e .before .before .before .pre in
+    runs-record _ _ _ _ (p .0) (p .1) (p .2) _ (e .record-refusal .ensures) (d .before .before .if1 .left) _
+    (d .before .record-at .ensures) _ (d .turned .ensures) (b .before .before .if2 .left) _ (b .put .ensures) _
+    (c .record-bytes .ensures .0)
 
 pub record-joined-spec : {M : Type 1} → statement M
 record-joined-spec =

@@ -19,7 +19,11 @@ same-length-2 : tie.Need-same-length-2
 same-length-2 c = search needs
 
 returns : tie.Need-returns
-returns c = let b = c .before .before .before .before .before in let d = b .before .before .before .before in let p = d .before .before .before .before .before .before .pre in record-leaves _ _ _ _ (p .0) (p .1) (p .2) _ _ _ _ (d .turned .ensures) (b .put .ensures)
+returns c =
+    let b = c .before .before .before .before .before in
+    let d = b .before .before .before .before in
+    let p = d .before .before .before .before .before .before .pre in
+    record-leaves _ _ _ _ (p .0) (p .1) (p .2) _ _ _ _ (d .turned .ensures) (b .put .ensures)
 
 pub record-taken-spec : {M : Type 1} → statement M
 record-taken-spec =

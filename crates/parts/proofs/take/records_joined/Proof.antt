@@ -34,16 +34,29 @@ add-at : tie.Need-add-at Inv-loop μ-loop
 add-at c = search needs
 
 same-length : tie.Need-same-length Inv-loop μ-loop
-same-length c = c .before .before .before .before .before .before .record-joined .ensures .held ∙ sym (c .before .before .before .before .before .before .before .before .before .before .before .before .before .pre .2)
+same-length c =
+    let b = c .before .before .before .before .before .before in
+    let d = b .before .before .before .before .before .before .before in
+    b .record-joined .ensures .held ∙ sym (d .pre .2)
 
 returns : tie.Need-returns Inv-loop μ-loop
-returns c = let d = c .before .before .before .before .before .before .record-joined .ensures in let l = c .before .before .before .before .before .before .before .before .before .before .loop in runs-more _ _ _ _ _ _ (l .inv .1) _ _ d
+returns c =
+    let b = c .before .before .before .before .before .before in
+    let e = b .before .before .before .before in
+    let d = b .record-joined .ensures in
+    let l = e .loop in
+    runs-more _ _ _ _ _ _ (l .inv .1) _ _ d
 
 loop-less : tie.Need-loop-less Inv-loop μ-loop
 loop-less c = omega (arith, c .if1 .left, c .before .before .before .before .before .before .before .before .before .loop-test .taken)
 
 loop-again : tie.Need-loop-again Inv-loop μ-loop
-loop-again c = let d = c .before .before .before .before .before .before .record-joined .ensures in let l = c .before .before .before .before .before .before .before .before .before .before .loop in (d .held ∙ sym (c .before .before .before .before .before .before .before .before .before .before .before .before .before .pre .2), runs-more _ _ _ _ _ _ (l .inv .1) _ _ d)
+loop-again c =
+    let b = c .before .before .before .before .before .before in
+    let e = b .before .before .before .before in
+    let d = b .record-joined .ensures in
+    let l = e .loop in
+    (d .held ∙ sym (e .before .before .before .pre .2), runs-more _ _ _ _ _ _ (l .inv .1) _ _ d)
 
 same-length-2 : tie.Need-same-length-2 Inv-loop μ-loop
 same-length-2 c = c .before .loop .inv .0

@@ -27,10 +27,19 @@ same-length c = search needs
 
 returns : tie.Need-returns
 unfolding unopened
-returns c = let b = c .before .before .before .before in let d = b .before .before .before in let g = d .before .before in let p = g .before .before .before .before .before .pre in turns-closed _ _ _ (p .0) (p .2) _ (g .before .record-at .ensures) _ (g .turned .ensures) _ (d .if1 .taken) (p .1) _ _ _ (c .before .empty .ensures) (c .turned2 .ensures) (b .put-front .ensures)
+returns c =
+    let b = c .before .before .before .before in
+    let d = b .before .before .before in
+    let g = d .before .before in
+    let p = g .before .before .before .before .before .pre in
+    turns-closed _ _ _ (p .0) (p .2) _ (g .before .record-at .ensures) _ (g .turned .ensures) _ (d .if1 .taken) (p .1) _ _ _
+    (c .before .empty .ensures) (c .turned2 .ensures) (b .put-front .ensures)
 
 returns-2 : tie.Need-returns-2
-returns-2 c = let b = c .before .before in let p = b .before .before .before .before .before .pre in turns-open _ _ _ (p .0) (p .2) _ (b .before .record-at .ensures) _ (b .turned .ensures) _ (c .if1 .left)
+returns-2 c =
+    let b = c .before .before in
+    let p = b .before .before .before .before .before .pre in
+    turns-open _ _ _ (p .0) (p .2) _ (b .before .record-at .ensures) _ (b .turned .ensures) _ (c .if1 .left)
 
 pub turned-spec : {M : Type 1} → statement M
 turned-spec =
