@@ -1,8 +1,9 @@
 // Two cue lists in either order.
 use independent::Independence;
 ghost use mathlib.Core.Path.{_≡_};
+ghost use Rattle.independent.specs.Independent.{independence, independenceListed};
 ghost use Rattle.independent.specs.EitherOrder.{EitherOrder};
-ghost use Rattle.head.specs.TwoLists.{twoListsLeft, independenceListed, exportIndependent};
+ghost use Rattle.head.specs.TwoLists.{twoListsLeft};
 
 fn number_of(answer: Independence) -> u32
     ensures { λ r. ⌜ r ≡ independenceListed answer .number ⌝ }
@@ -42,7 +43,7 @@ pub extern "C" fn head_independent(
     list: &mut u64,
     place: &mut u64,
 ) -> u32
-    ensures answer { λ r. ⌜ twoListsLeft r (now (list .exit)) (now (place .exit)) ≡ exportIndependent (now (first .entry)) (now (second .entry)) ⌝ }
+    ensures answer { λ r. ⌜ twoListsLeft r (now (list .exit)) (now (place .exit)) ≡ independence (now (first .entry)) (now (second .entry)) ⌝ }
     ensures either { λ r. ⌜ (r ≡ 0 → EitherOrder (now (first .entry)) (now (second .entry))) ⌝ }
 {
     let answer = independent::independent(first, second);

@@ -9,10 +9,9 @@ use Rattle.lbp16.specs.Space.{storeBytes}
 use Rattle.lbp16.specs.declared.Refusal.{Refusal}
 use Rattle.cue.specs.Records.{Listed, refused, records, recordsOf}
 use Rattle.cue.proofs.RecordLaws.{refused-record}
-use Rattle.independent.specs.Independent.{firstClash, compared, independence}
+use Rattle.independent.specs.Independent.{Compared, refusedList, firstClash, compared, independence}
 use Rattle.independent.specs.EitherOrder.{EitherOrder}
 use Rattle.independent.specs.Inside.{listRefusal, Accepted, Marked}
-use Rattle.independent.specs.declared.Independence.{Independence}
 use Rattle.independent.proofs.EitherOrder.{independent-either-order}
 use Rattle.independent.proofs.MarkLaws.{marked-none}
 
@@ -26,24 +25,25 @@ accepted-if list r e z = go (recordsOf list) refl (sym (ap (λ (s : Refusal). s 
     go (records xs) f z = record { xs = xs; list-records = f }
 
 module _ (first second : List ℕ) (r : Refusal) where
-  pub first-refused : r ≡ listRefusal (recordsOf first) → (r .number ≡ 0 → ⊥) → Independence.Refused 0 r ≡ independence first second
+  pub first-refused : r ≡ listRefusal (recordsOf first) → (r .number ≡ 0 → ⊥)
+      → refusedList 0 (r .number) (r .place) ≡ independence first second
   unfolding independence compared listRefusal
   first-refused e z = go (recordsOf first) e
     where
-      go : (v : Listed) → r ≡ listRefusal v → Independence.Refused 0 r ≡ compared v (recordsOf second)
-      go (refused n i) e = ap (Independence.Refused 0) e
+      go : (v : Listed) → r ≡ listRefusal v → refusedList 0 (r .number) (r .place) ≡ compared v (recordsOf second)
+      go (refused n i) e = rw e refl
       go (records xs) e = absurd (z (ap (λ (s : Refusal). s .number) e))
 
   pub second-refused : Accepted first → r ≡ listRefusal (recordsOf second) → (r .number ≡ 0 → ⊥)
-      → Independence.Refused 1 r ≡ independence first second
+      → refusedList 1 (r .number) (r .place) ≡ independence first second
   unfolding independence compared listRefusal
   second-refused a e z = rw (a .list-records) (go (recordsOf second) e)
     where
-      go : (v : Listed) → r ≡ listRefusal v → Independence.Refused 1 r ≡ compared (records (a .xs)) v
-      go (refused n i) e = ap (Independence.Refused 1) e
+      go : (v : Listed) → r ≡ listRefusal v → refusedList 1 (r .number) (r .place) ≡ compared (records (a .xs)) v
+      go (refused n i) e = rw e refl
       go (records xs) e = absurd (z (ap (λ (s : Refusal). s .number) e))
 
-pub compared-is : (first second : List ℕ) (a : Accepted first) (b : Accepted second) (r : Independence)
+pub compared-is : (first second : List ℕ) (a : Accepted first) (b : Accepted second) (r : Compared)
     → r ≡ firstClash (a .xs) 0 (b .xs) → r ≡ independence first second
 unfolding independence compared
 compared-is first second a b r e = e ∙ rw (a .list-records, b .list-records) refl
@@ -61,6 +61,6 @@ fresh-marks n e = marked-none (zeros n) (length-replicate {A = ℕ} n 0 ∙ e) (
     go i (no g) = getD-replicate n i 0 0 (omega arith)
 
 -- The answer, and what it promises.
-pub answered : (first second : List ℕ) (r : Independence) → r ≡ independence first second
-    → (r ≡ independence first second) × (r ≡ Independence.Independent → EitherOrder first second)
-answered first second r e = (e, λ f. independent-either-order first second (sym e ∙ f))
+pub answered : (first second : List ℕ) (r : Compared) → r ≡ independence first second
+    → (r ≡ independence first second) × (r .number ≡ 0 → EitherOrder first second)
+answered first second r e = (e, λ f. independent-either-order first second (ap (λ (c : Compared). c .number) (sym e) ∙ f))

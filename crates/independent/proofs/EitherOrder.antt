@@ -6,12 +6,11 @@ use native.Mathlib.Omega.{arith}
 use Rattle.packet.specs.Step.{Step}
 use Rattle.cue.specs.Records.{Listed, refused, records, recordsOf}
 use Rattle.cue.specs.Compile.{packed, output}
-use Rattle.cue.proofs.RecordLaws.{records-good}
+use Rattle.cue.proofs.RecordLaws.{refused-record, records-good}
 use Rattle.cue.proofs.CompileLaws.{accepted-exactly}
 use Rattle.cue.proofs.Demand3.{packets-hold, demand3}
 use Rattle.independent.specs.Independent.{firstClash, compared, independence}
 use Rattle.independent.specs.EitherOrder.{CompilesTo, EitherOrder}
-use Rattle.independent.specs.declared.Independence.{Independence}
 use Rattle.independent.proofs.CommuteLaws.{commute}
 use Rattle.independent.proofs.PlaceLaws.{all-placed, all-clear}
 use Rattle.independent.proofs.TurnLaws.{turned, same-store, unlock-either, count-either}
@@ -31,7 +30,7 @@ compiles-to list xs e =
     }
 
 either-order : (first second : List ℕ) (xs ys : List Step) → recordsOf first ≡ records xs → recordsOf second ≡ records ys
-    → firstClash xs 0 ys ≡ Independence.Independent → EitherOrder first second
+    → firstClash xs 0 ys .number ≡ 0 → EitherOrder first second
 either-order first second xs ys e f clear =
     let gx = records-good first xs e in
     let gy = records-good second ys f in
@@ -64,14 +63,12 @@ either-order first second xs ys e f clear =
           };
     }
 
--- Lists that are answered with "independent" do the same in either order.
-pub independent-either-order : (first second : List ℕ) → independence first second ≡ Independence.Independent
-    → EitherOrder first second
+-- Lists that are answered with 0 do the same in either order.
+pub independent-either-order : (first second : List ℕ) → independence first second .number ≡ 0 → EitherOrder first second
 unfolding independence compared
 independent-either-order first second e = go (recordsOf first) (recordsOf second) refl refl e
   where
-    go : (a b : Listed) → recordsOf first ≡ a → recordsOf second ≡ b → compared a b ≡ Independence.Independent
-        → EitherOrder first second
-    go (refused n i) b p q e = let z : _≡_ {A = ℕ} 0 1 = cc in absurd (omega arith)
-    go (records xs) (refused n i) p q e = let z : _≡_ {A = ℕ} 0 1 = cc in absurd (omega arith)
+    go : (a b : Listed) → recordsOf first ≡ a → recordsOf second ≡ b → compared a b .number ≡ 0 → EitherOrder first second
+    go (refused n i) b p q e = absurd (omega (arith, refused-record first n i p .in-table))
+    go (records xs) (refused n i) p q e = absurd (omega (arith, refused-record second n i q .in-table))
     go (records xs) (records ys) p q e = either-order first second xs ys p q e

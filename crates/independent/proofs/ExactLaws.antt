@@ -1,19 +1,19 @@
 -- Lists are independent exactly if both are accepted and neither writes a cell that the other names.
 use Prim.Native.Nat.{ℕ, _+_, _≤_}
 use mathlib.Core.Path.{_≡_, refl, sym, ap, _∙_}
+use mathlib.Core.Logic.{_⊎_, inl, inr}
 use mathlib.Core.List.{List, [], _∷_}
 use mathlib.Core.Bool.{Bool, true, false, _||_, _&&_, cond}
 use native.Mathlib.Omega.{arith}
 use lib.Dec.{eqb}
 use borrow.Author.Tests.{eqb-true, eq-eqb}
 use Rattle.lbp16.specs.Space.{spaceNumber}
-use Rattle.lbp16.specs.declared.Refusal.{Refusal}
 use Rattle.lbp16.proofs.BoolLaws.{or-false, and-true}
 use Rattle.packet.specs.Step.{Step, isWrite}
 use Rattle.cue.specs.Records.{Listed, refused, records, recordsOf}
 use Rattle.cue.proofs.RecordLaws.{refused-record}
-use Rattle.independent.specs.Independent.{Cell, cellOf, sameCell, names, writes, clashes, firstClash, compared, independence}
-use Rattle.independent.specs.declared.Independence.{Independence}
+use Rattle.independent.specs.Independent.{Cell, cellOf, sameCell, names, writes, clashes, independent, clash, firstClash}
+use Rattle.independent.specs.Independent.{compared, independence}
 
 pub record NeitherWrites (xs ys : List Step) : Type 0 where
   pub first : (c : Cell) → (writes xs c && names ys c) ≡ false
@@ -53,7 +53,7 @@ second-only true w true false h e = e
 second-only true w false s h e = e
 second-only false w v s h e = refl
 
-neither-writes : (xs ys : List Step) (index : ℕ) → firstClash xs index ys ≡ Independence.Independent → NeitherWrites xs ys
+neither-writes : (xs ys : List Step) (index : ℕ) → firstClash xs index ys .number ≡ 0 → NeitherWrites xs ys
 unfolding firstClash names writes clashes
 neither-writes xs [] index e = record { first = λ c. go (writes xs c); second = λ c. go (names xs c) }
   where
@@ -63,9 +63,9 @@ neither-writes xs [] index e = record { first = λ c. go (writes xs c); second =
 neither-writes xs (y ∷ ys) index e = go (clashes xs y) refl e (neither-writes xs ys (index + 1))
   where
     go : (b : Bool) → clashes xs y ≡ b
-        → cond b (Independence.Clash index) (firstClash xs (index + 1) ys) ≡ Independence.Independent
-        → (firstClash xs (index + 1) ys ≡ Independence.Independent → NeitherWrites xs ys) → NeitherWrites xs (y ∷ ys)
-    go true c e rest = let z : _≡_ {A = ℕ} 0 1 = cc in absurd (omega arith)
+        → cond b (clash index) (firstClash xs (index + 1) ys) .number ≡ 0
+        → (firstClash xs (index + 1) ys .number ≡ 0 → NeitherWrites xs ys) → NeitherWrites xs (y ∷ ys)
+    go true c e rest = absurd (omega arith)
     go false c e rest =
         let r = rest e in
         let o = or-false (writes xs (cellOf y)) _ c in
@@ -97,7 +97,7 @@ clear-here false true true m k e f = f
 clear-here false false true m k e f = refl
 clear-here false n false m k e f = refl
 
-no-clash : (xs ys : List Step) (index : ℕ) → NeitherWrites xs ys → firstClash xs index ys ≡ Independence.Independent
+no-clash : (xs ys : List Step) (index : ℕ) → NeitherWrites xs ys → firstClash xs index ys ≡ independent
 unfolding firstClash names writes clashes
 no-clash xs [] index h = refl
 no-clash xs (y ∷ ys) index h =
@@ -120,44 +120,39 @@ pub record BothApart (first second : List ℕ) : Type 0 where
   pub second-records : recordsOf second ≡ records ys
   pub neither : NeitherWrites xs ys
 
-pub independent-only-if : (first second : List ℕ) → independence first second ≡ Independence.Independent → BothApart first second
+pub independent-only-if : (first second : List ℕ) → independence first second .number ≡ 0 → BothApart first second
 unfolding independence compared
 independent-only-if first second e = go (recordsOf first) (recordsOf second) refl refl e
   where
-    go : (a b : Listed) → recordsOf first ≡ a → recordsOf second ≡ b → compared a b ≡ Independence.Independent
-        → BothApart first second
-    go (refused n i) b p q e = let z : _≡_ {A = ℕ} 0 1 = cc in absurd (omega arith)
-    go (records xs) (refused n i) p q e = let z : _≡_ {A = ℕ} 0 1 = cc in absurd (omega arith)
+    go : (a b : Listed) → recordsOf first ≡ a → recordsOf second ≡ b → compared a b .number ≡ 0 → BothApart first second
+    go (refused n i) b p q e = absurd (omega (arith, refused-record first n i p .in-table))
+    go (records xs) (refused n i) p q e = absurd (omega (arith, refused-record second n i q .in-table))
     go (records xs) (records ys) p q e =
         record { xs = xs; ys = ys; first-records = p; second-records = q; neither = neither-writes xs ys 0 e }
 
-pub independent-if : (first second : List ℕ) → BothApart first second → independence first second ≡ Independence.Independent
+pub independent-if : (first second : List ℕ) → BothApart first second → independence first second ≡ independent
 unfolding independence compared
 independent-if first second b = rw (b .first-records, b .second-records) (no-clash (b .xs) (b .ys) 0 (b .neither))
 
--- A refusal that is answered is a list's own.
-never-refused : (xs : List Step) (index : ℕ) (ys : List Step) (list : ℕ) (r : Refusal)
-    → firstClash xs index ys ≡ Independence.Refused list r → ⊥
+-- The number is 0, a list's own refusal, or 51.
+abbrev Numbered : ℕ → Type 0
+Numbered n = (n ≡ 0) ⊎ ((21 ≤ n) × (n ≤ 24)) ⊎ (n ≡ 51)
+
+clash-number : (xs : List Step) (index : ℕ) (ys : List Step) → Numbered (firstClash xs index ys .number)
 unfolding firstClash
-never-refused xs index [] list r e = let z : _≡_ {A = ℕ} 0 1 = cc in omega arith
-never-refused xs index (y ∷ ys) list r e = go (clashes xs y) e (never-refused xs (index + 1) ys list r)
+clash-number xs index [] = inl refl
+clash-number xs index (y ∷ ys) = go (clashes xs y) (clash-number xs (index + 1) ys)
   where
-    go : (b : Bool) → cond b (Independence.Clash index) (firstClash xs (index + 1) ys) ≡ Independence.Refused list r
-        → (firstClash xs (index + 1) ys ≡ Independence.Refused list r → ⊥) → ⊥
-    go true e rest = let z : _≡_ {A = ℕ} 0 1 = cc in omega arith
-    go false e rest = rest e
+    go : (b : Bool) → Numbered (firstClash xs (index + 1) ys .number)
+        → Numbered (cond b (clash index) (firstClash xs (index + 1) ys) .number)
+    go true rest = inr (inr refl)
+    go false rest = rest
 
-pub refused-number : (first second : List ℕ) (list : ℕ) (r : Refusal)
-    → independence first second ≡ Independence.Refused list r → (21 ≤ r .number) × (r .number ≤ 24)
+pub numbers : (first second : List ℕ) → Numbered (independence first second .number)
 unfolding independence compared
-refused-number first second list r e = go (recordsOf first) (recordsOf second) refl refl e
+numbers first second = go (recordsOf first) (recordsOf second) refl refl
   where
-    own : (k : List ℕ) (n i : ℕ) → recordsOf k ≡ refused n i → record { number = n; place = i } ≡ r
-        → (21 ≤ r .number) × (r .number ≤ 24)
-    own k n i p q = rw (← ap (λ (s : Refusal). s .number) q) (refused-record k n i p .in-table)
-
-    go : (a b : Listed) → recordsOf first ≡ a → recordsOf second ≡ b → compared a b ≡ Independence.Refused list r
-        → (21 ≤ r .number) × (r .number ≤ 24)
-    go (refused n i) b p q e = own first n i p (cc)
-    go (records xs) (refused n i) p q e = own second n i q (cc)
-    go (records xs) (records ys) p q e = absurd (never-refused xs 0 ys list r e)
+    go : (a b : Listed) → recordsOf first ≡ a → recordsOf second ≡ b → Numbered (compared a b .number)
+    go (refused n i) b p q = inr (inl (refused-record first n i p .in-table))
+    go (records xs) (refused n i) p q = inr (inl (refused-record second n i q .in-table))
+    go (records xs) (records ys) p q = clash-number xs 0 ys

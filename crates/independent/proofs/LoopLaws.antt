@@ -9,9 +9,8 @@ use Rattle.packet.specs.Command.{pickKind}
 use Rattle.cue.specs.Records.{records, recordsOf, recordStep, recordBytes}
 use Rattle.cue.specs.Records.{recordAt}
 use Rattle.cue.specs.declared.records.Record.{Record}
-use Rattle.independent.specs.Independent.{clashes, firstClash}
+use Rattle.independent.specs.Independent.{clashes, independent, clash, firstClash}
 use Rattle.independent.specs.Inside.{Accepted, placeBy, markedBy, clashesWith, Marked}
-use Rattle.independent.specs.declared.Independence.{Independence}
 use Rattle.independent.proofs.MarkLaws.{marked-more, clash-told}
 use Rattle.independent.proofs.WalkLaws.{Walk, walk-first, walk-last, record-here, place-here, write-here, walk-again}
 
@@ -41,7 +40,7 @@ testing-first list marks a = record { done = []; walk = walk-first list a; passe
 
 pub testing-last : (list rest : List ℕ) (index : ℕ) (marks : List ℕ) → Testing list rest index marks → length rest ≡ 0
     → (xs ys : List Step) → Marked xs marks → recordsOf list ≡ records ys
-    → Independence.Independent ≡ firstClash xs 0 ys
+    → independent ≡ firstClash xs 0 ys
 unfolding firstClash
 testing-last list rest index marks t l xs ys m e =
     let f = walk-last list rest index (t .done) (t .walk) l in
@@ -66,17 +65,17 @@ marking-again list rest marks k l r a at n p b mark e =
 
 -- a turn of the second
 module _ (list rest : List ℕ) (index : ℕ) (marks : List ℕ) (t : Testing list rest index marks) (l : length rest ≡ 0 → ⊥)
-    (r : Record) (a : r ≡ recordAt rest) (at : ℕ) (p : at ≡ placeBy r) (clash : Bool)
-    (e : clash ≡ clashesWith (getD marks at 0) (r .write)) where
-  told : (xs : List Step) → Marked xs marks → clashes xs (recordStep rest) ≡ clash
+    (r : Record) (a : r ≡ recordAt rest) (at : ℕ) (p : at ≡ placeBy r) (found : Bool)
+    (e : found ≡ clashesWith (getD marks at 0) (r .write)) where
+  told : (xs : List Step) → Marked xs marks → clashes xs (recordStep rest) ≡ found
   told xs m =
       sym
       (e
       ∙ rw (write-here list rest index (t .done) (t .walk) l r a, place-here list rest index (t .done) (t .walk) l r a at p)
       (clash-told xs (recordStep rest) marks m (record-here list rest index (t .done) (t .walk) l r a .cell)))
 
-  pub clash-found : clash ≡ true → (xs ys : List Step) → Marked xs marks → recordsOf list ≡ records ys
-      → Independence.Clash index ≡ firstClash xs 0 ys
+  pub clash-found : found ≡ true → (xs ys : List Step) → Marked xs marks → recordsOf list ≡ records ys
+      → clash index ≡ firstClash xs 0 ys
   unfolding firstClash
   clash-found c xs ys m f =
       let h = record-here list rest index (t .done) (t .walk) l r a in
@@ -85,7 +84,7 @@ module _ (list rest : List ℕ) (index : ℕ) (marks : List ℕ) (t : Testing li
       let same : t .done ++ x ∷ h .later ≡ ys = cc in
       sym (ap (firstClash xs 0) (sym same) ∙ t .passed xs m (x ∷ h .later) ∙ rw (told xs m, c) refl)
 
-  pub testing-again : clash ≡ false → (n : ℕ) → n ≡ recordBytes (pickKind (r .write))
+  pub testing-again : found ≡ false → (n : ℕ) → n ≡ recordBytes (pickKind (r .write))
       → Testing list (take (length rest - n) (drop n rest)) (index + 1) marks
   unfolding firstClash
   testing-again c n b =

@@ -19,9 +19,8 @@ use Rattle.cue.specs.Records.{badElement}
 use Rattle.cue.proofs.Relations.{Good}
 use Rattle.cue.proofs.RecordLaws.{good-element}
 use Rattle.cue.proofs.PackingLaws.{space-again}
-use Rattle.independent.specs.Independent.{Cell, cellOf, sameCell, names, writes, clashes, firstClash}
+use Rattle.independent.specs.Independent.{Cell, cellOf, sameCell, names, writes, clashes, clash, firstClash}
 use Rattle.independent.specs.Inside.{Present, placeOf}
-use Rattle.independent.specs.declared.Independence.{Independence}
 use Rattle.independent.proofs.CommuteLaws.{width, Clear, ClearOf, AllClear}
 
 spaceAt : ℕ → Space
@@ -180,14 +179,14 @@ clear-of y (AllPlaced.more {x = x} p ps) q h =
 
 -- Records of two lists without a clash leave each other alone.
 pub all-clear : {xs ys : List Step} (index : ℕ) → AllPlaced xs → AllPlaced ys
-    → firstClash xs index ys ≡ Independence.Independent → AllClear xs ys
+    → firstClash xs index ys .number ≡ 0 → AllClear xs ys
 unfolding firstClash
 all-clear index ps AllPlaced.none e = AllClear.none
 all-clear {xs = xs} index ps (AllPlaced.more {x = y} {xs = ys} q qs) e =
     go (clashes xs y) refl e (all-clear (index + 1) ps qs)
   where
     go : (b : Bool) → clashes xs y ≡ b
-        → cond b (Independence.Clash index) (firstClash xs (index + 1) ys) ≡ Independence.Independent
-        → (firstClash xs (index + 1) ys ≡ Independence.Independent → AllClear xs ys) → AllClear xs (y ∷ ys)
-    go true c e rest = let z : _≡_ {A = ℕ} 0 1 = cc in absurd (omega arith)
+        → cond b (clash index) (firstClash xs (index + 1) ys) .number ≡ 0
+        → (firstClash xs (index + 1) ys .number ≡ 0 → AllClear xs ys) → AllClear xs (y ∷ ys)
+    go true c e rest = absurd (omega arith)
     go false c e rest = AllClear.more (clear-of y ps q c) (rest e)

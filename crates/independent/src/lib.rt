@@ -7,10 +7,9 @@ use lbp16::Refusal;
 ghost use mathlib.Core.Path.{_≡_};
 ghost use mathlib.Core.List.{[]};
 ghost use Rattle.cue.specs.Records.{recordsOf};
-ghost use Rattle.independent.specs.Independent.{independence};
+ghost use Rattle.independent.specs.Independent.{independence, independenceListed};
 ghost use Rattle.independent.specs.EitherOrder.{EitherOrder};
 ghost use Rattle.independent.specs.Inside.{listRefusal, Accepted, Marked};
-ghost use Rattle.independent.specs.declared.Independence.{Independence};
 
 // What stands between two lists and either order. `list` is 0 for the first and 1 for the second; `Clash` is the index of the
 // second list's first record that writes a cell which the first names, or names a cell which the first writes.
@@ -39,7 +38,7 @@ fn refusal_of(list: &[u8]) -> Refusal
 
 fn compare(first: &[u8], second: &[u8], table: &mut [u8]) -> Independence
     requires { ⌜ Accepted (now first) × Accepted (now second) × Marked [] (now table) ⌝ }
-    ensures { λ r. ⌜ r ≡ independence (now (first .entry)) (now (second .entry)) ⌝ }
+    ensures { λ r. ⌜ independenceListed r ≡ independence (now (first .entry)) (now (second .entry)) ⌝ }
 {
     marks::mark(first, table);
     marks::first_clash(second, table)
@@ -47,8 +46,8 @@ fn compare(first: &[u8], second: &[u8], table: &mut [u8]) -> Independence
 
 // Lists that are independent do the same in either order.
 pub fn independent(first: &[u8], second: &[u8]) -> Independence
-    ensures answer { λ r. ⌜ r ≡ independence (now (first .entry)) (now (second .entry)) ⌝ }
-    ensures either { λ r. ⌜ (r ≡ Independence.Independent → EitherOrder (now (first .entry)) (now (second .entry))) ⌝ }
+    ensures answer { λ r. ⌜ independenceListed r ≡ independence (now (first .entry)) (now (second .entry)) ⌝ }
+    ensures either { λ r. ⌜ (independenceListed r .number ≡ 0 → EitherOrder (now (first .entry)) (now (second .entry))) ⌝ }
 {
     let refusal = refusal_of(first);
     if refusal.number != 0 {

@@ -9,7 +9,7 @@ ghost use lib.ListN.{length};
 ghost use Rattle.lbp16.specs.Space.{storeBytes};
 ghost use Rattle.packet.specs.Step.{Step};
 ghost use Rattle.cue.specs.Records.{records, recordsOf};
-ghost use Rattle.independent.specs.Independent.{firstClash};
+ghost use Rattle.independent.specs.Independent.{firstClash, independenceListed};
 ghost use Rattle.independent.specs.Inside.{Accepted, placeBy, markedBy, clashesWith, Marked};
 
 const FREE: u8 = 0;
@@ -61,7 +61,7 @@ pub(crate) fn mark(list: &[u8], marks: &mut [u8])
 // The first record of an accepted list that clashes with the records that left these marks.
 pub(crate) fn first_clash(list: &[u8], marks: &[u8]) -> Independence
     requires { ⌜ Accepted (now list) × (length (now marks) ≡ storeBytes) ⌝ }
-    ensures { λ r. ⌜ ((xs ys : List Step) → Marked xs (now (marks .entry)) → recordsOf (now (list .entry)) ≡ records ys → r ≡ firstClash xs 0 ys) ⌝ }
+    ensures { λ r. ⌜ ((xs ys : List Step) → Marked xs (now (marks .entry)) → recordsOf (now (list .entry)) ≡ records ys → independenceListed r ≡ firstClash xs 0 ys) ⌝ }
 {
     let mut rest = list;
     let mut index: u64 = 0;

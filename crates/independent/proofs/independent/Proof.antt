@@ -2,18 +2,21 @@ use borrow.Author.Needs.{needs}
 use Rattle.independent.proofs.independent.Statement.{statement}
 use Rattle.independent.proofs.independent.Tie as tie
 use mathlib.Core.Path.{refl}
+use Rattle.independent.specs.Independent.{independenceListed}
 use Rattle.independent.proofs.AnswerLaws.{accepted-if, first-refused, second-refused, fresh-marks, answered}
 
 refusal-of-requires : tie.Need-refusal-of-requires
 refusal-of-requires c κs = search needs
 
 returns : tie.Need-returns
+unfolding independenceListed
 returns c = answered _ _ _ (first-refused _ _ _ (c .before .before .refusal-of .ensures) (c .if1 .taken))
 
 refusal-of-requires-2 : tie.Need-refusal-of-requires-2
 refusal-of-requires-2 c κs = search needs
 
 returns-2 : tie.Need-returns-2
+unfolding independenceListed
 returns-2 c = let b = c .before .before .before in answered _ _ _ (second-refused _ _ _ (accepted-if _ _ (b .before .before .refusal-of .ensures) (b .if1 .left)) (c .before .before .refusal-of2 .ensures) (c .if2 .taken))
 
 slice-aggregate-compare : tie.Need-slice-aggregate-compare

@@ -1,7 +1,7 @@
 use borrow.Author.Needs.{needs}
 use Rattle.head.proofs.two_lists.head_independent.Statement.{statement}
 use Rattle.head.proofs.two_lists.head_independent.Tie as tie
-use Rattle.head.proofs.TwoListsLaws.{independent-left, independent-promise}
+use Rattle.head.proofs.TwoListsLaws.{independent-left}
 
 independent-requires : tie.Need-independent-requires
 independent-requires c κs = search needs
@@ -16,7 +16,12 @@ number-of-requires : tie.Need-number-of-requires
 number-of-requires c κs = search needs
 
 returns : tie.Need-returns
-returns c = let s = c .before .before .before .independent .ensures in (independent-left _ _ _ (s .0) _ (c .number-of .ensures) _ _ (c .before .before .list-of .ensures) (c .before .place-of .ensures), independent-promise _ _ _ (s .0) _ (c .number-of .ensures) (s .1))
+returns c =
+    let answer = c .before .before .before .independent .ensures in
+    independent-left _ _ _ (answer .0) (answer .1) _ _ _
+    (c .number-of .ensures)
+    (c .before .before .list-of .ensures)
+    (c .before .place-of .ensures)
 
 pub head-independent-spec : {M : Type 1} → statement M
 head-independent-spec =

@@ -4,6 +4,7 @@ use borrow.Author.Needs.{needs}
 use Prim.Native.Nat.{_≤_}
 use native.Mathlib.Omega.{arith}
 use lib.ListN.{length}
+use Rattle.independent.specs.Independent.{independenceListed}
 use Rattle.independent.proofs.WalkLaws.{place-inside-here, whole-here, shorter}
 use Rattle.independent.proofs.LoopLaws.{Testing, testing-first, testing-again, testing-last, clash-found}
 
@@ -33,6 +34,7 @@ clashes-requires : tie.Need-clashes-requires Inv-loop μ-loop
 clashes-requires c κs = search needs
 
 returns : tie.Need-returns Inv-loop μ-loop
+unfolding independenceListed
 returns c =
     let b = c .before .before .before in
     clash-found _ _ _ _ (b .before .before .before .loop .inv) (b .before .before .loop-test .taken) _ (b .before .record-at .ensures) _ (b .place-of .ensures) _ (c .before .clashes .ensures) (c .if1 .taken)
@@ -68,6 +70,7 @@ loop-again c =
     testing-again _ _ _ _ (b .before .before .before .loop .inv) (b .before .before .loop-test .taken) _ (b .before .record-at .ensures) _ (b .place-of .ensures) _ (c .before .before .before .clashes .ensures) (c .before .before .if1 .left) _ (c .before .record-bytes .ensures .0)
 
 returns-2 : tie.Need-returns-2 Inv-loop μ-loop
+unfolding independenceListed
 returns-2 c = testing-last _ _ _ _ (c .before .loop .inv) (c .loop-test .left)
 
 pub first-clash-spec : {M : Type 1} → statement M
