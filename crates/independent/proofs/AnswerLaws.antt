@@ -5,13 +5,12 @@ use mathlib.Core.List.{List, []}
 use native.Mathlib.Omega.{arith}
 use native.Mathlib.Decide.{decLe}
 use lib.ListN.{getD, replicate, length-replicate, getD-replicate, List·getD-eq-default}
-use Rattle.lbp16.specs.Space.{storeBytes}
 use Rattle.lbp16.specs.declared.Refusal.{Refusal}
 use Rattle.cue.specs.Records.{Listed, refused, records, recordsOf}
 use Rattle.cue.proofs.RecordLaws.{refused-record}
 use Rattle.independent.specs.Independent.{Compared, refusedList, firstClash, compared, independence}
 use Rattle.independent.specs.EitherOrder.{EitherOrder}
-use Rattle.independent.specs.Inside.{listRefusal, Accepted, Marked}
+use Rattle.independent.specs.Inside.{listRefusal, Accepted, tableBytes, Marked}
 use Rattle.independent.proofs.EitherOrder.{independent-either-order}
 use Rattle.independent.proofs.MarkLaws.{marked-none}
 
@@ -52,7 +51,7 @@ compared-is first second a b r e = e ∙ rw (a .list-records, b .list-records) r
 zeros : ℕ → List ℕ
 zeros n = replicate n 0
 
-pub fresh-marks : (n : ℕ) → n ≡ storeBytes → Marked [] (replicate n 0)
+pub fresh-marks : (n : ℕ) → n ≡ tableBytes → Marked [] (replicate n 0)
 unfolding zeros
 fresh-marks n e = marked-none (zeros n) (length-replicate {A = ℕ} n 0 ∙ e) (λ i. go i (decLe n i))
   where

@@ -10,8 +10,8 @@ use Rattle.cue.specs.Records.{records, recordsOf, recordStep, recordBytes}
 use Rattle.cue.specs.Records.{recordAt}
 use Rattle.cue.specs.declared.records.Record.{Record}
 use Rattle.independent.specs.Independent.{clashes, independent, clash, firstClash}
-use Rattle.independent.specs.Inside.{Accepted, placeBy, markedBy, clashesWith, Marked}
-use Rattle.independent.proofs.MarkLaws.{marked-more, clash-told}
+use Rattle.independent.specs.Inside.{Accepted, placeBy, markedBy, clashesWith, markIn, withMark, byteOf, slotOf, markAt, Marked}
+use Rattle.independent.proofs.MarkLaws.{after, marked-more, clash-told}
 use Rattle.independent.proofs.WalkLaws.{Walk, walk-first, walk-last, record-here, place-here, write-here, walk-again}
 
 pub record Marking (list rest marks : List ℕ) : Type 0 where
@@ -49,9 +49,11 @@ testing-last list rest index marks t l xs ys m e =
 
 -- a turn of the first loop
 pub marking-again : (list rest marks : List ℕ) (k : Marking list rest marks) → (length rest ≡ 0 → ⊥) → (r : Record)
-    → r ≡ recordAt rest → (at n : ℕ) → at ≡ placeBy r → n ≡ recordBytes (pickKind (r .write)) → (mark : ℕ)
-    → mark ≡ markedBy (getD marks at 0) (r .write) → Marking list (take (length rest - n) (drop n rest)) (set marks at mark)
-marking-again list rest marks k l r a at n p b mark e =
+    → r ≡ recordAt rest → (at n : ℕ) → at ≡ placeBy r → n ≡ recordBytes (pickKind (r .write)) → (byte : ℕ)
+    → byte ≡ (let old = getD marks (byteOf at) 0 in withMark old (slotOf at) (markedBy (markIn old (slotOf at)) (r .write)))
+    → Marking list (take (length rest - n) (drop n rest)) (set marks (byteOf at) byte)
+unfolding after markAt
+marking-again list rest marks k l r a at n p b byte e =
     let w = k .walk in
     let x = recordStep rest in
     record {
@@ -65,13 +67,14 @@ marking-again list rest marks k l r a at n p b mark e =
 
 -- a turn of the second
 module _ (list rest : List ℕ) (index : ℕ) (marks : List ℕ) (t : Testing list rest index marks) (l : length rest ≡ 0 → ⊥)
-    (r : Record) (a : r ≡ recordAt rest) (at : ℕ) (p : at ≡ placeBy r) (found : Bool)
-    (e : found ≡ clashesWith (getD marks at 0) (r .write)) where
+    (r : Record) (a : r ≡ recordAt rest) (at : ℕ) (p : at ≡ placeBy r) (mark : ℕ)
+    (q : mark ≡ markIn (getD marks (byteOf at) 0) (slotOf at)) (found : Bool) (e : found ≡ clashesWith mark (r .write)) where
   told : (xs : List Step) → Marked xs marks → clashes xs (recordStep rest) ≡ found
+  unfolding markAt
   told xs m =
       sym
       (e
-      ∙ rw (write-here list rest index (t .done) (t .walk) l r a, place-here list rest index (t .done) (t .walk) l r a at p)
+      ∙ rw (q, write-here list rest index (t .done) (t .walk) l r a, place-here list rest index (t .done) (t .walk) l r a at p)
       (clash-told xs (recordStep rest) marks m (record-here list rest index (t .done) (t .walk) l r a .cell)))
 
   pub clash-found : found ≡ true → (xs ys : List Step) → Marked xs marks → recordsOf list ≡ records ys

@@ -48,6 +48,18 @@ space-at information a p e =
     refl
 space-at absent a p e = let z : _≡_ {A = ℕ} 0 1 = cc in absurd (omega arith)
 
+-- a cell stands at an even place
+pub place-even : (c : Cell) → Present c → placeOf c % 2 ≡ 0
+unfolding placeOf row isAbsent
+place-even c p = go (c .space) (p .space) (p .aligned)
+  where
+    go : (s : Space) → isAbsent s ≡ false → c .address % row s .element ≡ 0 → (row s .place + c .address) % 2 ≡ 0
+    go registers a m = omega arith
+    go eeprom a m = omega arith
+    go status a m = omega arith
+    go information a m = omega arith
+    go absent a m = let z : _≡_ {A = ℕ} 0 1 = cc in absurd (omega arith)
+
 pub place-inside : (c : Cell) → Present c → placeOf c < storeBytes
 unfolding placeOf
 place-inside c p = omega (arith, row-end (c .space), p .inside)
@@ -132,12 +144,13 @@ unfolding at misaligned pastEnd placeOf cellOf
 placed x h i w =
     let g = good-element x h in
     let e = row-plain (x .kind) (x .space) i in
+    let aligned = eqb-true _ _ (not-false _ (g .1)) in
     let inside : x .address + width x ≤ row (x .space) .bytes =
     rw e at (ltb-false (rowBy (x .kind) (x .space) .bytes) (x .address + rowBy (x .kind) (x .space) .element) (g .2)) in
     record {
-      cell = record { space = g .0; inside = omega (arith, element-nonzero (x .space)) };
+      cell = record { space = g .0; inside = omega (arith, element-nonzero (x .space)); aligned = aligned };
       place = rw e refl;
-      fit = rw e (fit-in (x .space) (x .address) (g .0) (eqb-true _ _ (not-false _ (g .1))) inside);
+      fit = rw e (fit-in (x .space) (x .address) (g .0) aligned inside);
       bytes = rw w (carried-element (x .kind) (x .space));
     }
 

@@ -57,5 +57,5 @@ pub fn independent(first: &[u8], second: &[u8]) -> Independence
     if refusal.number != 0 {
         return Independence::Refused { list: 1, refusal };
     }
-    compare(first, second, &mut [0; 65728])
+    compare(first, second, &mut [0; 8216])
 }

@@ -23,7 +23,7 @@ slice-aggregate-compare : tie.Need-slice-aggregate-compare
 slice-aggregate-compare c = search needs
 
 compare-requires : tie.Need-compare-requires
-compare-requires c κs = let b = c .before .before .before in (accepted-if _ _ (b .before .before .before .refusal-of .ensures) (b .before .if1 .left), accepted-if _ _ (b .refusal-of2 .ensures) (c .before .if2 .left), fresh-marks 65728 refl)
+compare-requires c κs = let b = c .before .before .before in (accepted-if _ _ (b .before .before .before .refusal-of .ensures) (b .before .if1 .left), accepted-if _ _ (b .refusal-of2 .ensures) (c .before .if2 .left), fresh-marks 8216 refl)
 
 returns-3 : tie.Need-returns-3
 returns-3 c = answered _ _ _ (c .before .compare .ensures)

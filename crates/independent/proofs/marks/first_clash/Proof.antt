@@ -23,12 +23,19 @@ record-at-requires c κs = search needs
 place-of-requires : tie.Need-place-of-requires Inv-loop μ-loop
 place-of-requires c κs = search needs
 
-shared-slice-read-clashes : tie.Need-shared-slice-read-clashes Inv-loop μ-loop
-shared-slice-read-clashes c =
-    let b = c .before .before .before in
-    let h = place-inside-here _ _ _ _ (b .before .loop .inv .walk) (b .loop-test .taken) _ (c .before .before .record-at .ensures) _ (c .before .place-of .ensures) in
-    let l = b .before .before .before .before .pre .1 in
+-- the mark's byte is in the table
+shared-slice-read-mark-in : tie.Need-shared-slice-read-mark-in Inv-loop μ-loop
+shared-slice-read-mark-in c =
+    let r = c .before .before in
+    let t = r .before in
+    let h =
+    place-inside-here _ _ _ _ (t .before .loop .inv .walk) (t .loop-test .taken) _ (r .record-at .ensures) _
+    (c .before .place-of .ensures) in
+    let l = t .before .before .before .before .pre .1 in
     omega arith
+
+mark-in-requires : tie.Need-mark-in-requires Inv-loop μ-loop
+mark-in-requires c κs = search needs
 
 clashes-requires : tie.Need-clashes-requires Inv-loop μ-loop
 clashes-requires c κs = search needs
@@ -36,16 +43,30 @@ clashes-requires c κs = search needs
 returns : tie.Need-returns Inv-loop μ-loop
 unfolding independenceListed
 returns c =
-    let b = c .before .before .before in
-    clash-found _ _ _ _ (b .before .before .before .loop .inv) (b .before .before .loop-test .taken) _ (b .before .record-at .ensures) _ (b .place-of .ensures) _ (c .before .clashes .ensures) (c .if1 .taken)
+    let m = c .before .before in
+    let p = m .before .before in
+    let r = p .before in
+    let t = r .before in
+    clash-found _ _ _ _ (t .before .loop .inv) (t .loop-test .taken) _ (r .record-at .ensures) _
+    (p .place-of .ensures)
+    _
+    (m .mark-in .ensures .0)
+    _
+    (c .before .clashes .ensures)
+    (c .if1 .taken)
 
 record-bytes-requires : tie.Need-record-bytes-requires Inv-loop μ-loop
 record-bytes-requires c κs = search needs
 
-whole : (c : tie.After-record-bytes Inv-loop μ-loop) → c .record-bytes .result ≤ length (c .before .before .before .before .before .before .before .loop .rest .now)
+-- where the record is read
+abbrev read : tie.After-record-bytes Inv-loop μ-loop → tie.After-record-at Inv-loop μ-loop
+read c = c .before .before .before .before .before .before
+
+whole : (c : tie.After-record-bytes Inv-loop μ-loop) → c .record-bytes .result ≤ length (read c .before .before .loop .rest .now)
 whole c =
-    let b = c .before .before .before .before .before in
-    whole-here _ _ _ _ (b .before .before .loop .inv .walk) (b .before .loop-test .taken) _ (b .record-at .ensures) _ (c .record-bytes .ensures .0)
+    let r = read c in
+    let t = r .before in
+    whole-here _ _ _ _ (t .before .loop .inv .walk) (t .loop-test .taken) _ (r .record-at .ensures) _ (c .record-bytes .ensures .0)
 
 sub-rest : tie.Need-sub-rest Inv-loop μ-loop
 sub-rest c = whole c
@@ -57,17 +78,30 @@ part-rest-end : tie.Need-part-rest-end Inv-loop μ-loop
 part-rest-end c = let h = whole c in search needs
 
 add-index : tie.Need-add-index Inv-loop μ-loop
-add-index c = let h = c .before .before .before .before .before .before .before .before .loop .inv .walk .few in omega arith
+add-index c = let h = read (c .before) .before .before .loop .inv .walk .few in omega arith
 
 loop-less : tie.Need-loop-less Inv-loop μ-loop
 loop-less c =
-    let b = c .before .before .before .before .before .before in
-    shorter _ _ _ _ (b .before .before .loop .inv .walk) (b .before .loop-test .taken) _ (b .record-at .ensures) _ (c .before .record-bytes .ensures .0)
+    let r = read (c .before) in
+    let t = r .before in
+    shorter _ _ _ _ (t .before .loop .inv .walk) (t .loop-test .taken) _ (r .record-at .ensures) _
+    (c .before .record-bytes .ensures .0)
 
 loop-again : tie.Need-loop-again Inv-loop μ-loop
 loop-again c =
-    let b = c .before .before .before .before .before in
-    testing-again _ _ _ _ (b .before .before .before .loop .inv) (b .before .before .loop-test .taken) _ (b .before .record-at .ensures) _ (b .place-of .ensures) _ (c .before .before .before .clashes .ensures) (c .before .before .if1 .left) _ (c .before .record-bytes .ensures .0)
+    let d = c .before .before .before in
+    let p = d .before .before .before in
+    let r = p .before in
+    let t = r .before in
+    testing-again _ _ _ _ (t .before .loop .inv) (t .loop-test .taken) _ (r .record-at .ensures) _
+    (p .place-of .ensures)
+    _
+    (d .before .mark-in .ensures .0)
+    _
+    (d .clashes .ensures)
+    (c .before .before .if1 .left)
+    _
+    (c .before .record-bytes .ensures .0)
 
 returns-2 : tie.Need-returns-2 Inv-loop μ-loop
 unfolding independenceListed
@@ -82,7 +116,8 @@ first-clash-spec =
     loop-holds
     record-at-requires
     place-of-requires
-    shared-slice-read-clashes
+    shared-slice-read-mark-in
+    mark-in-requires
     clashes-requires
     returns
     record-bytes-requires

@@ -1,7 +1,7 @@
 use Rattle.independent.proofs.marks.mark.Statement.{statement}
 use Rattle.independent.proofs.marks.mark.Tie as tie
 use borrow.Author.Needs.{needs}
-use Prim.Native.Nat.{_≤_, _<_}
+use Prim.Native.Nat.{_/_, _≤_, _<_}
 use native.Mathlib.Omega.{arith}
 use lib.ListN.{length}
 use Rattle.independent.proofs.WalkLaws.{place-inside-here, whole-here, shorter}
@@ -22,18 +22,19 @@ record-at-requires c κs = search needs
 place-of-requires : tie.Need-place-of-requires Inv-loop μ-loop
 place-of-requires c κs = search needs
 
-inside : (c : tie.After-place-of Inv-loop μ-loop) → c .place-of .result < length (c .before .before .before .loop .marks)
+-- the mark's byte is in the table
+inside : (c : tie.After-place-of Inv-loop μ-loop) → c .place-of .result / 8 < length (c .before .before .before .loop .marks)
 inside c =
-    let b = c .before .before .before in
-    let i = b .loop .inv in
-    let h = place-inside-here _ _ _ _ (i .walk) (c .before .before .loop-test .taken) _ (c .before .record-at .ensures) _ (c .place-of .ensures) in
+    let i = c .before .before .before .loop .inv in
+    let t = c .before .before .loop-test .taken in
+    let h = place-inside-here _ _ _ _ (i .walk) t _ (c .before .record-at .ensures) _ (c .place-of .ensures) in
     omega (arith, i .marked .bytes)
 
-slice-read-marked : tie.Need-slice-read-marked Inv-loop μ-loop
-slice-read-marked c = inside (c .before)
+slice-read-marked-in : tie.Need-slice-read-marked-in Inv-loop μ-loop
+slice-read-marked-in c = inside (c .before)
 
-marked-requires : tie.Need-marked-requires Inv-loop μ-loop
-marked-requires c κs = search needs
+marked-in-requires : tie.Need-marked-in-requires Inv-loop μ-loop
+marked-in-requires c κs = search needs
 
 slice-write-marks : tie.Need-slice-write-marks Inv-loop μ-loop
 slice-write-marks c = inside (c .before .before)
@@ -41,10 +42,12 @@ slice-write-marks c = inside (c .before .before)
 record-bytes-requires : tie.Need-record-bytes-requires Inv-loop μ-loop
 record-bytes-requires c κs = search needs
 
-whole : (c : tie.After-record-bytes Inv-loop μ-loop) → c .record-bytes .result ≤ length (c .before .before .before .before .before .before .loop .rest .now)
+whole : (c : tie.After-record-bytes Inv-loop μ-loop)
+    → c .record-bytes .result ≤ length (c .before .before .before .before .before .before .loop .rest .now)
 whole c =
-    let b = c .before .before .before .before in
-    whole-here _ _ _ _ (b .before .before .loop .inv .walk) (b .before .loop-test .taken) _ (b .record-at .ensures) _ (c .record-bytes .ensures .0)
+    let r = c .before .before .before .before in
+    let t = r .before in
+    whole-here _ _ _ _ (t .before .loop .inv .walk) (t .loop-test .taken) _ (r .record-at .ensures) _ (c .record-bytes .ensures .0)
 
 sub-rest : tie.Need-sub-rest Inv-loop μ-loop
 sub-rest c = whole c
@@ -57,16 +60,27 @@ part-rest-end c = let h = whole c in search needs
 
 loop-less : tie.Need-loop-less Inv-loop μ-loop
 loop-less c =
-    let b = c .before .before .before .before .before in
-    shorter _ _ _ _ (b .before .before .loop .inv .walk) (b .before .loop-test .taken) _ (b .record-at .ensures) _ (c .before .record-bytes .ensures .0)
+    let r = c .before .before .before .before .before in
+    let t = r .before in
+    shorter _ _ _ _ (t .before .loop .inv .walk) (t .loop-test .taken) _ (r .record-at .ensures) _
+    (c .before .record-bytes .ensures .0)
 
 loop-again : tie.Need-loop-again Inv-loop μ-loop
 loop-again c =
-    let b = c .before .before .before .before .before in
-    marking-again _ _ _ (b .before .before .loop .inv) (b .before .loop-test .taken) _ (b .record-at .ensures) _ _ (c .before .before .before .before .place-of .ensures) (c .before .record-bytes .ensures .0) _ (c .before .before .marked .ensures)
+    let p = c .before .before .before .before in
+    let r = p .before in
+    let t = r .before in
+    marking-again _ _ _ (t .before .loop .inv) (t .loop-test .taken) _ (r .record-at .ensures) _ _
+    (p .place-of .ensures)
+    (c .before .record-bytes .ensures .0)
+    _
+    (c .before .before .marked-in .ensures)
 
 same-length : tie.Need-same-length Inv-loop μ-loop
-same-length c = let i = c .before .loop .inv .marked .bytes in let p = c .before .before .before .before .pre .1 .bytes in omega arith
+same-length c =
+    let i = c .before .loop .inv .marked .bytes in
+    let p = c .before .before .before .before .pre .1 .bytes in
+    omega arith
 
 returns : tie.Need-returns Inv-loop μ-loop
 returns c = marking-last _ _ _ (c .before .loop .inv) (c .loop-test .left)
@@ -80,8 +94,8 @@ mark-spec =
     loop-holds
     record-at-requires
     place-of-requires
-    slice-read-marked
-    marked-requires
+    slice-read-marked-in
+    marked-in-requires
     slice-write-marks
     record-bytes-requires
     sub-rest
