@@ -468,7 +468,7 @@ uint32_t head_part(uint8_t *state, uint64_t state_length,
  * same store to the byte, the packet count and the unlock cell too, and read the same values for each list. The pointers at the
  * end may differ. Packets of the two lists are not to be mixed.
  * The first list's refusal goes before the second's, and both before a clash. The time is in proportion to both lists' lengths.
- * It uses about 70 KB of stack.
+ * It uses about 8.5 KB of stack.
  *
  *   21 to 24  as head_compile refuses that list
  *   51        the second list's record at place writes a cell which the first names, or names a cell which the first writes; it
