@@ -1,4 +1,4 @@
-# For run, bench and callgrind: finds the library and the toolchain, and builds.
+# For run, bench, callgrind and targets: finds the library and the toolchain, and builds.
 # Needs: here, the folder of this file; name, the command that was called.
 
 library=$here/../target/staticlib/libhead.a

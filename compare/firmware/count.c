@@ -9,6 +9,7 @@ static uint8_t store[HEAD_STORE_BYTES], reply[HEAD_REPLY_BYTES], packet[HEAD_REP
 static uint32_t pointers[HEAD_POINTERS], words[128], answer[128];
 static uint64_t value, elements;
 static uint32_t length, refused;
+static int well;
 
 #define SYSTICK ((volatile uint32_t *)0xE000E010)
 
@@ -26,9 +27,8 @@ static void report(const char *name, void (*call)(void), uint32_t times)
     say(name);
     say(" ");
     say_number(instructions);
-    say(refused ? " REFUSED\n" : "\n");
-    if (refused)
-        end(0);
+    say(refused ? " and refused\n" : "\n");
+    well &= refused == 0;
 }
 
 static void run(void)
@@ -99,12 +99,14 @@ static void bursts(void)
     report("burstwrite", burst, 100);
 }
 
-int main(void)
+int program(const uint8_t *file)
 {
+    (void)file;
+    well = 1;
     SYSTICK[1] = 0xFFFFFF;
     SYSTICK[2] = 0;
     SYSTICK[0] = 5;
     packets();
     bursts();
-    return 0;
+    return well;
 }

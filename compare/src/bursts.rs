@@ -48,7 +48,7 @@ pub fn compare(seed: u64, count: u64) -> Outcome {
     let rng = &mut part.rng;
     part.store.change(|store| rng.fill(store));
     for case in 0..count {
-        let words = Draft::any(&mut part.rng).words(&mut part.rng);
+        let words = any(&mut part.rng);
         let rooms = part.rooms(words.len());
         part.case(&words, rooms)
             .map_err(|what| format!("burst {case}: {what}"))?;
@@ -188,6 +188,11 @@ fn vary(words: &mut [u32], start: u32) {
         *word = value;
         value = value.wrapping_mul(0x9E37_79B1).wrapping_add(1);
     }
+}
+
+/// The words of a burst of any kind.
+pub(crate) fn any(rng: &mut Rng) -> Vec<u32> {
+    Draft::any(rng).words(rng)
 }
 
 /// A burst that may have faults.

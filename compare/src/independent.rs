@@ -213,7 +213,7 @@ fn clash_before(first: &[u8], second: &[u8]) -> bool {
 }
 
 /// Two lists: apart, apart but for one record, any two good ones, or with a bad one among them.
-fn pair(rng: &mut Rng) -> [Vec<u8>; 2] {
+pub(crate) fn pair(rng: &mut Rng) -> [Vec<u8>; 2] {
     let bytes = |list: List| list.bytes().to_vec();
     match rng.below(10) {
         0 => [bytes(cues::good(rng)), bytes(cues::good(rng))],

@@ -25,6 +25,7 @@ pub mod sserial;
 pub mod tally;
 pub mod tight;
 pub mod trace;
+pub mod vectors;
 pub mod words;
 
 use model::store::{Space, COUNT_ADDRESS};

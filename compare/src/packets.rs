@@ -376,7 +376,7 @@ impl Part {
 }
 
 /// A pointer that no rule turns away: aligned or not, in the area or at its end.
-fn good_pointer(rng: &mut Rng, area: Area) -> u32 {
+pub(crate) fn good_pointer(rng: &mut Rng, area: Area) -> u32 {
     let size = area.bytes();
     let element = area.element();
     match rng.below(8) {

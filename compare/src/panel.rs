@@ -93,17 +93,17 @@ fn compare_report(tally: &mut Tally, asked: u8, faults: u8) -> Result<(), String
 }
 
 #[derive(Debug)]
-struct Call {
-    kind: u32,
-    width: u32,
-    value: u64,
-    minimum: u32,
-    maximum: u32,
+pub(crate) struct Call {
+    pub kind: u32,
+    pub width: u32,
+    pub value: u64,
+    pub minimum: u32,
+    pub maximum: u32,
 }
 
 impl Call {
     /// About a third of them with a field or bounds that are refused.
-    fn new(rng: &mut Rng) -> Call {
+    pub fn new(rng: &mut Rng) -> Call {
         let mut width = rng.pick(&[1, 8, 12, 16, 23, 24, 24]);
         if rng.coin() {
             width = rng.between(1, 24) as u32;

@@ -81,10 +81,10 @@ struct Part {
 }
 
 /// What was judged: number, index and place.
-type Judged = (u32, u64, u64);
+pub(crate) type Judged = (u32, u64, u64);
 
 /// Packets and replies in turn.
-type Recording = Vec<Vec<u8>>;
+pub(crate) type Recording = Vec<Vec<u8>>;
 
 impl Part {
     fn case(&mut self) -> Result<(), String> {
@@ -276,7 +276,7 @@ impl Part {
 }
 
 /// The verdict as the library's numbers.
-fn numbers(verdict: Result<Verdict, Refusal>) -> Judged {
+pub(crate) fn numbers(verdict: Result<Verdict, Refusal>) -> Judged {
     match verdict {
         Err(refusal) => (refusal.number, 0, refusal.place),
         Ok(Verdict::Yes(packets)) => (0, packets, 0),
@@ -289,14 +289,14 @@ fn numbers(verdict: Result<Verdict, Refusal>) -> Judged {
 }
 
 /// A packet's reply, if it is accepted.
-fn reply(packet: &[u8], store: &mut [u8], pointers: &mut [u32]) -> Option<Vec<u8>> {
+pub(crate) fn reply(packet: &[u8], store: &mut [u8], pointers: &mut [u32]) -> Option<Vec<u8>> {
     let mut reply = vec![0; PACKET_BYTES];
     let ran = run(packet, store, pointers, &mut reply).ok()?;
     reply.truncate(ran.length);
     Some(reply)
 }
 
-fn bytes(recording: &Recording) -> Vec<u8> {
+pub(crate) fn bytes(recording: &Recording) -> Vec<u8> {
     let mut bytes = Vec::new();
     for part in recording {
         bytes.extend(b"LB");
@@ -321,7 +321,7 @@ fn apart(mut recording: &[u8]) -> Vec<&[u8]> {
 }
 
 /// A recording with one fault or two.
-fn damaged(rng: &mut Rng, mut recording: Recording) -> Vec<u8> {
+pub(crate) fn damaged(rng: &mut Rng, mut recording: Recording) -> Vec<u8> {
     if recording.is_empty() {
         return rng.pick(&[&b"L"[..], b"BL", b"LB\0", b"??LB"]).to_vec();
     }

@@ -203,7 +203,7 @@ fn playable(kept: &[u8]) -> Result<bool, String> {
 }
 
 /// A list, most of them with damage at several places.
-fn list(rng: &mut Rng) -> Vec<u8> {
+pub(crate) fn list(rng: &mut Rng) -> Vec<u8> {
     let mut list = match rng.coin() {
         true => cues::any(rng),
         false => cues::good(rng).bytes().to_vec(),

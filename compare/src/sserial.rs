@@ -94,11 +94,11 @@ struct Part {
 }
 
 /// What else is given to pack or unpack, and the one fault in it, if there is one.
-struct Call {
-    direction: u32,
-    channel: u32,
-    registers: usize,
-    values: Vec<u64>,
+pub(crate) struct Call {
+    pub direction: u32,
+    pub channel: u32,
+    pub registers: usize,
+    pub values: Vec<u64>,
     fault: Option<&'static str>,
 }
 
@@ -117,10 +117,10 @@ impl Part {
         let fields = table.map_or(Vec::new(), |table| table.fields);
         for _ in 0..2 {
             self.field(card, &fields)?;
-            let call = self.call(&fields, true);
+            let call = Call::new(&mut self.rng, &fields, true);
             self.pack(card, &fields, &call)
                 .map_err(|what| format!("packing: {what}\n{}", call.text()))?;
-            let call = self.call(&fields, false);
+            let call = Call::new(&mut self.rng, &fields, false);
             self.unpack(card, &fields, &call)
                 .map_err(|what| format!("unpacking: {what}\n{}", call.text()))?;
         }
@@ -156,7 +156,9 @@ impl Part {
     }
 
     fn pack(&mut self, card: &Card, fields: &[Field], call: &Call) -> Result<(), String> {
-        let mut registers = self.registers();
+        let rng = &mut self.rng;
+        let mut registers = Lent::new("registers", ALL_REGISTERS, 0);
+        registers.change(|registers| fill_registers(rng, registers));
         let (library, model) = registers.lend(call.registers);
         let Call {
             direction,
@@ -186,7 +188,9 @@ impl Part {
     }
 
     fn unpack(&mut self, card: &Card, fields: &[Field], call: &Call) -> Result<(), String> {
-        let mut registers = self.registers();
+        let rng = &mut self.rng;
+        let mut registers = Lent::new("registers", ALL_REGISTERS, 0);
+        registers.change(|registers| fill_registers(rng, registers));
         let (lent, given) = registers.lend(call.registers);
         let mut values = Lent::new("values", call.values.len(), self.rng.number());
         let (library, model) = values.lend(call.values.len());
@@ -202,22 +206,36 @@ impl Part {
         Ok(())
     }
 
-    /// Registers of all channels with random bits, some all ones or zero.
-    fn registers(&mut self) -> Lent<u32> {
-        let rng = &mut self.rng;
-        let mut registers = Lent::new("registers", ALL_REGISTERS, 0);
-        registers.change(|registers| {
-            for register in registers {
-                let word = rng.word();
-                *register = rng.pick(&[word, word, word, 0, u32::MAX, 0x8000_0000]);
-            }
-        });
-        registers
+    fn count_table(&mut self, card: &Card, table: &Result<Table, model::Refusal>) {
+        let tally = &mut self.tables;
+        let number = table.as_ref().map_or_else(|refusal| refusal.number, |_| 0);
+        tally.ending(number);
+        let seen = seen(card);
+        let bits = |way: Way| -> u32 {
+            let going = seen.fields.iter().filter(|field| field.goes(way));
+            going.map(|field| u32::from(field.width)).sum()
+        };
+        let (inputs, outputs) = (bits(Way::In), bits(Way::Out));
+        let any = |test: fn(&Field) -> bool| seen.fields.iter().any(test);
+        let accepted = number == 0;
+        tally.situation(NO_FIELD, accepted && seen.fields.is_empty());
+        tally.situation(FULL_IN, accepted && inputs == CHANNEL_BITS);
+        tally.situation(FULL_OUT, accepted && outputs == CHANNEL_BITS);
+        tally.situation(BOTH_WAYS, accepted && any(|field| field.direction == 0x40));
+        tally.situation(WIDE, accepted && any(|field| field.width == 64));
+        tally.situation(MODE, accepted && seen.modes > 0 && !seen.fields.is_empty());
+        tally.situation(PAST_64K, accepted && seen.end > 0x1_0000);
+        let widths_good = !any(|field| field.width == 0 || field.width > 64);
+        let one_more = inputs.max(outputs) == CHANNEL_BITS + 1;
+        tally.situation(ONE_BIT_MORE, number == 42 && widths_good && one_more);
+        let passed = inputs.max(outputs) > CHANNEL_BITS;
+        tally.situation(LATER_41, number == 41 && (passed || !widths_good));
     }
+}
 
+impl Call {
     /// A call on a card with these fields, half of them with one fault.
-    fn call(&mut self, fields: &[Field], packing: bool) -> Call {
-        let rng = &mut self.rng;
+    pub fn new(rng: &mut Rng, fields: &[Field], packing: bool) -> Call {
         let way = rng.pick(&[Way::In, Way::Out]);
         let going: Vec<&Field> = fields.iter().filter(|field| field.goes(way)).collect();
         let mut call = Call {
@@ -263,34 +281,6 @@ impl Part {
         call
     }
 
-    fn count_table(&mut self, card: &Card, table: &Result<Table, model::Refusal>) {
-        let tally = &mut self.tables;
-        let number = table.as_ref().map_or_else(|refusal| refusal.number, |_| 0);
-        tally.ending(number);
-        let seen = seen(card);
-        let bits = |way: Way| -> u32 {
-            let going = seen.fields.iter().filter(|field| field.goes(way));
-            going.map(|field| u32::from(field.width)).sum()
-        };
-        let (inputs, outputs) = (bits(Way::In), bits(Way::Out));
-        let any = |test: fn(&Field) -> bool| seen.fields.iter().any(test);
-        let accepted = number == 0;
-        tally.situation(NO_FIELD, accepted && seen.fields.is_empty());
-        tally.situation(FULL_IN, accepted && inputs == CHANNEL_BITS);
-        tally.situation(FULL_OUT, accepted && outputs == CHANNEL_BITS);
-        tally.situation(BOTH_WAYS, accepted && any(|field| field.direction == 0x40));
-        tally.situation(WIDE, accepted && any(|field| field.width == 64));
-        tally.situation(MODE, accepted && seen.modes > 0 && !seen.fields.is_empty());
-        tally.situation(PAST_64K, accepted && seen.end > 0x1_0000);
-        let widths_good = !any(|field| field.width == 0 || field.width > 64);
-        let one_more = inputs.max(outputs) == CHANNEL_BITS + 1;
-        tally.situation(ONE_BIT_MORE, number == 42 && widths_good && one_more);
-        let passed = inputs.max(outputs) > CHANNEL_BITS;
-        tally.situation(LATER_41, number == 41 && (passed || !widths_good));
-    }
-}
-
-impl Call {
     fn text(&self) -> String {
         format!(
             "direction {}, channel {}, {} registers, {} values: {:X?}",
@@ -338,6 +328,14 @@ fn seen(card: &Card) -> Seen {
         }
     }
     seen
+}
+
+/// Fills registers with random bits, some all ones or zero.
+pub(crate) fn fill_registers(rng: &mut Rng, registers: &mut [u32]) {
+    for register in registers {
+        let word = rng.word();
+        *register = rng.pick(&[word, word, word, 0, u32::MAX, 0x8000_0000]);
+    }
 }
 
 /// A value in the field's range, often at one of its ends.

@@ -42,7 +42,7 @@ pub fn compare(seed: u64) -> Outcome {
         }
     }
     for _ in 0..50_000 {
-        let bytes = part.fields_at_the_ends();
+        let bytes = fields_at_the_ends(&mut part.rng);
         part.put_together(&bytes)?;
     }
     Ok(vec![part.taken, part.put])
@@ -89,16 +89,16 @@ impl Part {
     fn fields_in_range(&mut self) -> [u8; FIELDS] {
         ENDS.map(|end| self.rng.below(end.into()) as u8)
     }
+}
 
-    /// Fields of which some are at a range's last value, just past it or anywhere.
-    fn fields_at_the_ends(&mut self) -> [u8; FIELDS] {
-        ENDS.map(|end| match self.rng.below(16) {
-            0 => end,
-            1 => self.rng.byte(),
-            2 | 3 => end - 1,
-            _ => self.rng.below(end.into()) as u8,
-        })
-    }
+/// Fields of which some are at a range's last value, just past it or anywhere.
+pub(crate) fn fields_at_the_ends(rng: &mut Rng) -> [u8; FIELDS] {
+    ENDS.map(|end| match rng.below(16) {
+        0 => end,
+        1 => rng.byte(),
+        2 | 3 => end - 1,
+        _ => rng.below(end.into()) as u8,
+    })
 }
 
 fn same(answer: u32, expected: u32) -> Result<(), String> {
@@ -109,7 +109,7 @@ fn same(answer: u32, expected: u32) -> Result<(), String> {
 }
 
 /// What the export must do, by the independent implementation.
-fn fields(word: u16, room: &mut [u8]) -> u32 {
+pub(crate) fn fields(word: u16, room: &mut [u8]) -> u32 {
     if room.len() != FIELDS {
         return 13;
     }
@@ -118,7 +118,7 @@ fn fields(word: u16, room: &mut [u8]) -> u32 {
 }
 
 /// What the export must do, by the independent implementation.
-fn word(bytes: &[u8], word: &mut u16) -> u32 {
+pub(crate) fn word(bytes: &[u8], word: &mut u16) -> u32 {
     match from_bytes(bytes).map(Fields::to_word) {
         Some(Ok(put)) => {
             *word = put;
