@@ -1,8 +1,8 @@
 -- Elements that stand one behind the other are a block, and those that stand still are one element.
-use Prim.Native.Nat.{ℕ, zero, suc, _+_, _-_, _*_, _≤_}
+use Prim.Native.Nat.{ℕ, zero, suc, _+_, _-_, _*_, _/_, _%_, _≤_}
 use mathlib.Core.Path.{_≡_, refl, sym, ap, _∙_}
 use mathlib.Core.List.{List, [], _∷_, _++_}
-use mathlib.Core.Bool.{Bool, true, false, not, cond, _&&_, _||_}
+use mathlib.Core.Bool.{Bool, true, false, not, cond, _&&_}
 use lib.Dec.{eqb}
 use borrow.Author.Tests.{eqb-true}
 use Rattle.lbp16.proofs.BoolLaws.{and-true}
@@ -23,10 +23,23 @@ pub narrow : (wide : Bool) (step : ℕ) → (not wide && eqb step 2) ≡ true �
 narrow true step e = let z : _≡_ {A = ℕ} 0 1 = cc in absurd (omega arith)
 narrow false step e = (refl, eqb-true step 2 e)
 
+-- elements of four bytes in a row
+pub four : (wide : Bool) (step : ℕ) → (wide && eqb step 4) ≡ true → (_≡_ {A = ℕ} (cond wide 4 2) 4) × (step ≡ 4)
+four true step e = (refl, eqb-true step 4 e)
+four false step e = let z : _≡_ {A = ℕ} 0 1 = cc in absurd (omega arith)
+
 -- where the last of the elements stands
 pub last-within : (n i d w bytes : ℕ) → Within (suc n) i d w bytes → i + n * d + w ≤ bytes
 last-within zero i d w bytes h = let q = h .0 in let z = zero-mul d in omega arith
 last-within (suc n) i d w bytes h = let q = last-within n (i + d) d w bytes (h .1) in let e = suc-mul n d in omega arith
+
+-- a part, and the one behind it, copied are one part
+pub copied-on : (m k : ℕ) (src : List ℕ) (i : ℕ) (dst : List ℕ) (j : ℕ) → i + m ≤ length src
+    → sets (sets dst j (take m (drop i src))) (j + m) (take k (drop (i + m) src)) ≡ sets dst j (take (m + k) (drop i src))
+copied-on m k src i dst j h =
+    let l : length (take m (drop i src)) ≡ m = length-take-le m (drop i src) (rw length-drop (omega arith)) in
+    let whole : take m (drop i src) ++ take k (drop (i + m) src) ≡ take (m + k) (drop i src) = rw (take-add, drop-drop) refl in
+    (rw l at (sets-append dst j (take m (drop i src)) (take k (drop (i + m) src)))) ∙ ap (sets dst j) whole
 
 -- elements that stand one behind the other on both sides
 pub moved-block : (n w : ℕ) (src : List ℕ) (i : ℕ) (dst : List ℕ) (j : ℕ) → i + n * w ≤ length src
@@ -35,12 +48,31 @@ unfolding moved
 moved-block zero w src i dst j h = rw zero-mul refl
 moved-block (suc n) w src i dst j h =
     let e : suc n * w ≡ w + n * w = suc-mul n w ∙ add-comm (n * w) w in
-    let l : length (take w (drop i src)) ≡ w = length-take-le w (drop i src) (rw length-drop (omega arith)) in
-    let whole : take w (drop i src) ++ take (n * w) (drop (i + w) src) ≡ take (suc n * w) (drop i src) =
-    rw (e, take-add, drop-drop) refl in
     moved-block n w src (i + w) (sets dst j (take w (drop i src))) (j + w) (omega arith)
-    ∙ (rw l at (sets-append dst j (take w (drop i src)) (take (n * w) (drop (i + w) src))))
-    ∙ ap (sets dst j) whole
+    ∙ copied-on w (n * w) src i dst j (omega arith)
+    ∙ ap (λ (k : ℕ). sets dst j (take k (drop i src))) (sym e)
+
+pub within-block : (n i w bytes : ℕ) → i + n * w ≤ bytes → Within n i w w bytes
+within-block zero i w bytes h = tt
+within-block (suc n) i w bytes h = let e = suc-mul n w in (omega arith, within-block n (i + w) w bytes (omega arith))
+
+-- A block of elements as words of 4 bytes: two elements of 2 bytes are a word.
+module _ (n : ℕ) (src : List ℕ) (i : ℕ) (dst : List ℕ) (j : ℕ) (inside : i + n * 2 ≤ length src) where
+  pub pairs-even : (n % 2 ≡ 1 → ⊥) → moved (n / 2) 4 src i 4 dst j 4 ≡ sets dst j (take (n * 2) (drop i src))
+  pairs-even h =
+      let e : n / 2 * 4 ≡ n * 2 = let z : n % 2 ≡ 0 = even (n % 2) h (omega arith) in omega arith in
+      moved-block (n / 2) 4 src i dst j (omega arith) ∙ ap (λ (k : ℕ). sets dst j (take k (drop i src))) e
+    where
+      even : (r : ℕ) → (r ≡ 1 → ⊥) → r ≤ 1 → r ≡ 0
+      even zero h l = refl
+      even (suc r) h l = absurd (h (omega arith))
+
+  pub pairs-odd : n % 2 ≡ 1 → sets (moved (n / 2) 4 src i 4 dst j 4) (j + (n - 1) * 2) (take 2 (drop (i + (n - 1) * 2) src))
+      ≡ sets dst j (take (n * 2) (drop i src))
+  pairs-odd h =
+      let e : (n - 1) * 2 ≡ n / 2 * 4 = omega arith in
+      let f : n / 2 * 4 + 2 ≡ n * 2 = omega arith in
+      rw (e, moved-block (n / 2) 4 src i dst j (omega arith), ← f) (copied-on (n / 2 * 4) 2 src i dst j (omega arith))
 
 -- of elements that go to one place the last stays there
 pub moved-still : (n w : ℕ) (src : List ℕ) (i d : ℕ) (dst : List ℕ) (j : ℕ) → Within (suc n) i d w (length src)
@@ -95,22 +127,13 @@ module _ (n w : ℕ) (src : List ℕ) (i d : ℕ) (dst : List ℕ) (j e : ℕ) (
   to-within = first n j e (length dst) some room
 
   pub last-is : (i + (n - 1) * d + w ≤ length src)
-      × ((eqb e 0 || eqb n 1) ≡ true → sets dst j (take w (drop (i + (n - 1) * d) src)) ≡ moved n w src i d dst j e)
-  unfolding moved
+      × (e ≡ 0 → sets dst j (take w (drop (i + (n - 1) * d) src)) ≡ moved n w src i d dst j e)
   last-is = go n some inside
     where
-      alone : (m : ℕ) → suc m ≡ 1 → sets dst j (take w (drop (i + m * d) src)) ≡ moved (suc m) w src i d dst j e
-      alone m q = let z : m ≡ 0 = omega arith in rw (z, zero-mul, add-zero) refl
-
-      test : (m : ℕ) → Within (suc m) i d w (length src) → (b : Bool) → eqb e 0 ≡ b → (b || eqb (suc m) 1) ≡ true
-          → sets dst j (take w (drop (i + m * d) src)) ≡ moved (suc m) w src i d dst j e
-      test m h true q t = rw (eqb-true e 0 q) (sym (moved-still m w src i d dst j h))
-      test m h false q t = alone m (eqb-true _ _ t)
-
       go : (m : ℕ) → (m ≡ 0 → ⊥) → Within m i d w (length src) → (i + (m - 1) * d + w ≤ length src)
-          × ((eqb e 0 || eqb m 1) ≡ true → sets dst j (take w (drop (i + (m - 1) * d) src)) ≡ moved m w src i d dst j e)
+          × (e ≡ 0 → sets dst j (take w (drop (i + (m - 1) * d) src)) ≡ moved m w src i d dst j e)
       go zero s h = absurd (s refl)
-      go (suc m) s h = rw sub-one (last-within m i d w (length src) h, test m h (eqb e 0) refl)
+      go (suc m) s h = rw sub-one (last-within m i d w (length src) h, λ z. rw z (sym (moved-still m w src i d dst j h)))
 
   pub filled-is : d ≡ 0 → moved n w src i 0 dst j e ≡ moved n w src i d dst j e
   filled-is z = rw z refl
@@ -134,3 +157,13 @@ pub moved-none : (n w : ℕ) (src : List ℕ) (i d : ℕ) (dst : List ℕ) (j e 
 unfolding moved
 moved-none zero w src i d dst j e z = refl
 moved-none (suc n) w src i d dst j e z = absurd (omega arith)
+
+-- one element
+pub within-one : (n i d w bytes : ℕ) → n ≡ 1 → Within n i d w bytes → i + w ≤ bytes
+within-one zero i d w bytes e h = absurd (omega arith)
+within-one (suc n) i d w bytes e h = h .0
+
+pub moved-one : (n w : ℕ) (src : List ℕ) (i d : ℕ) (dst : List ℕ) (j e : ℕ) → n ≡ 1
+    → sets dst j (take w (drop i src)) ≡ moved n w src i d dst j e
+unfolding moved
+moved-one n w src i d dst j e z = rw z refl

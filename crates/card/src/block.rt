@@ -2,22 +2,10 @@
 use crate::element;
 ghost use mathlib.Core.Bool.{cond};
 ghost use mathlib.Core.Path.{_≡_};
-ghost use Prim.Native.Nat.{_+_, _≤_, _<_};
+ghost use Prim.Native.Nat.{_+_, _*_, _≤_};
 ghost use lib.ListN.{length, take, drop};
 ghost use lib.Seq.{sets};
 ghost use Rattle.card.specs.Inside.{Within, moved};
-
-// `n` bytes that stand one behind the other in both slices.
-fn copy(src: &[u8], from: usize, dst: &mut [u8], to: usize, n: usize)
-    requires { ⌜ (from + n ≤ length (now src)) × (to + n ≤ length (now dst)) ⌝ }
-    ensures { λ r. ⌜ now (dst .exit) ≡ sets (now (dst .entry)) to (take n (drop from (now (src .entry)))) ⌝ }
-{
-    let mut i: usize = 0;
-    while i < n {
-        dst[to + i] = src[from + i];
-        i += 1;
-    }
-}
 
 // The elements one by one, for any steps.
 fn move_each(
@@ -27,7 +15,7 @@ fn move_each(
     dst: &mut [u8],
     to: usize,
     to_step: usize,
-    count: usize,
+    count: u32,
     wide: bool,
 )
     requires { ⌜ («from_step» ≤ 4) × («to_step» ≤ 4) × Within count from «from_step» (cond wide 4 2) (length (now src)) × Within count to «to_step» (cond wide 4 2) (length (now dst)) ⌝ }
@@ -45,15 +33,7 @@ fn move_each(
 }
 
 // One element, fetched once, to `count` places `to_step` apart.
-fn fill(
-    src: &[u8],
-    from: usize,
-    dst: &mut [u8],
-    to: usize,
-    to_step: usize,
-    count: usize,
-    wide: bool,
-)
+fn fill(src: &[u8], from: usize, dst: &mut [u8], to: usize, to_step: usize, count: u32, wide: bool)
     requires { ⌜ («to_step» ≤ 4) × (from + cond wide 4 2 ≤ length (now src)) × Within count to «to_step» (cond wide 4 2) (length (now dst)) ⌝ }
     ensures { λ r. ⌜ now (dst .exit) ≡ moved count (cond wide 4 2) (now (src .entry)) from 0 (now (dst .entry)) to «to_step» ⌝ }
 {
@@ -61,8 +41,27 @@ fn fill(
     element::move_element(src, from, &mut one, 0, wide);
     if !wide & (to_step == 2) {
         move_each(&one, 0, 0, dst, to, 2, count, false);
+    } else if wide & (to_step == 4) {
+        move_each(&one, 0, 0, dst, to, 4, count, true);
     } else {
         move_each(&one, 0, 0, dst, to, to_step, count, wide);
+    }
+}
+
+// Elements that stand one behind the other in both slices, as words of 4 bytes: two elements of 2 bytes are a word, and an odd one
+// over is moved alone.
+fn copy(src: &[u8], from: usize, dst: &mut [u8], to: usize, count: u32, wide: bool)
+    requires { ⌜ (from + count * cond wide 4 2 ≤ length (now src)) × (to + count * cond wide 4 2 ≤ length (now dst)) ⌝ }
+    ensures { λ r. ⌜ now (dst .exit) ≡ sets (now (dst .entry)) to (take (count * cond wide 4 2) (drop from (now (src .entry)))) ⌝ }
+{
+    if wide {
+        move_each(src, from, 4, dst, to, 4, count, true);
+    } else {
+        move_each(src, from, 4, dst, to, 4, count / 2, true);
+        if count % 2 == 1 {
+            let last = (count - 1) as usize * 2;
+            element::move_element(src, from + last, dst, to + last, false);
+        }
     }
 }
 
@@ -73,8 +72,7 @@ fn width_of(wide: bool) -> usize
 }
 
 // `count` elements of 4 bytes, or of 2: from `src` at `from`, `from_step` apart, to `dst` at `to`, `to_step` apart. Elements
-// that stand one behind the other on both sides are one block; of those that go to one place only the last stays there, and
-// one alone is the last.
+// that stand one behind the other on both sides are one block; of those that go to one place only the last stays there.
 pub(crate) fn move_elements(
     src: &[u8],
     from: usize,
@@ -82,7 +80,7 @@ pub(crate) fn move_elements(
     dst: &mut [u8],
     to: usize,
     to_step: usize,
-    count: usize,
+    count: u32,
     wide: bool,
 )
     requires { ⌜ («from_step» ≤ 4) × («to_step» ≤ 4) × Within count from «from_step» (cond wide 4 2) (length (now src)) × Within count to «to_step» (cond wide 4 2) (length (now dst)) ⌝ }
@@ -92,13 +90,13 @@ pub(crate) fn move_elements(
         return;
     }
     let width = width_of(wide);
-    if (to_step == 0) | (count == 1) {
-        let last = from + (count - 1) * from_step;
+    if to_step == 0 {
+        let last = from + (count - 1) as usize * from_step;
         element::move_element(src, last, dst, to, wide);
     } else if from_step == 0 {
         fill(src, from, dst, to, to_step, count, wide);
     } else if (from_step == width) & (to_step == width) {
-        copy(src, from, dst, to, count * width);
+        copy(src, from, dst, to, count, wide);
     } else {
         move_each(src, from, from_step, dst, to, to_step, count, wide);
     }

@@ -35,7 +35,7 @@ struct Span {
     at: usize,
     step: usize,
     element: usize,
-    count: usize,
+    count: u32,
 }
 
 // From one element to the next.
@@ -53,7 +53,7 @@ fn span_of(f: Fields, r: Reach) -> Span
         at: r.at,
         step: step_of(f.increment, element),
         element,
-        count: f.count as usize,
+        count: f.count as u32,
     }
 }
 
@@ -63,7 +63,11 @@ fn read_span(s: Span, src: &[u8], tail: &mut [u8])
     ensures { λ r. ⌜ now (tail .exit) ≡ moved (s .count) (cond (eqb (s .element) 4) 4 2) (now (src .entry)) (s .at) (s .step) (now (tail .entry)) 0 (s .element) ⌝ }
 {
     let wide = s.element == 4;
-    block::move_elements(src, s.at, s.step, tail, 0, s.element, s.count, wide);
+    if s.count == 1 {
+        element::move_element(src, s.at, tail, 0, wide);
+    } else {
+        block::move_elements(src, s.at, s.step, tail, 0, s.element, s.count, wide);
+    }
 }
 
 // The elements of a read, from the store or from the info area, which shows the pointer as it stands before the command.
@@ -89,7 +93,11 @@ fn write_command(rest: &[u8], pointers: &[u32], f: Fields, r: Reach, store: &mut
     let s = span_of(f, r);
     let wide = s.element == 4;
     let header = command::header_bytes(f);
-    block::move_elements(rest, header, s.element, store, s.at, s.step, s.count, wide);
+    if s.count == 1 {
+        element::move_element(rest, header, store, s.at, wide);
+    } else {
+        block::move_elements(rest, header, s.element, store, s.at, s.step, s.count, wide);
+    }
 }
 
 // Does a command that the check let pass: a read fills the front of the reply's unused tail, a write goes to the store. It is never

@@ -1,64 +1,102 @@
+use borrow.Author.Needs.{needs}
 use Rattle.card.proofs.block.copy.Statement.{statement}
 use Rattle.card.proofs.block.copy.Tie as tie
-use Prim.Native.Nat.{_+_, _-_, _≤_}
-use mathlib.Core.Path.{_≡_, refl, sym, _∙_}
+use mathlib.Core.Path.{_∙_}
+use denote.Ref.{now}
+use Prim.Native.Nat.{_+_, _*_, _/_, _≤_}
+use lib.ListN.{length}
 use native.Mathlib.Omega.{arith}
-use native.Mathlib.Nat.{add-zero, sub-zero}
-use lib.ListN.{length, take, drop, length-set}
-use lib.Seq.{sets}
-use Rattle.packet.proofs.StoreLaws.{copy-step}
+use Rattle.card.proofs.CopyLaws.{within-block, moved-block, pairs-even, pairs-odd}
 
-abbrev Inv-loop : tie.InvT-loop
-Inv-loop src from dst₀ to n i₀ dst i =
-    (i ≤ n) × (length dst ≡ length dst₀)
-    × (sets dst₀ to (take n (drop from src)) ≡ sets dst (to + i) (take (n - i) (drop (from + i) src)))
+move-each-requires : tie.Need-move-each-requires
+move-each-requires c κs =
+    let b = c .before .before .before .before in
+    let p = rw (c .before .if1 .taken) at (b .pre) in
+    (omega arith, omega arith, within-block _ _ 4 _ (p .0), within-block _ _ 4 _ (p .1))
 
-abbrev μ-loop : tie.MeasureT-loop
-μ-loop src from dst₀ to n i₀ dst i = n - i
+move-each-requires-2 : tie.Need-move-each-requires-2
+move-each-requires-2 c κs =
+    let b = c .before .before .before .before in
+    let a = b .args in
+    let p = rw (c .before .if1 .left) at (b .pre) in
+    let from : a .from + a .count / 2 * 4 ≤ length (now (a .src)) = let h = p .0 in omega arith in
+    let to : a .to + a .count / 2 * 4 ≤ length (now (a .dst)) = let h = p .1 in omega arith in
+    (omega arith, omega arith, within-block _ _ 4 _ from, within-block _ _ 4 _ to)
 
-loop-holds : tie.Need-loop-holds Inv-loop μ-loop
-loop-holds c = (omega arith, refl, rw (add-zero (c .args .to), add-zero (c .args .from), sub-zero) refl)
+sub-last : tie.Need-sub-last
+sub-last c = search needs
 
-add-dst : tie.Need-add-dst Inv-loop μ-loop
-add-dst c = omega arith
+cast-last : tie.Need-cast-last
+cast-last c = search needs
 
-shared-slice-read-dst : tie.Need-shared-slice-read-dst Inv-loop μ-loop
-shared-slice-read-dst c = omega arith
+mul-last : tie.Need-mul-last
+mul-last c = search needs
 
-add-dst-2 : tie.Need-add-dst-2 Inv-loop μ-loop
-add-dst-2 c = omega arith
+add-move-element : tie.Need-add-move-element
+add-move-element c = search needs
 
-slice-write-dst : tie.Need-slice-write-dst Inv-loop μ-loop
-slice-write-dst c = omega arith
+add-move-element-2 : tie.Need-add-move-element-2
+add-move-element-2 c = search needs
 
-add-i : tie.Need-add-i Inv-loop μ-loop
-add-i c = omega arith
+move-element-requires : tie.Need-move-element-requires
+move-element-requires c κs =
+    let b = c .before .before .before .before .before .before .before .before .before in
+    let p = rw (c .before .before .before .before .before .before .if1 .left) at (b .pre) in
+    let from = p .0 in
+    let to = p .1 in
+    let odd = c .before .if2 .taken in
+    (omega arith, omega (arith, c .before .before .before .dst2 .given))
 
-loop-less : tie.Need-loop-less Inv-loop μ-loop
-loop-less c = omega arith
+same-length : tie.Need-same-length
+same-length c = search needs
 
-loop-again : tie.Need-loop-again Inv-loop μ-loop
-loop-again c = (omega arith, rw length-set (c .before .before .loop .inv .1), c .before .before .loop .inv .2 ∙ copy-step _ _ _ _ _ _ (c .before .loop-test .taken) (omega arith))
+returns : tie.Need-returns
+returns c =
+    let b = c .before .before .before .before .before .before .before in
+    let w = c .before .before .before .before .if1 .taken in
+    rw w (c .before .before .move-each .ensures ∙ moved-block _ 4 _ _ _ _ (rw w at (b .pre .0)))
 
-same-length : tie.Need-same-length Inv-loop μ-loop
-same-length c = c .before .loop .inv .1
+same-length-2 : tie.Need-same-length-2
+same-length-2 c = search needs
 
-returns : tie.Need-returns Inv-loop μ-loop
-returns c = let l = c .before .loop in let z : c .before .before .args .n - l .i ≡ 0 = omega arith in sym (rw z at (l .inv .2))
+returns-2 : tie.Need-returns-2
+returns-2 c =
+    let b = c .before .before .before .before .before .before .before .before .before .before .before .before in
+    let a = b .args in
+    let w = c .before .before .before .before .before .before .before .before .before .if1 .left in
+    let words = c .before .before .before .before .before .before .before .move-each2 .ensures in
+    let odd = c .before .before .before .before .if2 .taken in
+    rw w
+    ((rw words at (c .before .before .move-element .ensures))
+    ∙ pairs-odd (a .count) (now (a .src)) (a .from) (now (a .dst)) (a .to) (rw w at (b .pre .0)) odd)
+
+same-length-3 : tie.Need-same-length-3
+same-length-3 c = search needs
+
+returns-3 : tie.Need-returns-3
+returns-3 c =
+    let b = c .before .before .before .before .before .before .before .before in
+    let a = b .args in
+    let w = c .before .before .before .before .before .if1 .left in
+    rw w
+    (c .before .before .before .move-each2 .ensures
+    ∙ pairs-even (a .count) (now (a .src)) (a .from) (now (a .dst)) (a .to) (rw w at (b .pre .0)) (c .if2 .left))
 
 pub copy-spec : {M : Type 1} → statement M
 copy-spec =
     tie.close
     (tie.spec
-    Inv-loop
-    μ-loop
-    loop-holds
-    add-dst
-    shared-slice-read-dst
-    add-dst-2
-    slice-write-dst
-    add-i
-    loop-less
-    loop-again
+    move-each-requires
+    move-each-requires-2
+    sub-last
+    cast-last
+    mul-last
+    add-move-element
+    add-move-element-2
+    move-element-requires
     same-length
-    returns)
+    returns
+    same-length-2
+    returns-2
+    same-length-3
+    returns-3)

@@ -19,10 +19,21 @@ move-element-requires : tie.Need-move-element-requires Inv-loop μ-loop
 move-element-requires c κs = moving-now _ (c .before .before .loop .inv) (c .before .loop-test .taken)
 
 add-i : tie.Need-add-i Inv-loop μ-loop
-add-i c = let b = c .before .before .before .before in let l = b .before .loop .inv in let m = moving-now _ l (b .loop-test .taken) in let h = l .fs-le in omega (arith, c .before .before .before .before .before .before .before .before .good)
+add-i c =
+    let b = c .before .before .before .before in
+    let l = b .before .loop .inv in
+    let m = moving-now _ l (b .loop-test .taken) in
+    let h = l .fs-le in
+    omega (arith, b .before .before .before .before .good)
 
 add-j : tie.Need-add-j Inv-loop μ-loop
-add-j c = let b = c .before .before .before .before in let l = b .before .loop .inv in let m = moving-now _ l (b .loop-test .taken) in let h = l .ts-le in let k = l .kept in omega (arith, c .before .before .before .before .before .before .before .before .good)
+add-j c =
+    let b = c .before .before .before .before in
+    let l = b .before .loop .inv in
+    let m = moving-now _ l (b .loop-test .taken) in
+    let h = l .ts-le in
+    let k = l .kept in
+    omega (arith, b .before .before .before .before .good)
 
 sub-n : tie.Need-sub-n Inv-loop μ-loop
 sub-n c = omega arith
@@ -31,7 +42,9 @@ loop-less : tie.Need-loop-less Inv-loop μ-loop
 loop-less c = omega arith
 
 loop-again : tie.Need-loop-again Inv-loop μ-loop
-loop-again c = let b = c .before .before .before .before in moving-next _ (b .before .loop .inv) (b .loop-test .taken) _ (c .before .before .move-element .ensures)
+loop-again c =
+    let b = c .before .before .before .before in
+    moving-next _ (b .before .loop .inv) (b .loop-test .taken) _ (c .before .before .move-element .ensures)
 
 same-length : tie.Need-same-length Inv-loop μ-loop
 same-length c = c .before .loop .inv .kept
