@@ -1,0 +1,124 @@
+-- Laws of decimal numbers: the digits read back give the number, and no digit 0 stands in front.
+use Prim.Native.Nat.{ℕ, zero, suc, _+_, _-_, _*_, _/_, _%_, _^_, _≤_, _<_}
+use mathlib.Core.Path.{_≡_, refl, ap}
+use mathlib.Core.List.{List, [], _∷_, _++_}
+use mathlib.Core.Bool.{Bool, true, false, cond}
+use native.Mathlib.Omega.{arith}
+use native.Mathlib.Nat.{pow-succ'}
+use lib.ListN.{length, getD, length-append}
+use lib.Dec.{ltb}
+use borrow.Author.Tests.{ltb-true, ltb-false, lt-ltb, le-ltb}
+use Rattle.text.specs.Number.{digit, decimal, decimalFrom, hexDigit}
+
+-- more fuel changes nothing
+fuel-enough : (f g n : ℕ) → n ≤ f → n ≤ g → decimalFrom f n ≡ decimalFrom g n
+unfolding decimalFrom
+fuel-enough zero zero n h k = refl
+fuel-enough zero (suc g) n h k =
+    let z : n ≡ 0 = omega arith in rw z refl
+fuel-enough (suc f) zero n h k =
+    let z : n ≡ 0 = omega arith in rw z refl
+fuel-enough (suc f) (suc g) n h k = go (ltb n 10) refl (fuel-enough f g (n / 10))
+  where
+    last : List ℕ
+    last = digit (n % 10) ∷ []
+
+    go : (b : Bool) → ltb n 10 ≡ b → (n / 10 ≤ f → n / 10 ≤ g → decimalFrom f (n / 10) ≡ decimalFrom g (n / 10))
+        → cond b (digit n ∷ []) (decimalFrom f (n / 10) ++ last)
+        ≡ cond b (digit n ∷ []) (decimalFrom g (n / 10) ++ last)
+    go true e more = refl
+    go false e more = let l = ltb-false n 10 e in ap (λ (ds : List ℕ). ds ++ last) (more (omega arith) (omega arith))
+
+-- the digits one by one: a number below ten is one digit, and any other has its last digit behind the rest
+pub decimal-digit : (n : ℕ) → n < 10 → decimal n ≡ digit n ∷ []
+unfolding decimal decimalFrom
+decimal-digit zero h = refl
+decimal-digit (suc n) h = rw (lt-ltb (suc n) 10 h) refl
+
+pub decimal-more : (n : ℕ) → 10 ≤ n → decimal n ≡ decimal (n / 10) ++ (digit (n % 10) ∷ [])
+unfolding decimal decimalFrom
+decimal-more zero h = absurd (omega arith)
+decimal-more (suc n) h =
+    rw (le-ltb (suc n) 10 h, fuel-enough n (suc n / 10) (suc n / 10) (omega arith) (omega arith)) refl
+
+-- the same as the code comes to it, where a digit below ten is a hexadecimal one
+low-digit : (d : ℕ) → d < 10 → hexDigit d ≡ digit d
+unfolding hexDigit digit
+low-digit d h = rw (lt-ltb d 10 h) refl
+
+pub decimal-one : (n : ℕ) → n < 10 → hexDigit n ∷ [] ≡ decimal n
+decimal-one n h = rw (low-digit n h, decimal-digit n h) refl
+
+pub decimal-last : (n : ℕ) → 10 ≤ n → decimal (n / 10) ++ (hexDigit (n % 10) ∷ []) ≡ decimal n
+decimal-last n h = rw (low-digit (n % 10) (omega arith), decimal-more n h) refl
+
+-- What holds of one digit, and of a digit more behind, holds of every number's digits.
+module _ (P : ℕ → List ℕ → Type 0) (one : (n : ℕ) → n < 10 → P n (digit n ∷ []))
+    (more : (n : ℕ) (ds : List ℕ) → 10 ≤ n → P (n / 10) ds → P n (ds ++ (digit (n % 10) ∷ []))) where
+  all-below : (most n : ℕ) → n ≤ most → P n (decimal n)
+  all-below zero n h = rw (decimal-digit n (omega arith)) (one n (omega arith))
+  all-below (suc most) n h = go (ltb n 10) refl (all-below most (n / 10))
+    where
+      go : (b : Bool) → ltb n 10 ≡ b → (n / 10 ≤ most → P (n / 10) (decimal (n / 10))) → P n (decimal n)
+      go true e less = let l = ltb-true _ _ e in rw (decimal-digit n l) (one n l)
+      go false e less = let l = ltb-false _ _ e in rw (decimal-more n l) (more n _ l (less (omega arith)))
+
+  pub decimal-all : (n : ℕ) → P n (decimal n)
+  decimal-all n = all-below n n (omega arith)
+
+-- the number that digits make behind a number v
+unfoldable pub readFrom : ℕ → List ℕ → ℕ
+readFrom v [] = v
+readFrom v (d ∷ ds) = readFrom (10 * v + (d - digit 0)) ds
+
+read-append : (v : ℕ) (ds es : List ℕ) → readFrom v (ds ++ es) ≡ readFrom (readFrom v ds) es
+unfolding readFrom
+read-append v [] es = refl
+read-append v (d ∷ ds) es = read-append _ ds es
+
+-- The digits of a number, read back, give the number.
+pub decimal-reads : (n : ℕ) → readFrom 0 (decimal n) ≡ n
+unfolding readFrom digit
+decimal-reads =
+    decimal-all (λ n ds. readFrom 0 ds ≡ n) (λ n h. omega arith)
+    (λ n ds h e. rw (read-append 0 ds _, e) (omega arith))
+
+-- every byte is a digit
+unfoldable pub Digits : List ℕ → Type 0
+Digits [] = Unit {0}
+Digits (d ∷ ds) = (digit 0 ≤ d) × (d ≤ digit 9) × Digits ds
+
+digits-append : (ds es : List ℕ) → Digits ds → Digits es → Digits (ds ++ es)
+unfolding Digits
+digits-append [] es p q = q
+digits-append (d ∷ ds) es p q = (p .0, p .1, digits-append ds es (p .2) q)
+
+pub decimal-digits : (n : ℕ) → Digits (decimal n)
+unfolding Digits digit
+decimal-digits =
+    decimal-all (λ n ds. Digits ds) (λ n h. (omega arith, omega arith, tt))
+    (λ n ds h p. digits-append ds (digit (n % 10) ∷ []) p (omega arith, omega arith, tt))
+
+-- a number below 10 ^ k has at most k digits, where k is not 0
+pub decimal-length : (k n : ℕ) → n < 10 ^ suc k → length (decimal n) ≤ suc k
+decimal-length zero n h = rw (decimal-digit n (omega arith)) (omega arith)
+decimal-length (suc k) n h = go (ltb n 10) refl (decimal-length k (n / 10))
+  where
+    go : (b : Bool) → ltb n 10 ≡ b → (n / 10 < 10 ^ suc k → length (decimal (n / 10)) ≤ suc k)
+        → length (decimal n) ≤ suc (suc k)
+    go true e less = rw (decimal-digit n (ltb-true n 10 e)) (omega arith)
+    go false e less =
+        let p : n < 10 * 10 ^ suc k = rw pow-succ' at h in
+        let l = less (omega arith) in
+        rw (decimal-more n (ltb-false n 10 e), length-append) (omega arith)
+
+first-append : (d : ℕ) (ds es : List ℕ) → 1 ≤ d → d ≤ getD ds 0 0 → d ≤ getD (ds ++ es) 0 0
+first-append d [] es p h = absurd (omega arith)
+first-append d (e ∷ ds) es p h = h
+
+-- The first digit is 0 only where the number is.
+pub decimal-first : (n : ℕ) → 1 ≤ n → digit 1 ≤ getD (decimal n) 0 0
+unfolding digit
+decimal-first =
+    decimal-all (λ n ds. 1 ≤ n → digit 1 ≤ getD ds 0 0) (λ n h p. omega arith)
+    (λ n ds h first p. first-append 49 ds _ (omega arith) (first (omega arith)))

@@ -1,0 +1,4 @@
+pub mod Number
+pub mod Room
+pub mod Line
+pub mod Find

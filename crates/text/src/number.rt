@@ -1,0 +1,86 @@
+// Numbers and bytes as text.
+use crate::least;
+use crate::put;
+ghost use mathlib.Core.Path.{_≡_};
+ghost use mathlib.Core.List.{[], _∷_};
+ghost use Prim.Native.Nat.{_/_, _%_, _^_, _<_};
+ghost use Rattle.text.specs.Number.{decimal, signedDecimal, hexDigit, hexadecimal, hexBytes};
+ghost use Rattle.text.specs.Room.{filled, putAt};
+
+// A digit's code: 0 to 9, and A to F.
+fn code(d: u8) -> u8
+    requires { ⌜ d < 16 ⌝ }
+    ensures { λ r. ⌜ r ≡ hexDigit d ⌝ }
+{
+    if d < 10 { 48 + d } else { 55 + d }
+}
+
+fn digit(out: &mut [u8], at: usize, d: u8) -> usize
+    requires { ⌜ d < 16 ⌝ }
+    ensures { λ r. ⌜ filled r (now (out .exit)) ≡ putAt (hexDigit d ∷ []) at (now (out .entry)) ⌝ }
+{
+    put(out, at, &[code(d)])
+}
+
+pub fn decimal(out: &mut [u8], at: usize, n: u64) -> usize
+    ensures { λ r. ⌜ filled r (now (out .exit)) ≡ putAt (decimal n) at (now (out .entry)) ⌝ }
+{
+    if n < 10 {
+        return digit(out, at, n as u8);
+    }
+    let next = decimal(out, at, n / 10);
+    digit(out, next, (n % 10) as u8)
+}
+
+// The number that 64 bits mean as two's complement.
+pub fn signed(out: &mut [u8], at: usize, n: u64) -> usize
+    ensures { λ r. ⌜ filled r (now (out .exit)) ≡ putAt (signedDecimal n) at (now (out .entry)) ⌝ }
+{
+    if n < 9223372036854775808 {
+        return decimal(out, at, n);
+    }
+    let next = put(out, at, b"-");
+    decimal(out, next, 18446744073709551615 - n + 1)
+}
+
+// The value of a hexadecimal digit, counted from the last.
+fn digit_at(n: u64, k: usize) -> u8
+    ensures { λ r. ⌜ r ≡ n / 16 ^ k % 16 ⌝ }
+{
+    if 15 < k {
+        return 0;
+    }
+    ((n >> (4 * k)) % 16) as u8
+}
+
+// A number's last digits, so many.
+pub fn hex(out: &mut [u8], at: usize, digits: usize, n: u64) -> usize
+    ensures { λ r. ⌜ filled r (now (out .exit)) ≡ putAt (hexadecimal digits n) at (now (out .entry)) ⌝ }
+{
+    let mut next = least(at, out.len());
+    let mut k = digits;
+    while 0 < k {
+        k -= 1;
+        next = digit(out, next, digit_at(n, k));
+    }
+    next
+}
+
+// A byte as two digits, behind a space.
+pub fn byte(out: &mut [u8], at: usize, b: u8) -> usize
+    ensures { λ r. ⌜ filled r (now (out .exit)) ≡ putAt (hexBytes (b ∷ [])) at (now (out .entry)) ⌝ }
+{
+    put(out, at, &[b' ', code(b / 16), code(b % 16)])
+}
+
+pub fn bytes(out: &mut [u8], at: usize, s: &[u8]) -> usize
+    ensures { λ r. ⌜ filled r (now (out .exit)) ≡ putAt (hexBytes (now (s .entry))) at (now (out .entry)) ⌝ }
+{
+    let mut next = least(at, out.len());
+    let mut i: usize = 0;
+    while i < s.len() {
+        next = byte(out, next, s[i]);
+        i += 1;
+    }
+    next
+}
