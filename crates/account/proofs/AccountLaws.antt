@@ -9,18 +9,20 @@ use lib.ListN.{length, take, drop, length-append}
 use lib.Seq.{sets, sets-eq, length-sets, take-at}
 use lib.Dec.{ltb}
 use borrow.Author.Tests.{lt-ltb, le-ltb}
-use Rattle.packet.proofs.StoreLaws.{sets-append}
-use Rattle.report.specs.Line.{Filled, textPut}
-use Rattle.report.specs.Text.{ascii, decimal, pairLine}
-use Rattle.report.proofs.TextLaws.{decimal-length}
+use Rattle.text.specs.Number.{ascii}
+use Rattle.text.specs.Room.{Filled, filled, putAt}
+use Rattle.text.specs.Line.{tooLongLine}
+use Rattle.text.proofs.RoomLaws.{put-then}
 use Rattle.salvage.specs.Salvage.{Salvaged, salvaged, scan, counted, keptCount, output, logged, entries}
 use Rattle.salvage.specs.declared.scan.Counts.{Counts}
 use Rattle.salvage.proofs.LoopLaws.{log-length}
 use Rattle.salvage.proofs.SalvageLaws.{both-fit, whole}
-use Rattle.salvage.proofs.EntryLaws.{few-entries, spaced, spaced-wider, output-length, records-few}
-use Rattle.account.specs.Account.{answered, lineOnly, fixed, accounted, accountOf, keptLine, linesOf, usageLine, tooLongLine, Said, mostBytes, mostRead}
+use Rattle.salvage.proofs.EntryLaws.{Spaced, few-entries, spaced, spaced-wider, output-length, records-few}
+use Rattle.account.specs.Account.{answered, lineOnly, fixed, accounted, accountOf, keptLine, linesOf, usageLine, Said}
+use Rattle.account.specs.Account.{mostBytes, mostRead}
 use Rattle.account.specs.declared.Request.{Request}
-use Rattle.account.specs.Inside.{Readable, Lined, Taken}
+use Rattle.account.specs.Inside.{Taken}
+use Rattle.account.proofs.LineLaws.{lines-length, kept-length}
 
 -- a text at a room's front
 front-is : (text room : List ℕ) → length text ≤ length room → sets room 0 text ≡ text ++ drop (length text) room
@@ -29,14 +31,19 @@ front-is text room h = sets-eq text room 0 (omega arith) ∙ rw zero-add refl
 front-reads : (text room : List ℕ) → length text ≤ length room → take (length text) (sets room 0 text) ≡ text
 front-reads text room h = rw (front-is text room h) (take-at text _ (length text) refl)
 
--- a text and behind it another are one
-two-lines : {a b room room₁ room₂ : List ℕ} {at n : ℕ} → Lined a 0 room room₁ at → Lined b at room₁ room₂ n
-    → Lined (a ++ b) 0 room room₂ n
-two-lines {a} {b} {room} p q =
-    record {
-      behind = rw length-append (omega (arith, p .behind, q .behind));
-      written = q .written ∙ rw (p .written, p .behind) (sets-append room 0 a b);
-    }
+-- a text put there: its length, and the room after it
+module _ (text room : List ℕ) {room₁ : List ℕ} {n : ℕ} (fits : length text ≤ length room)
+    (p : filled n room₁ ≡ putAt text 0 room) where
+  put-count : n ≡ length text
+  unfolding putAt
+  put-count = ap (λ (x : Filled). x .next) p ∙ omega arith
+
+  put-room : room₁ ≡ sets room 0 text
+  unfolding putAt
+  put-room = ap (λ (x : Filled). x .room) p
+
+  put-taken : take n room₁ ≡ text
+  put-taken = rw (put-count, put-room) (front-reads text room fits)
 
 module _ (list room log : List ℕ) (t : Taken list room log) where
   log-numbers : length (logged list) ≡ 2 * entries list
@@ -94,58 +101,38 @@ module _ (list room log : List ℕ) (t : Taken list room log) where
     room-length : length room₁ ≡ length room
     room-length = ap length room-is ∙ length-sets room 0 (output list)
 
-    pub readable : Readable room₁ (take (2 * c .entries) log₁)
-    readable =
-        rw entries-read
-        (record {
-          from = 0;
-          entries = spaced-wider (length list) mostBytes (t .few) (spaced list);
-          fits = omega (arith, log-numbers, few-entries list, t .few, t .wide, room-length);
-        })
+    log-spaced : Spaced mostBytes 0 (logged list)
+    log-spaced = spaced-wider (length list) mostBytes (t .few) (spaced list)
 
-    kept-length : length (keptLine (c .records) (c .bytes)) ≤ 36
-    unfolding keptLine pairLine ascii
-    kept-length =
-        let few = output-length list in
-        let a = decimal-length 6 (c .records) (omega (arith, records-is, records-few list, t .few)) in
-        let b = decimal-length 6 (c .bytes) (omega (arith, bytes-is, t .few)) in
-        simp length-append (omega arith)
+    account-fits : length (accountOf list) ≤ length room₁
+    unfolding accountOf
+    account-fits =
+        let kept = kept-length (keptCount (scan list)) (length (output list))
+        (omega (arith, records-few list, output-length list, t .few)) (omega (arith, output-length list, t .few)) in
+        let lines = lines-length log-spaced in
+        rw length-append (omega (arith, log-numbers, few-entries list, t .few, t .wide, room-length))
 
-    pub account-said : (room₂ room₃ : List ℕ) (at n : ℕ) → Lined (linesOf (take (2 * c .entries) log₁)) 0 room₁ room₂ at
-        → at + 105 ≤ length room₁ → Lined (keptLine (c .records) (c .bytes)) at room₂ room₃ n
-        → Said (accounted list room log) room₃ log₁ n
+    pub account-said : {room₂ room₃ : List ℕ} {at n : ℕ}
+        → filled at room₂ ≡ putAt (linesOf (take (2 * c .entries) log₁)) 0 room₁
+        → filled n room₃ ≡ putAt (keptLine (c .records) (c .bytes)) at room₂ → Said (accounted list room log) room₃ log₁ n
     unfolding accounted accountOf
-    account-said room₂ room₃ at n p h q =
-        let k = kept-length in
-        let a : Lined (linesOf (logged list)) 0 room₁ room₂ at = rw entries-read at p in
-        let b : Lined (keptLine (keptCount (scan list)) (length (output list))) at room₂ room₃ n = rw (records-is, bytes-is) at q in
-        let w = two-lines a b in
-        let m : n ≡ length (accountOf list) = w .behind ∙ zero-add _ in
-        let fits : length (accountOf list) ≤ length room₁ = omega (arith, q .behind) in
+    account-said {room₂} {room₃} {at} {n} p q =
+        let w : filled n room₃ ≡ putAt (accountOf list) 0 room₁ =
+        put-then _ _ 0 room₁ (rw entries-read at p) (rw (records-is, bytes-is) at q) in
         record {
-          count = m;
-          front = rw (m, w .written) (front-reads (accountOf list) room₁ fits);
-          room-left = w .written ∙ ap (λ (x : List ℕ). sets x 0 (accountOf list)) room-is;
+          count = put-count (accountOf list) room₁ account-fits w;
+          front = put-taken (accountOf list) room₁ account-fits w;
+          room-left = put-room (accountOf list) room₁ account-fits w
+              ∙ ap (λ (x : List ℕ). sets x 0 (accountOf list)) room-is;
           log-left = log-is;
         }
 
--- a text put at the front of a room that has room for it
-pub text-lined : (text room room₁ : List ℕ) (n : ℕ) → length text ≤ length room
-    → (n ≡ textPut text 0 room .next) × (room₁ ≡ textPut text 0 room .room) → Lined text 0 room room₁ n
-unfolding textPut
-text-lined text room room₁ n h e =
-    let f : ltb (length room) (0 + length text) ≡ false = le-ltb (length room) (0 + length text) (omega arith) in
-    let p : n ≡ 0 + length text = e .0 ∙ rw f refl in
-    let q : room₁ ≡ sets room 0 text = e .1 ∙ rw f refl in
-    record { behind = p; written = q }
-
 -- a line alone
-line-said : (line room room₁ log : List ℕ) (n : ℕ) → length line ≤ length room → Lined line 0 room room₁ n
+line-said : (line room room₁ log : List ℕ) (n : ℕ) → length line ≤ length room → filled n room₁ ≡ putAt line 0 room
     → Said (lineOnly line room log) room₁ log n
 unfolding lineOnly
-line-said line room room₁ log n h l =
-    let m : n ≡ length line = l .behind ∙ zero-add _ in
-    record { count = m; front = rw (m, l .written) (front-reads line room h); room-left = l .written; log-left = refl }
+line-said line room room₁ log n h p =
+    record { count = put-count line room h p; front = put-taken line room h p; room-left = put-room line room h p; log-left = refl }
 
 pub list-not-usage : (w : Request) → w ≡ Request.List → w ≡ Request.Usage → ⊥
 list-not-usage w e f = let z : _≡_ {A = ℕ} 0 1 = cc in omega arith
@@ -155,11 +142,11 @@ log-not-usage w e f = let z : _≡_ {A = ℕ} 0 1 = cc in omega arith
 
 -- what is asked for decides
 module _ (w : Request) (list room log room₁ : List ℕ) (n : ℕ) (size : 64 ≤ length room) where
-  pub usage-said : w ≡ Request.Usage → Lined usageLine 0 room room₁ n → Said (answered w list room log) room₁ log n
+  pub usage-said : w ≡ Request.Usage → filled n room₁ ≡ putAt usageLine 0 room → Said (answered w list room log) room₁ log n
   unfolding answered usageLine ascii
   usage-said e l = rw e (line-said usageLine room room₁ log n (omega arith) l)
 
-  pub too-long-said : (w ≡ Request.Usage → ⊥) → mostBytes < length list → Lined tooLongLine 0 room room₁ n
+  pub too-long-said : (w ≡ Request.Usage → ⊥) → mostBytes < length list → filled n room₁ ≡ putAt tooLongLine 0 room
       → Said (answered w list room log) room₁ log n
   unfolding answered tooLongLine ascii
   too-long-said e h l = go w e

@@ -6,7 +6,8 @@ use mathlib.Core.Bool.{Bool, _&&_, cond}
 use lib.ListN.{length, getD, take}
 use lib.Seq.{sets}
 use lib.Dec.{eqb, ltb}
-use Rattle.report.specs.Text.{ascii, pairLine}
+use Rattle.text.specs.Number.{ascii}
+use Rattle.text.specs.Line.{pairLine, tooLongLine}
 use Rattle.salvage.specs.Salvage.{scan, keptCount, output, logged}
 use Rattle.account.specs.declared.Request.{Request}
 
@@ -23,9 +24,6 @@ logNumbers = 285716
 
 unfoldable pub usageLine : List ℕ
 usageLine = ascii "usage: cuefix [--log] < LIST\n"
-
-unfoldable pub tooLongLine : List ℕ
-tooLongLine = ascii "too long\n"
 
 -- one line for each stretch skipped
 unfoldable pub skippedLine : ℕ → ℕ → List ℕ

@@ -1,14 +1,12 @@
 // What the salvaging program writes: a playable list, or an account of what was skipped.
-use report::line;
 use salvage::scan;
+use text::line;
 
 mod lines;
 
 ghost use mathlib.Core.Path.{_≡_};
-ghost use Prim.Native.Nat.{_≤_};
-ghost use lib.ListN.{length};
-ghost use Rattle.account.specs.Account.{answered, fixed, accounted, Said, isLog, requested, mostRead, usageLine, tooLongLine};
-ghost use Rattle.account.specs.Inside.{Taken, Lined};
+ghost use Rattle.account.specs.Account.{answered, fixed, accounted, Said, isLog, requested, mostRead};
+ghost use Rattle.account.specs.Inside.{Taken};
 
 // The most bytes that a list may have.
 const MOST: usize = 1000000;
@@ -79,20 +77,6 @@ fn put_account(input: &[u8], room: &mut [u8], log: &mut [u64]) -> usize
     lines::put_kept(room, at, counts.records as u64, counts.bytes as u64)
 }
 
-fn put_usage(room: &mut [u8]) -> usize
-    requires { ⌜ 64 ≤ length (now room) ⌝ }
-    ensures { λ r. ⌜ Lined usageLine 0 (now (room .entry)) (now (room .exit)) r ⌝ }
-{
-    line::text(room, 0, b"usage: cuefix [--log] < LIST\n")
-}
-
-fn put_too_long(room: &mut [u8]) -> usize
-    requires { ⌜ 64 ≤ length (now room) ⌝ }
-    ensures { λ r. ⌜ Lined tooLongLine 0 (now (room .entry)) (now (room .exit)) r ⌝ }
-{
-    line::text(room, 0, b"too long\n")
-}
-
 // The bytes to write stand at the front of the room; how many they are is answered.
 pub fn answer(
     request: Request,
@@ -103,16 +87,16 @@ pub fn answer(
     ensures { λ r. ⌜ Said (answered request (now (input .entry)) (now (room .entry)) (now (log .entry))) (now (room .exit)) (now (log .exit)) r ⌝ }
 {
     match request {
-        Request::Usage => put_usage(room),
+        Request::Usage => text::put(room, 0, b"usage: cuefix [--log] < LIST\n"),
         Request::List => {
             if MOST < input.len() {
-                return put_too_long(room);
+                return line::too_long(room, 0);
             }
             put_list(input, room, log)
         }
         Request::Log => {
             if MOST < input.len() {
-                return put_too_long(room);
+                return line::too_long(room, 0);
             }
             put_account(input, room, log)
         }
