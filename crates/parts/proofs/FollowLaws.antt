@@ -158,7 +158,7 @@ module _ (list : List ℕ) (at : ℕ) (state out : List ℕ) (s : State Opened) 
         go (yes l) = rw (le-ltb (length room) frameRoom l) (wide-next l)
         go (no l) = let l₂ : length room < frameRoom = omega arith in rw (lt-ltb (length room) frameRoom l₂) (narrow-next l₂)
 
-    -- what the call answers, where the list is good
+    -- what the call answers
     module _ (wide : frameRoom ≤ length room) where
       answer-is : partOf state part last room .answer ≡ answered (c .left)
       answer-is = as-rule wide .answer

@@ -115,49 +115,43 @@ unfolding recordsHeld countHeld
 held-count [] = refl
 held-count (cs ∷ css) = rw (length-append, packet-count cs, held-count css) refl
 
--- The first packets of some records are the packets of the first of them.
-record FrontFrom (o : Open) (xs : List Step) (css : List (List Command)) : Type 0 where
+-- The first packets of some records are the packets of the first of them, however these are packed.
+record FrontBy (pack : List Step → List (List Command)) (xs : List Step) (css : List (List Command)) : Type 0 where
   ys : List Step
   zs : List Step
   parts : xs ≡ ys ++ zs
-  packed : packFrom o ys ≡ css
+  packed : pack ys ≡ css
 
 front-from : (o : Open) (xs : List Step) (cs : List Command) (css dss : List (List Command)) → packFrom o xs ≡ cs ∷ (css ++ dss)
-    → FrontFrom o xs (cs ∷ css)
+    → FrontBy (packFrom o) xs (cs ∷ css)
 unfolding packFrom
 front-from o [] cs [] dss e = record { ys = []; zs = []; parts = refl; packed = cc }
 front-from o [] cs (ds ∷ css) dss e = let z : _≡_ {A = ℕ} 0 1 = cc in absurd (omega arith)
 front-from o (x ∷ xs) cs css dss e =
-    turn-cases o x (λ t. turn o x ≡ t → FrontFrom o (x ∷ xs) (cs ∷ css)) (λ _ t. still _ t (front-from _ xs cs css dss))
+    turn-cases o x (λ t. turn o x ≡ t → FrontBy (packFrom o) (x ∷ xs) (cs ∷ css)) (λ _ t. still _ t (front-from _ xs cs css dss))
     (λ _ t. still _ t (front-from _ xs cs css dss)) (λ t. closing t css (rw t at e) (λ ds css. front-from _ xs ds css dss)) refl
   where
-    behind : (p : Open) (css : List (List Command)) (f : FrontFrom p xs css) (all : List (List Command))
-        → turn o x .closed ++ packFrom (turn o x .open?) (f .ys) ≡ all → FrontFrom o (x ∷ xs) all
+    behind : (p : Open) (css : List (List Command)) (f : FrontBy (packFrom p) xs css) (all : List (List Command))
+        → turn o x .closed ++ packFrom (turn o x .open?) (f .ys) ≡ all → FrontBy (packFrom o) (x ∷ xs) all
     behind p css f all q =
         record { ys = x ∷ f .ys; zs = f .zs; parts = ap (λ (l : List Step). x ∷ l) (f .parts); packed = q }
 
     still : (p : Open) → turn o x ≡ record { closed = []; open? = p }
-        → (packFrom p xs ≡ cs ∷ (css ++ dss) → FrontFrom p xs (cs ∷ css)) → FrontFrom o (x ∷ xs) (cs ∷ css)
+        → (packFrom p xs ≡ cs ∷ (css ++ dss) → FrontBy (packFrom p) xs (cs ∷ css)) → FrontBy (packFrom o) (x ∷ xs) (cs ∷ css)
     still p t more = let f = more (rw t at e) in behind p (cs ∷ css) f (cs ∷ css) (rw t (f .packed))
 
     closing : turn o x ≡ record { closed = commandsOf o ∷ []; open? = started [] x } → (css : List (List Command))
         → commandsOf o ∷ packFrom (started [] x) xs ≡ cs ∷ (css ++ dss)
         → ((ds : List Command) (css : List (List Command)) → packFrom (started [] x) xs ≡ ds ∷ (css ++ dss)
-        → FrontFrom (started [] x) xs (ds ∷ css))
-        → FrontFrom o (x ∷ xs) (cs ∷ css)
+        → FrontBy (packFrom (started [] x)) xs (ds ∷ css))
+        → FrontBy (packFrom o) (x ∷ xs) (cs ∷ css)
     closing t [] e more = record { ys = []; zs = x ∷ xs; parts = refl; packed = cc }
     closing t (ds ∷ css) e more =
         let c : commandsOf o ≡ cs = cc in
         let f = more ds css (cc) in
         behind (started [] x) (ds ∷ css) f (cs ∷ (ds ∷ css)) (rw (t, f .packed, c) refl)
 
-record FrontOf (xs : List Step) (css : List (List Command)) : Type 0 where
-  ys : List Step
-  zs : List Step
-  parts : xs ≡ ys ++ zs
-  packed : packets ys ≡ css
-
-front-of : (xs : List Step) (css dss : List (List Command)) → packets xs ≡ css ++ dss → FrontOf xs css
+front-of : (xs : List Step) (css dss : List (List Command)) → packets xs ≡ css ++ dss → FrontBy packets xs css
 unfolding packets
 front-of xs [] dss e = record { ys = []; zs = xs; parts = refl; packed = refl }
 front-of [] (cs ∷ css) dss e = let z : _≡_ {A = ℕ} 0 1 = cc in absurd (omega arith)
