@@ -68,8 +68,8 @@ unfolding Space.spaceOf Space.spaceNumber Space.isAbsent Space.row Space.infoRow
     Packing.commandFields Packing.joinAll Packing.commandBytes Packing.packetBytes Packing.elementSteps
     Packing.commandSteps Packing.packetSteps Packing.unlockCommand Packing.keepsLimits Packing.commandsOf
     Packing.sameKind Packing.joined Packing.joins Packing.needsUnlock Packing.started Packing.turnBy Packing.turn
-    Packing.packFrom Packing.packets Output.framed Output.outputOf Output.withPart Output.lengthAt Output.frontOf
-    Output.partBytes Output.behindPart Output.withFront Output.apartFrom Output.apart Compile.packed Compile.output
+    Packing.packFrom Packing.packets Output.framed Output.outputOf Output.withFrame Output.lengthAt Output.frontOf
+    Output.framedBytes Output.behindFrame Output.withFront Output.apartFrom Output.apart Compile.packed Compile.output
     Compile.compiledTo Compile.compiled Spi.headerOf Examples.shownFields Examples.shownHeader Examples.shownAnswer
     Examples.word Examples.header Examples.packet Examples.list
 all = true

@@ -6,6 +6,7 @@ pub mod OwnBytesLaws
 pub mod PacketLaws
 pub mod PackingLaws
 pub mod OutputLaws
+pub mod FrameLaws
 pub mod ReadBack
 pub mod RunAll
 pub mod CompileLaws

@@ -11,8 +11,8 @@ use Rattle.packet.specs.Step.{Step}
 use Rattle.packet.proofs.StepLaws.{carried-le}
 use Rattle.cue.specs.Records.{records, recordsOf, recordBytes}
 use Rattle.cue.specs.Packing.{Command, joinAll, packetBytes, Open, commandsOf, joined, started, packFrom, packets}
-use Rattle.cue.specs.Output.{packetMark, framed, outputOf, parts, withPart, lengthAt, frontOf, partBytes, behindPart, withFront, apartFrom, apart}
-use Rattle.cue.specs.Output.{part}
+use Rattle.cue.specs.Output.{packetMark, framed, outputOf, parts, withFrame, lengthAt, Front, frontOf, framedBytes}
+use Rattle.cue.specs.Output.{behindFrame, withFront, apartFrom, apart}
 use Rattle.cue.specs.Compile.{packed, output}
 use Rattle.cue.proofs.Relations.{Good}
 use Rattle.cue.proofs.RecordLaws.{listBytes, records-good, list-bytes}
@@ -24,9 +24,9 @@ pub data Short : List (List ℕ) → Type 0 where
   none : Short []
   more : {p : List ℕ} {ps : List (List ℕ)} → length p < 65536 → Short ps → Short (p ∷ ps)
 
--- a whole part at the front
+-- a whole frame at the front
 pub front-whole : (rest : List ℕ) → number (take 2 rest) ≡ packetMark → 4 + lengthAt rest ≤ length rest
-    → frontOf rest ≡ part (lengthAt rest)
+    → frontOf rest ≡ Front.frame (lengthAt rest)
 unfolding frontOf
 front-whole rest mark whole =
     rw (
@@ -52,26 +52,26 @@ module _ (p tail : List ℕ) (h : length p < 65536) where
   unfolding framed number bytesOf
   framed-mark = refl
 
-  pub framed-front : frontOf (framed p ++ tail) ≡ part (length p)
+  pub framed-front : frontOf (framed p ++ tail) ≡ Front.frame (length p)
   framed-front =
       rw framed-length at (front-whole (framed p ++ tail) framed-mark (rw framed-length (rw framed-bytes (omega arith))))
 
-  pub framed-part : partBytes (length p) (framed p ++ tail) ≡ p
-  unfolding partBytes framed bytesOf
+  pub framed-part : framedBytes (length p) (framed p ++ tail) ≡ p
+  unfolding framedBytes framed bytesOf
   framed-part = take-append-seam p tail
 
-  pub framed-behind : behindPart (length p) (framed p ++ tail) ≡ tail
-  unfolding behindPart framed bytesOf
+  pub framed-behind : behindFrame (length p) (framed p ++ tail) ≡ tail
+  unfolding behindFrame framed bytesOf
   framed-behind =
       let frame = bytesOf 2 packetMark ++ bytesOf 2 (length p) in
       drop-append-add frame (p ++ tail) (length p) ∙ drop-append-seam p tail
 
-  framed-apart : (fuel : ℕ) → apartFrom (suc fuel) (framed p ++ tail) ≡ withPart p (apartFrom fuel tail)
+  framed-apart : (fuel : ℕ) → apartFrom (suc fuel) (framed p ++ tail) ≡ withFrame p (apartFrom fuel tail)
   unfolding apartFrom withFront
   framed-apart fuel = rw (framed-front, framed-length, framed-part, framed-behind) refl
 
 apart-from : (fuel : ℕ) {ps : List (List ℕ)} → Short ps → length (outputOf ps) ≤ fuel → apartFrom fuel (outputOf ps) ≡ parts ps
-unfolding outputOf withPart apartFrom withFront frontOf
+unfolding outputOf withFrame apartFrom withFront frontOf
 apart-from zero Short.none h = refl
 apart-from (suc fuel) Short.none h = refl
 apart-from zero (Short.more {p} {ps} b s) h = absurd (omega (arith, framed-bytes p (outputOf ps)))

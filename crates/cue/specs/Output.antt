@@ -1,10 +1,11 @@
--- The output: each packet behind the mark "LB" and its length. Taking an output apart again.
+-- The output: frames, each the mark "LB", a length and a packet. Taking an output apart again.
 use Prim.Native.Nat.{ℕ, zero, suc, _+_}
 use mathlib.Core.List.{List, [], _∷_, _++_}
 use mathlib.Core.Bool.{cond}
 use lib.ListN.{length, take, drop}
 use lib.Dec.{eqb, ltb}
 use Rattle.packet.specs.Bytes.{number, bytesOf}
+use Rattle.cue.specs.declared.frame.Frame.{Frame}
 
 -- "LB", as a number low byte first
 abbrev pub packetMark : ℕ
@@ -22,45 +23,52 @@ pub data Apart : Type 0 where
   unsound : Apart
   parts : List (List ℕ) → Apart
 
-unfoldable pub withPart : List ℕ → Apart → Apart
-withPart p unsound = unsound
-withPart p (parts ps) = parts (p ∷ ps)
+unfoldable pub withFrame : List ℕ → Apart → Apart
+withFrame p unsound = unsound
+withFrame p (parts ps) = parts (p ∷ ps)
 
 unfoldable pub lengthAt : List ℕ → ℕ
 lengthAt rest = number (take 2 (drop 2 rest))
 
--- What stands at the front of the bytes left: nothing, a part that is cut, bytes without the mark, or a whole part of so many
--- bytes behind its mark and length. One byte left is cut.
+-- What stands at the front of the bytes left: nothing, a frame that is cut, bytes without the mark, or a whole frame with so
+-- many bytes behind its mark and length. One byte left is cut.
 pub data Front : Type 0 where
   end : Front
   cut : Front
   unmarked : Front
-  part : ℕ → Front
+  frame : ℕ → Front
 
 unfoldable pub frontOf : List ℕ → Front
 frontOf rest =
     cond (eqb (length rest) 0) end
     (cond (ltb (length rest) 2) cut
     (cond (eqb (number (take 2 rest)) packetMark)
-    (cond (ltb (length rest) (4 + lengthAt rest)) cut (part (lengthAt rest)))
+    (cond (ltb (length rest) (4 + lengthAt rest)) cut (frame (lengthAt rest)))
     unmarked))
 
--- the bytes of the part at the front, if it has n, and those behind it
-unfoldable pub partBytes : ℕ → List ℕ → List ℕ
-partBytes n rest = take n (drop 4 rest)
+-- the bytes in the frame at the front, if it has n, and those behind it
+unfoldable pub framedBytes : ℕ → List ℕ → List ℕ
+framedBytes n rest = take n (drop 4 rest)
 
-unfoldable pub behindPart : ℕ → List ℕ → List ℕ
-behindPart n rest = drop (4 + n) rest
+unfoldable pub behindFrame : ℕ → List ℕ → List ℕ
+behindFrame n rest = drop (4 + n) rest
 
 unfoldable pub withFront : Front → List ℕ → Apart → Apart
 withFront end rest others = parts []
 withFront cut rest others = unsound
 withFront unmarked rest others = unsound
-withFront (part n) rest others = withPart (partBytes n rest) others
+withFront (frame n) rest others = withFrame (framedBytes n rest) others
 
 unfoldable pub apartFrom : ℕ → List ℕ → Apart
 apartFrom zero rest = parts []
-apartFrom (suc fuel) rest = withFront (frontOf rest) rest (apartFrom fuel (behindPart (lengthAt rest) rest))
+apartFrom (suc fuel) rest = withFront (frontOf rest) rest (apartFrom fuel (behindFrame (lengthAt rest) rest))
 
 unfoldable pub apart : List ℕ → Apart
 apart output = apartFrom (length output) output
+
+-- what the code finds at the front, for each case
+abbrev pub frameListed : Frame → Front
+frameListed Frame.End = end
+frameListed Frame.Cut = cut
+frameListed Frame.Unmarked = unmarked
+frameListed (Frame.Whole n) = frame n

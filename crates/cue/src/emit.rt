@@ -1,4 +1,5 @@
 // The second pass: the packets of a good list are written, record by record.
+use crate::frame::MARK;
 use crate::packer;
 use crate::packer::Packer;
 use crate::records;
@@ -17,8 +18,6 @@ ghost use Rattle.packet.specs.Bytes.{bytesOf};
 ghost use Rattle.cue.specs.Records.{recordsOf};
 ghost use Rattle.cue.specs.Inside.{planned, roomAfter, Placed, Ready};
 ghost use Rattle.cue.specs.Summary.{Progress, lastFields, framedAt, unlockedAt, headedAt, wrote};
-
-const MARK: u16 = 0x424C;
 
 // Two bytes, low byte first.
 fn put2(out: &mut [u8], at: usize, value: u16)

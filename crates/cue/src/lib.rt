@@ -3,6 +3,7 @@
 use lbp16::Refusal;
 
 mod emit;
+pub mod frame;
 pub mod guarded;
 pub mod packer;
 pub mod plan;

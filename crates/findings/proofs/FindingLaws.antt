@@ -9,11 +9,11 @@ use borrow.Author.Tests.{lt-ltb, le-ltb}
 use Rattle.lbp16.specs.Pointer.{fresh}
 use Rattle.lbp16.specs.declared.pointer.Pointers.{Pointers}
 use Rattle.packet.proofs.SliceLaws.{tail-whole}
-use Rattle.cue.specs.Output.{Front, frontOf}
-use Rattle.recording.specs.Recording.{partListed, verdictListed, left, judgedIn}
-use Rattle.recording.specs.declared.part.Part.{Part}
+use Rattle.cue.specs.Output.{Front, frontOf, frameListed}
+use Rattle.recording.specs.Recording.{verdictListed, left, judgedIn}
+use Rattle.cue.specs.declared.frame.Frame.{Frame}
 use Rattle.recording.specs.declared.Judged.{Judged}
-use Rattle.recording.proofs.PartLaws.{front-within}
+use Rattle.cue.proofs.FrameLaws.{front-within}
 use Rattle.report.specs.Text.{ascii, decimal}
 use Rattle.report.specs.Line.{textPut}
 use Rattle.report.specs.Inside.{Put}
@@ -22,7 +22,7 @@ use Rattle.report.proofs.ReportLaws.{line-left}
 use Rattle.report.proofs.TextLaws.{decimal-length}
 use Rattle.report.proofs.LineLaws.{put-both, put-length, text-put}
 use Rattle.findings.specs.Hex.{hexLine, around}
-use Rattle.findings.specs.Findings.{numbered, partEnd, frontBytes, behindFront, bothReplies, verdictText, leftText, said}
+use Rattle.findings.specs.Findings.{numbered, frameEnd, frontBytes, behindFront, bothReplies, verdictText, leftText, said}
 use Rattle.findings.specs.Findings.{freshlyJudged, tooLongLine, mostBytes}
 use Rattle.findings.proofs.HexLaws.{inside, most}
 
@@ -41,31 +41,31 @@ module _ (before after : List ℕ) (n at : ℕ) {room room₁ room₂ room₃ : 
       let r = text-put after room₂ b (omega (arith, put-length p, put-length q, p .behind, q .behind)) third in
       (put-both (put-both p q) r, omega (arith, p .behind, q .behind, r .behind))
 
--- a whole part stands within the bytes
-pub end-within : (rest : List ℕ) → partEnd (frontOf rest) ≤ length rest
-unfolding partEnd
+-- a whole frame stands within the bytes
+pub end-within : (rest : List ℕ) → frameEnd (frontOf rest) ≤ length rest
+unfolding frameEnd
 end-within rest = go (frontOf rest) refl
   where
-    go : (f : Front) → f ≡ frontOf rest → partEnd f ≤ length rest
+    go : (f : Front) → f ≡ frontOf rest → frameEnd f ≤ length rest
     go Front.end e = omega arith
     go Front.cut e = omega arith
     go Front.unmarked e = omega arith
-    go (Front.part n) e = front-within rest n e
+    go (Front.frame n) e = front-within rest n e
 
-module _ (rest : List ℕ) {part : Part} (e : partListed part ≡ frontOf rest) where
-  pub end-is : (x : Part) → part ≡ x → partEnd (partListed x) ≡ partEnd (frontOf rest)
-  end-is x q = rw q at (ap partEnd e)
+module _ (rest : List ℕ) {frame : Frame} (e : frameListed frame ≡ frontOf rest) where
+  pub end-is : (x : Frame) → frame ≡ x → frameEnd (frameListed x) ≡ frameEnd (frontOf rest)
+  end-is x q = rw q at (ap frameEnd e)
 
-  pub whole-within : (n : ℕ) → part ≡ Part.Whole n → 4 + n ≤ length rest
+  pub whole-within : (n : ℕ) → frame ≡ Frame.Whole n → 4 + n ≤ length rest
   whole-within n q = front-within rest n (rw q at e)
 
--- the bytes of the part at the front, as its ends are computed
-pub front-bytes : (rest : List ℕ) {end from : ℕ} → end ≡ partEnd (frontOf rest) → from ≡ end - (end - 4)
+-- the bytes of the frame at the front, as its ends are computed
+pub front-bytes : (rest : List ℕ) {end from : ℕ} → end ≡ frameEnd (frontOf rest) → from ≡ end - (end - 4)
     → take (end - from) (drop from rest) ≡ frontBytes rest
 unfolding frontBytes
 front-bytes rest {end} {from} e f = inside rest end from 4 (rw e (end-within rest)) f ∙ rw e refl
 
-pub behind-front : (rest : List ℕ) {n : ℕ} → n ≡ partEnd (frontOf rest) → take (length rest - n) (drop n rest) ≡ behindFront rest
+pub behind-front : (rest : List ℕ) {n : ℕ} → n ≡ frameEnd (frontOf rest) → take (length rest - n) (drop n rest) ≡ behindFront rest
 unfolding behindFront
 behind-front rest {n} e = tail-whole n rest ∙ rw e refl
 

@@ -20,19 +20,19 @@ mostBytes = 1000000
 unfoldable pub numbered : List ℕ → ℕ → List ℕ → List ℕ
 numbered before n after = before ++ decimal n ++ after
 
--- the bytes that a whole part takes, mark and length included
-unfoldable pub partEnd : Front → ℕ
-partEnd Front.end = 0
-partEnd Front.cut = 0
-partEnd Front.unmarked = 0
-partEnd (Front.part n) = 4 + n
+-- the bytes that a whole frame takes, mark and length included
+unfoldable pub frameEnd : Front → ℕ
+frameEnd Front.end = 0
+frameEnd Front.cut = 0
+frameEnd Front.unmarked = 0
+frameEnd (Front.frame n) = 4 + n
 
--- the bytes of the part at the front, and those behind it
+-- the bytes of the frame at the front, and those behind it
 unfoldable pub frontBytes : List ℕ → List ℕ
-frontBytes rest = drop 4 (take (partEnd (frontOf rest)) rest)
+frontBytes rest = drop 4 (take (frameEnd (frontOf rest)) rest)
 
 unfoldable pub behindFront : List ℕ → List ℕ
-behindFront rest = drop (partEnd (frontOf rest)) rest
+behindFront rest = drop (frameEnd (frontOf rest)) rest
 
 -- The reply that the card gave, at the front of `reply`, and the one found, around the byte at k.
 unfoldable pub bothReplies : List ℕ → List ℕ → ℕ → List ℕ

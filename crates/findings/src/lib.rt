@@ -1,8 +1,8 @@
 // What the judging program writes: `yes` and the number of packets, or what is at fault in a recorded show.
+use cue::frame;
+use cue::frame::Frame;
 use lbp16::pointer::Pointers;
 use recording::Judgment;
-use recording::part;
-use recording::part::Part;
 use report::line;
 
 mod hex;
@@ -15,7 +15,7 @@ ghost use Rattle.cue.specs.Output.{frontOf};
 ghost use Rattle.recording.specs.Recording.{verdictListed, judgedIn};
 ghost use Rattle.report.specs.Inside.{Put};
 ghost use Rattle.report.specs.Report.{reportLeft, lineLeft};
-ghost use Rattle.findings.specs.Findings.{numbered, partEnd, frontBytes, behindFront, bothReplies, badByteText, verdictText, leftText, tooLongLine, said};
+ghost use Rattle.findings.specs.Findings.{numbered, frameEnd, frontBytes, behindFront, bothReplies, badByteText, verdictText, leftText, tooLongLine, said};
 
 // The most bytes that a recording may have.
 const MOST: usize = 1000000;
@@ -31,16 +31,16 @@ fn put_numbered(room: &mut [u8], at: usize, before: &[u8], n: u64, after: &[u8])
     line::text(room, next, after)
 }
 
-// The bytes of the whole part at the front, mark and length included, and none where there is no such part.
-fn part_end(rest: &[u8]) -> usize
-    ensures { λ r. ⌜ r ≡ partEnd (frontOf (now (rest .entry))) ⌝ }
+// The bytes of the whole frame at the front, mark and length included, and none where there is no such frame.
+fn frame_end(rest: &[u8]) -> usize
+    ensures { λ r. ⌜ r ≡ frameEnd (frontOf (now (rest .entry))) ⌝ }
 {
-    let part = part::part_at(rest);
-    match part {
-        Part::End => 0,
-        Part::Cut => 0,
-        Part::Unmarked => 0,
-        Part::Whole(n) => 4 + n,
+    let frame = frame::frame_at(rest);
+    match frame {
+        Frame::End => 0,
+        Frame::Cut => 0,
+        Frame::Unmarked => 0,
+        Frame::Whole(n) => 4 + n,
     }
 }
 
@@ -59,7 +59,7 @@ fn put_behind(room: &mut [u8], at: usize, behind: &[u8], reply: &[u8], k: usize)
     requires { ⌜ at + 72 ≤ length (now room) ⌝ }
     ensures { λ r. ⌜ Put (bothReplies (frontBytes (now (behind .entry))) (now (reply .entry)) k) at (now (room .entry)) (now (room .exit)) r ⌝ }
 {
-    let end = part_end(behind);
+    let end = frame_end(behind);
     let start = hex::least(end, 4);
     put_both(room, at, &behind[start..end], reply, k)
 }
@@ -69,7 +69,7 @@ fn put_replies(room: &mut [u8], at: usize, rest: &[u8], reply: &[u8], k: usize) 
     requires { ⌜ at + 72 ≤ length (now room) ⌝ }
     ensures { λ r. ⌜ Put (bothReplies (frontBytes (behindFront (now (rest .entry)))) (now (reply .entry)) k) at (now (room .entry)) (now (room .exit)) r ⌝ }
 {
-    let n = part_end(rest);
+    let n = frame_end(rest);
     put_behind(room, at, &rest[n..], reply, k)
 }
 

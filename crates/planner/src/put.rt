@@ -1,5 +1,6 @@
 // The planner's packets written, below an end that nothing passes.
 use crate::draft::Draft;
+use cue::frame::MARK;
 use lbp16::space;
 use lbp16::word;
 use lbp16::word::Fields;
@@ -7,9 +8,6 @@ use lbp16::word::Written;
 ghost use Prim.Native.Nat.{_≤_};
 ghost use lib.ListN.{length};
 ghost use Rattle.planner.specs.Inside.{Sized, Kept};
-
-// "LB", low byte first.
-const MARK: u16 = 0x424C;
 
 // A byte below the end.
 fn put1(out: &mut [u8], at: usize, value: u8, end: usize)

@@ -1,5 +1,4 @@
 -- Laws of the definitions in specs/.
-pub mod PartLaws
 pub mod ReplyLaws
 pub mod PairLaws
 pub mod LoopLaws

@@ -8,12 +8,12 @@ use lib.ListN.{length, take, drop, length-drop}
 use borrow.Author.Tests.{eq-eqb, ne-eqb}
 use Rattle.lbp16.specs.declared.pointer.Pointers.{Pointers}
 use Rattle.packet.proofs.SliceLaws.{tail-whole}
-use Rattle.cue.specs.Output.{behindPart}
+use Rattle.cue.specs.Output.{behindFrame}
 use Rattle.recording.specs.Recording.{turned, pairAt, goodBytes}
 use Rattle.recording.specs.Recording.{verdictListed, verdictOf, judgedFrom, judgedParts, left}
 use Rattle.recording.specs.declared.pair.Pair.{Pair}
 use Rattle.recording.specs.declared.Judgment.{Judgment}
-use Rattle.recording.proofs.PartLaws.{front-within}
+use Rattle.cue.proofs.FrameLaws.{front-within}
 use Rattle.recording.proofs.PairLaws.{pair-cases}
 
 -- A packet and a reply that are as they should be take at least 8 bytes, and no more than there are.
@@ -23,13 +23,13 @@ pub record Within (k bytes : ℕ) : Type 0 where
 
 pub pair-within : (rest store : List ℕ) (p : Pointers) (room : List ℕ)
     → (goodBytes (pairAt rest store p room .pair) ≡ 0 → ⊥) → Within (goodBytes (pairAt rest store p room .pair)) (length rest)
-unfolding behindPart
+unfolding behindFrame
 pair-within rest store p room =
     pair-cases rest store p room (λ t. (goodBytes (t .pair) ≡ 0 → ⊥) → Within (goodBytes (t .pair)) (length rest))
     (λ e h. absurd (h refl))
     (λ n m o g h.
     let v = front-within rest n (g .packet) in
-    let w : 4 + m ≤ length rest - (4 + n) = rw length-drop at (front-within (behindPart n rest) m (g .reply)) in
+    let w : 4 + m ≤ length rest - (4 + n) = rw length-drop at (front-within (behindFrame n rest) m (g .reply)) in
     record { some = omega arith; whole = omega arith })
     (λ pair s q r f h. absurd (h (f .stops)))
 

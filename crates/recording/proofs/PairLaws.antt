@@ -20,14 +20,14 @@ use Rattle.lbp16.specs.declared.Refusal.{Refusal}
 use Rattle.card.specs.Run.{Outcome, checked, runPacket, ran}
 use Rattle.card.specs.declared.run.Ran.{Ran}
 use Rattle.card.proofs.RunLaws.{run-answers-check, answered-length}
-use Rattle.cue.specs.Output.{Front, frontOf, partBytes, behindPart}
+use Rattle.cue.specs.Output.{Front, frontOf, framedBytes, behindFrame, frameListed}
 use Rattle.cue.specs.Play.{isAccepted, replyLength}
-use Rattle.recording.specs.Recording.{firstWrong, partListed, foundPair, replyPair, Turned, turned, answeredPair, ranPair}
+use Rattle.recording.specs.Recording.{firstWrong, foundPair, replyPair, Turned, turned, answeredPair, ranPair}
 use Rattle.recording.specs.Recording.{frontPair, pairAt, goodBytes, verdictOf}
 use Rattle.recording.specs.Recording
-use Rattle.recording.specs.declared.part.Part.{Part}
+use Rattle.cue.specs.declared.frame.Frame.{Frame}
 use Rattle.recording.specs.declared.pair.Pair.{Pair}
-use Rattle.recording.proofs.PartLaws.{front-within, part-length}
+use Rattle.cue.proofs.FrameLaws.{front-within, frame-length}
 use Rattle.recording.proofs.ReplyLaws.{wrong-none-same}
 
 -- The answered length is never above the room's.
@@ -43,21 +43,21 @@ answered-fits packet store p room e = rw (run-answers-check packet store p room 
 -- A packet of n bytes as the code lends and runs it.
 module _ (rest : List ℕ) (n : ℕ) (store : List ℕ) (p : Pointers) (room : List ℕ) (r : Ran) (store′ room′ : List ℕ)
     (e : ran r store′ room′ ≡ runPacket (take (4 + n - 4) (drop 4 rest)) store p room) where
-  run-is : ran r store′ room′ ≡ runPacket (partBytes n rest) store p room
-  unfolding partBytes
+  run-is : ran r store′ room′ ≡ runPacket (framedBytes n rest) store p room
+  unfolding framedBytes
   run-is = e ∙ rw add-sub-cancel-left refl
 
   pub ran-refused : (x : Refusal) → r .answer ≡ Verdict.Refused x
-      → turned Pair.Refused store′ (r .pointers) room′ ≡ ranPair n rest (runPacket (partBytes n rest) store p room)
+      → turned Pair.Refused store′ (r .pointers) room′ ≡ ranPair n rest (runPacket (framedBytes n rest) store p room)
   unfolding ranPair ran answeredPair verdictListed
   ran-refused x q = rw (← run-is, q) refl
 
   module _ (v : ℕ) (q : r .answer ≡ Verdict.Accepted v) where
-    -- the answered part of the room, as the code lends it
+    -- the answered frame of the room, as the code lends it
     pub ran-fits : length room ≡ limit → length room′ ≡ length room → v ≤ length room′
     unfolding ran verdictListed replyLength
     ran-fits l k =
-        let f = answered-fits (partBytes n rest) store p room l in
+        let f = answered-fits (framedBytes n rest) store p room l in
         rw (k, l) (rw (← run-is, q) at f)
 
     pub ran-lent : length room ≡ limit → length room′ ≡ length room → v ≡ length (take v room′)
@@ -65,29 +65,29 @@ module _ (rest : List ℕ) (n : ℕ) (store : List ℕ) (p : Pointers) (room : L
 
     pub ran-accepted : (pair : Pair)
         → pair ≡ replyPair (frontOf (take (length rest - (4 + n)) (drop (4 + n) rest))) n (take v room′) (take (length rest - (4 + n)) (drop (4 + n) rest))
-        → turned pair store′ (r .pointers) room′ ≡ ranPair n rest (runPacket (partBytes n rest) store p room)
-    unfolding ranPair ran answeredPair verdictListed replyLength behindPart
+        → turned pair store′ (r .pointers) room′ ≡ ranPair n rest (runPacket (framedBytes n rest) store p room)
+    unfolding ranPair ran answeredPair verdictListed replyLength behindFrame
     ran-accepted pair f = rw (← run-is, q, f, tail-whole) refl
 
 -- what is found at the front
-module _ (rest store : List ℕ) (p : Pointers) (room : List ℕ) (part : Part) (e : partListed part ≡ frontOf rest) where
-  pub pair-end : part ≡ Part.End → turned Pair.End store p room ≡ pairAt rest store p room
+module _ (rest store : List ℕ) (p : Pointers) (room : List ℕ) (frame : Frame) (e : frameListed frame ≡ frontOf rest) where
+  pub pair-end : frame ≡ Frame.End → turned Pair.End store p room ≡ pairAt rest store p room
   unfolding pairAt frontPair
   pair-end q = rw (← e, q) refl
 
-  pub pair-cut : part ≡ Part.Cut → turned (Pair.Cut false) store p room ≡ pairAt rest store p room
+  pub pair-cut : frame ≡ Frame.Cut → turned (Pair.Cut false) store p room ≡ pairAt rest store p room
   unfolding pairAt frontPair
   pair-cut q = rw (← e, q) refl
 
-  pub pair-unmarked : part ≡ Part.Unmarked → turned (Pair.Unmarked false) store p room ≡ pairAt rest store p room
+  pub pair-unmarked : frame ≡ Frame.Unmarked → turned (Pair.Unmarked false) store p room ≡ pairAt rest store p room
   unfolding pairAt frontPair
   pair-unmarked q = rw (← e, q) refl
 
-  module _ (n : ℕ) (q : part ≡ Part.Whole n) where
+  module _ (n : ℕ) (q : frame ≡ Frame.Whole n) where
     pub pair-within : 4 + n ≤ length rest
     pair-within = front-within rest n (rw q at e)
 
-    pub pair-whole : ranPair n rest (runPacket (partBytes n rest) store p room) ≡ pairAt rest store p room
+    pub pair-whole : ranPair n rest (runPacket (framedBytes n rest) store p room) ≡ pairAt rest store p room
     unfolding pairAt frontPair
     pair-whole = rw (← e, q) refl
 
@@ -119,17 +119,17 @@ found-cases n expected found P good fault = go (eqb (length found) (length expec
 
 module _ (n : ℕ) (behind : List ℕ) (P : Pair → Type 0) (fault : (pair : Pair) → Fault pair → P pair) where
   reply-cases : (expected : List ℕ) (f : Front) → f ≡ frontOf behind
-      → ((m : ℕ) → Front.part m ≡ frontOf behind → partBytes m behind ≡ expected → P (Pair.Good (8 + n + m)))
+      → ((m : ℕ) → Front.frame m ≡ frontOf behind → framedBytes m behind ≡ expected → P (Pair.Good (8 + n + m)))
       → P (replyPair f n expected behind)
   unfolding replyPair isYes
   reply-cases expected Front.end e good = fault _ (record { stops = refl; faults = λ i. refl })
   reply-cases expected Front.cut e good = fault _ (record { stops = refl; faults = λ i. refl })
   reply-cases expected Front.unmarked e good = fault _ (record { stops = refl; faults = λ i. refl })
-  reply-cases expected (Front.part m) e good =
-      found-cases n expected (partBytes m behind) P (λ s. rw (part-length behind m e) (good m e s)) fault
+  reply-cases expected (Front.frame m) e good =
+      found-cases n expected (framedBytes m behind) P (λ s. rw (frame-length behind m e) (good m e s)) fault
 
   answer-cases : (a : Answer) (reply : List ℕ)
-      → (isAccepted a ≡ true → (m : ℕ) → Front.part m ≡ frontOf behind → partBytes m behind ≡ take (replyLength a) reply
+      → (isAccepted a ≡ true → (m : ℕ) → Front.frame m ≡ frontOf behind → framedBytes m behind ≡ take (replyLength a) reply
       → P (Pair.Good (8 + n + m)))
       → P (answeredPair a n reply behind)
   unfolding answeredPair isAccepted isYes
@@ -140,11 +140,11 @@ module _ (n : ℕ) (behind : List ℕ) (P : Pair → Type 0) (fault : (pair : Pa
 module _ (rest store : List ℕ) (p : Pointers) (room : List ℕ) where
   -- A packet of n bytes and a reply of m bytes stand at the front, and both are as they should be.
   pub record GoodAt (n m : ℕ) (o : Outcome) : Type 0 where
-    pub ran : o ≡ runPacket (partBytes n rest) store p room
-    pub packet : Front.part n ≡ frontOf rest
+    pub ran : o ≡ runPacket (framedBytes n rest) store p room
+    pub packet : Front.frame n ≡ frontOf rest
     pub accepted : isAccepted (o .answer) ≡ true
-    pub reply : Front.part m ≡ frontOf (behindPart n rest)
-    pub same : partBytes m (behindPart n rest) ≡ take (replyLength (o .answer)) (o .reply)
+    pub reply : Front.frame m ≡ frontOf (behindFrame n rest)
+    pub same : framedBytes m (behindFrame n rest) ≡ take (replyLength (o .answer)) (o .reply)
 
   -- What holds of the end, of a good pair and of a fault holds of what is found.
   pub pair-cases : (P : Turned → Type 0) → (Front.end ≡ frontOf rest → P (turned Pair.End store p room))
@@ -158,9 +158,9 @@ module _ (rest store : List ℕ) (p : Pointers) (room : List ℕ) where
       go Front.end e = end e
       go Front.cut e = fault _ _ _ _ (record { stops = refl; faults = λ i. refl })
       go Front.unmarked e = fault _ _ _ _ (record { stops = refl; faults = λ i. refl })
-      go (Front.part n) e =
-          let o = runPacket (partBytes n rest) store p room in
-          answer-cases n (behindPart n rest) (λ pair. P (turned pair (o .store) (o .pointers) (o .reply)))
+      go (Front.frame n) e =
+          let o = runPacket (framedBytes n rest) store p room in
+          answer-cases n (behindFrame n rest) (λ pair. P (turned pair (o .store) (o .pointers) (o .reply)))
           (λ pair f. fault _ _ _ _ f)
           (o .answer)
           (o .reply)

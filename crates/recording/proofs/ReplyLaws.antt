@@ -10,11 +10,11 @@ use lib.Dec.{eqb}
 use lib.ListN.{length, take, drop, getD, set, drop-of-length-le}
 use lib.Seq.{drop-cons}
 use borrow.Author.Tests.{eqb-true, eq-eqb, ne-eqb, lt-ltb, le-ltb}
-use Rattle.cue.specs.Output.{frontOf, partBytes}
-use Rattle.recording.specs.Recording.{firstWrong, partListed, foundPair, replyPair}
-use Rattle.recording.specs.declared.part.Part.{Part}
+use Rattle.cue.specs.Output.{frontOf, framedBytes, frameListed}
+use Rattle.recording.specs.Recording.{firstWrong, foundPair, replyPair}
+use Rattle.cue.specs.declared.frame.Frame.{Frame}
 use Rattle.recording.specs.declared.pair.Pair.{Pair}
-use Rattle.recording.proofs.PartLaws.{front-within, part-length}
+use Rattle.cue.proofs.FrameLaws.{front-within, frame-length}
 
 -- The search stands at i: no byte before differs.
 module _ (xs ys : List ℕ) (i : ℕ) (h : i < length xs) (k : i < length ys) where
@@ -55,38 +55,38 @@ wrong-set [] k b h n = absurd (omega arith)
 wrong-set (x ∷ xs) zero b h n = rw (ne-eqb x b n) refl
 wrong-set (x ∷ xs) (suc k) b h n = rw (eq-eqb x x refl) (ap suc (wrong-set xs k b (omega arith) n))
 
--- The reply's part as the code reads it.
-module _ (expected behind : List ℕ) (n : ℕ) (part : Part) (e : partListed part ≡ frontOf behind) where
-  pub reply-end : part ≡ Part.End → Pair.Cut true ≡ replyPair (frontOf behind) n expected behind
+-- The reply's frame as the code reads it.
+module _ (expected behind : List ℕ) (n : ℕ) (frame : Frame) (e : frameListed frame ≡ frontOf behind) where
+  pub reply-end : frame ≡ Frame.End → Pair.Cut true ≡ replyPair (frontOf behind) n expected behind
   unfolding replyPair
   reply-end q = rw (← e, q) refl
 
-  pub reply-cut : part ≡ Part.Cut → Pair.Cut true ≡ replyPair (frontOf behind) n expected behind
+  pub reply-cut : frame ≡ Frame.Cut → Pair.Cut true ≡ replyPair (frontOf behind) n expected behind
   unfolding replyPair
   reply-cut q = rw (← e, q) refl
 
-  pub reply-unmarked : part ≡ Part.Unmarked → Pair.Unmarked true ≡ replyPair (frontOf behind) n expected behind
+  pub reply-unmarked : frame ≡ Frame.Unmarked → Pair.Unmarked true ≡ replyPair (frontOf behind) n expected behind
   unfolding replyPair
   reply-unmarked q = rw (← e, q) refl
 
-  module _ (m : ℕ) (q : part ≡ Part.Whole m) where
+  module _ (m : ℕ) (q : frame ≡ Frame.Whole m) where
     pub reply-within : 4 + m ≤ length behind
     reply-within = front-within behind m (rw q at e)
 
-    found-length : length (partBytes m behind) ≡ m
-    found-length = part-length behind m (rw q at e)
+    found-length : length (framedBytes m behind) ≡ m
+    found-length = frame-length behind m (rw q at e)
 
     pub reply-length : (m ≡ length expected → ⊥) → Pair.WrongLength ≡ replyPair (frontOf behind) n expected behind
     unfolding replyPair foundPair
     reply-length h = rw (← e, q, found-length, ne-eqb _ _ h) refl
 
     -- the reply's bytes, as the code lends them
-    reply-bytes : take (4 + m - 4) (drop 4 behind) ≡ partBytes m behind
-    unfolding partBytes
+    reply-bytes : take (4 + m - 4) (drop 4 behind) ≡ framedBytes m behind
+    unfolding framedBytes
     reply-bytes = rw add-sub-cancel-left refl
 
     module _ (l : m ≡ length expected) (k : ℕ) (f : k ≡ firstWrong expected (take (4 + m - 4) (drop 4 behind))) where
-      found-wrong : firstWrong expected (partBytes m behind) ≡ k
+      found-wrong : firstWrong expected (framedBytes m behind) ≡ k
       found-wrong = sym (f ∙ ap (firstWrong expected) reply-bytes)
 
       pub reply-wrong : k < m → Pair.WrongByte k ≡ replyPair (frontOf behind) n expected behind

@@ -15,7 +15,7 @@ use Rattle.packet.specs.Judge.{Verdict, refused, accepted}
 use Rattle.packet.specs.Verdict.{answerTo}
 use Rattle.card.specs.Run.{Outcome, checked, outcome, runPacket}
 use Rattle.card.proofs.RunLaws.{run-checked, run-answers-check, answered-length, checked-cases}
-use Rattle.cue.specs.Output.{framed, frontOf, behindPart}
+use Rattle.cue.specs.Output.{framed, frontOf, behindFrame}
 use Rattle.cue.specs.Play.{isAccepted, replyLength, play}
 use Rattle.cue.proofs.OutputLaws.{framed-front, framed-part, framed-behind}
 use Rattle.recording.specs.Recording.{foundPair, replyPair, turned, answeredPair, ranPair, frontPair, pairAt}
@@ -106,8 +106,8 @@ module _ (packet found tail store : List ℕ) (p : Pointers) (room : List ℕ) (
       refl
 
 -- both parts passed over
-pub behind-both : (n m : ℕ) (rest : List ℕ) → drop (8 + n + m) rest ≡ behindPart m (behindPart n rest)
-unfolding behindPart
+pub behind-both : (n m : ℕ) (rest : List ℕ) → drop (8 + n + m) rest ≡ behindFrame m (behindFrame n rest)
+unfolding behindFrame
 behind-both n m rest = let e : 8 + n + m ≡ 4 + n + (4 + m) = omega arith in rw (e, drop-drop (4 + m) (4 + n) rest) refl
 
 -- a reply that is the expected one

@@ -10,14 +10,14 @@ use borrow.Author.Tests.{eq-eqb, ne-eqb}
 use Rattle.lbp16.specs.declared.pointer.Pointers.{Pointers}
 use Rattle.packet.specs.Command.{limit}
 use Rattle.card.specs.Run.{Outcome, badState}
-use Rattle.cue.specs.Output.{parts, withPart, Front, frontOf, partBytes, behindPart, withFront, apartFrom, apart}
+use Rattle.cue.specs.Output.{parts, withFrame, Front, frontOf, framedBytes, behindFrame, withFront, apartFrom, apart}
 use Rattle.cue.specs.Play.{isAccepted, play}
 use Rattle.recording.specs.Recording.{Turned, turned, pairAt, goodBytes, verdictOf, yes, Left, stopped, judgedFrom}
 use Rattle.recording.specs.Recording
 use Rattle.recording.specs.Recording.{judgedParts, judgedIn, Said, said, judged}
 use Rattle.recording.specs.Show.{shownRun, replyIn, shown, repliesOf}
 use Rattle.recording.specs.declared.pair.Pair.{Pair}
-use Rattle.recording.proofs.PartLaws.{front-within, front-whole-part}
+use Rattle.cue.proofs.FrameLaws.{front-within, whole-frame}
 use Rattle.recording.proofs.PairLaws.{isYes, GoodAt, pair-cases}
 use Rattle.recording.proofs.ShowLaws.{shown-alike, room-kept, behind-both, zeroRooms, zero-rooms, play-alike, play-more}
 use Rattle.recording.proofs.ShowLaws.{play-replies}
@@ -29,22 +29,22 @@ unfolding apartFrom withFront
 apart-end rest zero e = refl
 apart-end rest (suc fuel) e = rw (← e) refl
 
-apart-one : (rest : List ℕ) (n fuel : ℕ) → Front.part n ≡ frontOf rest
-    → apartFrom (suc fuel) rest ≡ withPart (partBytes n rest) (apartFrom fuel (behindPart n rest))
+apart-one : (rest : List ℕ) (n fuel : ℕ) → Front.frame n ≡ frontOf rest
+    → apartFrom (suc fuel) rest ≡ withFrame (framedBytes n rest) (apartFrom fuel (behindFrame n rest))
 unfolding apartFrom withFront
-apart-one rest n fuel e = rw (front-whole-part rest n e .length-is, ← e) refl
+apart-one rest n fuel e = rw (whole-frame rest n e .length-is, ← e) refl
 
-apart-two : (rest : List ℕ) (n m : ℕ) → Front.part n ≡ frontOf rest → Front.part m ≡ frontOf (behindPart n rest)
+apart-two : (rest : List ℕ) (n m : ℕ) → Front.frame n ≡ frontOf rest → Front.frame m ≡ frontOf (behindFrame n rest)
     → (fuel : ℕ) → length rest ≤ fuel → (ps : List (List ℕ))
     → ((most : ℕ) → length (drop (8 + n + m) rest) ≤ most → apartFrom most (drop (8 + n + m) rest) ≡ parts ps)
-    → apartFrom fuel rest ≡ parts (partBytes n rest ∷ partBytes m (behindPart n rest) ∷ ps)
-unfolding withPart
+    → apartFrom fuel rest ≡ parts (framedBytes n rest ∷ framedBytes m (behindFrame n rest) ∷ ps)
+unfolding withFrame
 apart-two rest n m e f zero l ps more = absurd (omega (arith, front-within rest n e))
 apart-two rest n m e f (suc zero) l ps more = absurd (omega (arith, front-within rest n e))
 apart-two rest n m e f (suc (suc fuel)) l ps more =
     let w = front-within rest n e in
     let h = rw behind-both at (more fuel (rw length-drop (omega arith))) in
-    rw (apart-one rest n (suc fuel) e, apart-one (behindPart n rest) m fuel f, h) refl
+    rw (apart-one rest n (suc fuel) e, apart-one (behindFrame n rest) m fuel f, h) refl
 
 -- Yes from packet i on: the packets from there, and what they leave.
 record YesFrom (n i : ℕ) (rest store : List ℕ) (p : Pointers) (left : Left) : Type 0 where
@@ -69,20 +69,20 @@ yes-end n i at rest store p room e h =
     }
 
 good-reply : (rest store : List ℕ) (p : Pointers) (room : List ℕ) (k m : ℕ) (o : Outcome) → GoodAt rest store p room k m o
-    → partBytes m (behindPart k rest) ≡ replyIn o
+    → framedBytes m (behindFrame k rest) ≡ replyIn o
 unfolding replyIn
 good-reply rest store p room k m o g = g .same
 
 -- one packet more, with its reply
 yes-more : (n i : ℕ) (rest store : List ℕ) (p : Pointers) (room : List ℕ) → length room ≡ limit → (k m : ℕ) (o : Outcome)
     → GoodAt rest store p room k m o → (left : Left)
-    → YesFrom n (1 + i) (drop (8 + k + m) rest) (shownRun (partBytes k rest) store p .store)
-    (shownRun (partBytes k rest) store p .pointers)
+    → YesFrom n (1 + i) (drop (8 + k + m) rest) (shownRun (framedBytes k rest) store p .store)
+    (shownRun (framedBytes k rest) store p .pointers)
     left
     → YesFrom n i rest store p left
 unfolding shown
 yes-more n i rest store p room l k m o g left more =
-    let packet = partBytes k rest in
+    let packet = framedBytes k rest in
     let z = shownRun packet store p in
     let a = shown-alike packet store p room l in
     let ok = sym (ap (λ o. isAccepted (o .answer)) (g .ran) ∙ ap isAccepted (a .answer)) ∙ g .accepted in
@@ -125,7 +125,7 @@ yes-next fuel means i at rest store p room some l n =
     pair-cases rest store p room (λ t. next fuel i at rest t .verdict ≡ yes n → YesFrom n i rest store p (next fuel i at rest t))
     (λ e h. yes-end n i at rest store p room e h)
     (λ k m o g.
-    let packet = partBytes k rest in
+    let packet = framedBytes k rest in
     let z = shownRun packet store p in
     let a = shown-alike packet store p room l in
     let v = front-within rest k (g .packet) in

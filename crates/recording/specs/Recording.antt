@@ -8,9 +8,8 @@ use Rattle.lbp16.specs.Answer.{Answer}
 use Rattle.lbp16.specs.declared.pointer.Pointers.{Pointers}
 use Rattle.packet.specs.Command.{limit}
 use Rattle.card.specs.Run.{Outcome, badState, runPacket}
-use Rattle.cue.specs.Output.{Front, frontOf, partBytes, behindPart}
+use Rattle.cue.specs.Output.{Front, frontOf, framedBytes, behindFrame}
 use Rattle.cue.specs.Play.{replyLength}
-use Rattle.recording.specs.declared.part.Part.{Part}
 use Rattle.recording.specs.declared.pair.Pair.{Pair}
 use Rattle.recording.specs.declared.Judgment.{Judgment}
 use Rattle.recording.specs.declared.Judged.{Judged}
@@ -44,7 +43,7 @@ unfoldable pub replyPair : Front → ℕ → List ℕ → List ℕ → Pair
 replyPair Front.end n expected behind = Pair.Cut true
 replyPair Front.cut n expected behind = Pair.Cut true
 replyPair Front.unmarked n expected behind = Pair.Unmarked true
-replyPair (Front.part m) n expected behind = foundPair n expected (partBytes m behind)
+replyPair (Front.frame m) n expected behind = foundPair n expected (framedBytes m behind)
 
 -- What a packet with its reply is found to be, and what the packet leaves. `room` holds the card's own reply.
 pub record Turned : Type 0 where
@@ -64,13 +63,13 @@ answeredPair (Answer.accepted values) n reply behind =
 
 unfoldable pub ranPair : ℕ → List ℕ → Outcome → Turned
 ranPair n rest o =
-    turned (answeredPair (o .answer) n (o .reply) (behindPart n rest)) (o .store) (o .pointers) (o .reply)
+    turned (answeredPair (o .answer) n (o .reply) (behindFrame n rest)) (o .store) (o .pointers) (o .reply)
 
 unfoldable pub frontPair : Front → List ℕ → List ℕ → Pointers → List ℕ → Turned
 frontPair Front.end rest store p room = turned Pair.End store p room
 frontPair Front.cut rest store p room = turned (Pair.Cut false) store p room
 frontPair Front.unmarked rest store p room = turned (Pair.Unmarked false) store p room
-frontPair (Front.part n) rest store p room = ranPair n rest (runPacket (partBytes n rest) store p room)
+frontPair (Front.frame n) rest store p room = ranPair n rest (runPacket (framedBytes n rest) store p room)
 
 unfoldable pub pairAt : List ℕ → List ℕ → Pointers → List ℕ → Turned
 pairAt rest store p room = frontPair (frontOf rest) rest store p room
@@ -139,13 +138,6 @@ said l = record { verdict = l .verdict; at = l .at; store = l .store; pointers =
 
 unfoldable pub judged : List ℕ → List ℕ → Pointers → Said
 judged recording store p = said (judgedIn recording store p (replicate limit 0))
-
--- what is found at the front, as the code has it
-abbrev pub partListed : Part → Front
-partListed Part.End = Front.end
-partListed Part.Cut = Front.cut
-partListed Part.Unmarked = Front.unmarked
-partListed (Part.Whole n) = Front.part n
 
 -- the judgment's values, for each case
 abbrev pub verdictListed : Judgment → Verdict

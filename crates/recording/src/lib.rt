@@ -4,7 +4,6 @@ use lbp16::Refusal;
 use lbp16::pointer::Pointers;
 
 mod pair;
-pub mod part;
 
 use pair::Pair;
 ghost use mathlib.Core.Path.{_≡_};

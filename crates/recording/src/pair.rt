@@ -1,13 +1,13 @@
 // One packet of a recording with its reply.
-use crate::part;
-use crate::part::Part;
 use card::run;
+use cue::frame;
+use cue::frame::Frame;
 use lbp16::pointer::Pointers;
 use packet::judge::Verdict;
 ghost use mathlib.Core.Path.{_≡_};
 ghost use Prim.Native.Nat.{_+_, _^_, _<_, _≤_};
 ghost use lib.ListN.{length};
-ghost use Rattle.cue.specs.Output.{frontOf, partBytes, behindPart};
+ghost use Rattle.cue.specs.Output.{frontOf, framedBytes, behindFrame};
 ghost use Rattle.packet.specs.Command.{limit};
 ghost use Rattle.card.specs.Run.{runPacket};
 ghost use Rattle.recording.specs.Recording.{firstWrong, goodBytes, replyPair, turned, ranPair, pairAt};
@@ -52,12 +52,12 @@ fn reply_at(expected: &[u8], behind: &[u8], n: usize) -> Pair
     requires { ⌜ 4 + n + length (now behind) < 2 ^ 64 ⌝ }
     ensures { λ r. ⌜ r ≡ replyPair (frontOf (now (behind .entry))) n (now (expected .entry)) (now (behind .entry)) ⌝ }
 {
-    let part = part::part_at(behind);
-    match part {
-        Part::End => Pair::Cut(true),
-        Part::Cut => Pair::Cut(true),
-        Part::Unmarked => Pair::Unmarked(true),
-        Part::Whole(m) => {
+    let frame = frame::frame_at(behind);
+    match frame {
+        Frame::End => Pair::Cut(true),
+        Frame::Cut => Pair::Cut(true),
+        Frame::Unmarked => Pair::Unmarked(true),
+        Frame::Whole(m) => {
             if m != expected.len() {
                 return Pair::WrongLength;
             }
@@ -74,7 +74,7 @@ fn reply_at(expected: &[u8], behind: &[u8], n: usize) -> Pair
 // Runs the packet of `n` bytes at the front and judges its reply. Afterwards the packet's own reply stands in the room.
 fn whole_at(rest: &[u8], n: usize, store: &mut [u8], p: Pointers, room: &mut [u8]) -> Turn
     requires { ⌜ (4 + n ≤ length (now rest)) × (length (now room) ≡ limit) ⌝ }
-    ensures { λ r. ⌜ turned (r .pair) (now (store .exit)) (r .pointers) (now (room .exit)) ≡ ranPair n (now (rest .entry)) (runPacket (partBytes n (now (rest .entry))) (now (store .entry)) p (now (room .entry))) ⌝ }
+    ensures { λ r. ⌜ turned (r .pair) (now (store .exit)) (r .pointers) (now (room .exit)) ≡ ranPair n (now (rest .entry)) (runPacket (framedBytes n (now (rest .entry))) (now (store .entry)) p (now (room .entry))) ⌝ }
 {
     let end = 4 + n;
     let ran = run::run(&rest[4..end], store, p, room);
@@ -96,21 +96,21 @@ pub(crate) fn pair_at(rest: &[u8], store: &mut [u8], p: Pointers, room: &mut [u8
     requires { ⌜ length (now room) ≡ limit ⌝ }
     ensures { λ r. ⌜ turned (r .pair) (now (store .exit)) (r .pointers) (now (room .exit)) ≡ pairAt (now (rest .entry)) (now (store .entry)) p (now (room .entry)) ⌝ }
 {
-    let part = part::part_at(rest);
-    match part {
-        Part::End => Turn {
+    let frame = frame::frame_at(rest);
+    match frame {
+        Frame::End => Turn {
             pair: Pair::End,
             pointers: p,
         },
-        Part::Cut => Turn {
+        Frame::Cut => Turn {
             pair: Pair::Cut(false),
             pointers: p,
         },
-        Part::Unmarked => Turn {
+        Frame::Unmarked => Turn {
             pair: Pair::Unmarked(false),
             pointers: p,
         },
-        Part::Whole(n) => whole_at(rest, n, store, p, room),
+        Frame::Whole(n) => whole_at(rest, n, store, p, room),
     }
 }
 

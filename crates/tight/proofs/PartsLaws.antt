@@ -12,11 +12,10 @@ use Rattle.packet.specs.Step.{Step}
 use Rattle.packet.specs.Bytes.{number}
 use Rattle.packet.proofs.SliceLaws.{tail-whole}
 use Rattle.cue.specs.Records.{records, recordsOf}
-use Rattle.cue.specs.Output.{packetMark, Apart, unsound, parts, withPart, Front, frontOf, lengthAt, partBytes, behindPart}
-use Rattle.cue.specs.Output.{withFront, apartFrom, apart}
-use Rattle.recording.specs.Recording.{partListed}
-use Rattle.recording.specs.declared.part.Part.{Part}
-use Rattle.recording.proofs.PartLaws.{front-end, front-whole-part}
+use Rattle.cue.specs.Output.{packetMark, Apart, unsound, parts, withFrame, Front, frontOf, lengthAt, framedBytes, behindFrame}
+use Rattle.cue.specs.Output.{withFront, apartFrom, apart, frameListed}
+use Rattle.cue.specs.declared.frame.Frame.{Frame}
+use Rattle.cue.proofs.FrameLaws.{front-end, whole-frame}
 use Rattle.tight.specs.Tight.{Doing, none, steps, both, packetDoes, packetsDo}
 use Rattle.tight.specs.Tight.{Checked, accepted, rejected, stepsChecked, partsChecked}
 use Rattle.tight.specs.Inside.{further, stepsTake, doingTakes, packetTakes}
@@ -47,16 +46,16 @@ both-next ss ts none = refl
 both-next ss ts (steps us) = ap steps (sym (append-assoc ss ts us))
 
 from-next : (ss ts : List Step) (n : ℕ) (p : List ℕ) (a : Apart) (xs : List Step) → packetDoes p ≡ steps ts
-    → checkedFrom ss n (withPart p a) xs ≡ checkedFrom (ss ++ ts) (n + 1) a xs
-unfolding checkedFrom withPart packetsDo
+    → checkedFrom ss n (withFrame p a) xs ≡ checkedFrom (ss ++ ts) (n + 1) a xs
+unfolding checkedFrom withFrame packetsDo
 from-next ss ts n p unsound xs e = refl
 from-next ss ts n p (parts ps) xs e =
     let q : n + suc (length ps) ≡ n + 1 + length ps = omega arith in
     rw (e, both-next, q) refl
 
 from-none : (ss : List Step) (n : ℕ) (p : List ℕ) (a : Apart) (xs : List Step) → packetDoes p ≡ none
-    → checkedFrom ss n (withPart p a) xs ≡ rejected
-unfolding checkedFrom withPart packetsDo both stepsChecked
+    → checkedFrom ss n (withFrame p a) xs ≡ rejected
+unfolding checkedFrom withFrame packetsDo both stepsChecked
 from-none ss n p unsound xs e = refl
 from-none ss n p (parts ps) xs e = rw e
 
@@ -86,7 +85,7 @@ end-length rest e =
     e
   where
     go : (a b c d : Bool) → eqb (length rest) 0 ≡ a
-        → Front.end ≡ cond a Front.end (cond b Front.cut (cond c (cond d Front.cut (Front.part (lengthAt rest))) Front.unmarked))
+        → Front.end ≡ cond a Front.end (cond b Front.cut (cond c (cond d Front.cut (Front.frame (lengthAt rest))) Front.unmarked))
         → length rest ≡ 0
     go true b c d q f = eqb-true _ _ q
     go false true c d q f = let z : _≡_ {A = ℕ} 0 1 = cc in absurd (omega arith)
@@ -100,28 +99,28 @@ apart-end zero rest e = refl
 apart-end (suc fuel) rest e = rw (← front-end rest e)
 
 apart-unsound : (fuel : ℕ) (rest : List ℕ) (f : Front) → (length rest ≡ 0 → ⊥) → f ≡ frontOf rest
-    → Inside.partBytes f ≡ Taken.Rejected → apartFrom (suc fuel) rest ≡ unsound
-unfolding apartFrom withFront Inside.partBytes
+    → Inside.frameTakes f ≡ Taken.Rejected → apartFrom (suc fuel) rest ≡ unsound
+unfolding apartFrom withFront Inside.frameTakes
 apart-unsound fuel rest Front.end h e p = absurd (h (end-length rest e))
 apart-unsound fuel rest Front.cut h e p = rw (← e)
 apart-unsound fuel rest Front.unmarked h e p = rw (← e)
-apart-unsound fuel rest (Front.part n) h e p = let z : _≡_ {A = ℕ} 0 1 = cc in absurd (omega arith)
+apart-unsound fuel rest (Front.frame n) h e p = let z : _≡_ {A = ℕ} 0 1 = cc in absurd (omega arith)
 
 -- what the code finds at the front
-pub part-listed : (p q : Part) (f : Front) → partListed p ≡ f → p ≡ q → Inside.partBytes (partListed q) ≡ Inside.partBytes f
-part-listed p q f e r = ap Inside.partBytes (ap partListed (sym r) ∙ e)
+pub frame-listed : (p q : Frame) (f : Front) → frameListed p ≡ f → p ≡ q → Inside.frameTakes (frameListed q) ≡ Inside.frameTakes f
+frame-listed p q f e r = ap Inside.frameTakes (ap frameListed (sym r) ∙ e)
 
-front-part : (f : Front) (n : ℕ) → Inside.partBytes f ≡ Taken.Bytes n → Front.part n ≡ f
-unfolding Inside.partBytes
-front-part Front.end n e = let z : _≡_ {A = ℕ} 0 1 = cc in absurd (omega arith)
-front-part Front.cut n e = let z : _≡_ {A = ℕ} 0 1 = cc in absurd (omega arith)
-front-part Front.unmarked n e = let z : _≡_ {A = ℕ} 0 1 = cc in absurd (omega arith)
-front-part (Front.part m) n e = let z : m ≡ n = cc in ap Front.part (sym z)
+front-frame : (f : Front) (n : ℕ) → Inside.frameTakes f ≡ Taken.Bytes n → Front.frame n ≡ f
+unfolding Inside.frameTakes
+front-frame Front.end n e = let z : _≡_ {A = ℕ} 0 1 = cc in absurd (omega arith)
+front-frame Front.cut n e = let z : _≡_ {A = ℕ} 0 1 = cc in absurd (omega arith)
+front-frame Front.unmarked n e = let z : _≡_ {A = ℕ} 0 1 = cc in absurd (omega arith)
+front-frame (Front.frame m) n e = let z : m ≡ n = cc in ap Front.frame (sym z)
 
-module _ (rest : List ℕ) (n : ℕ) (e : Front.part n ≡ frontOf rest) where
-  apart-part : (fuel : ℕ) → apartFrom (suc fuel) rest ≡ withPart (partBytes n rest) (apartFrom fuel (behindPart n rest))
+module _ (rest : List ℕ) (n : ℕ) (e : Front.frame n ≡ frontOf rest) where
+  apart-frame : (fuel : ℕ) → apartFrom (suc fuel) rest ≡ withFrame (framedBytes n rest) (apartFrom fuel (behindFrame n rest))
   unfolding apartFrom withFront
-  apart-part fuel = rw (← e, front-whole-part rest n e .length-is) refl
+  apart-frame fuel = rw (← e, whole-frame rest n e .length-is) refl
 
 -- Between two packets of a proposal: those before have done the steps ss, and taken so many bytes.
 pub record Parting (list proposal rest : List ℕ) (taken packets : ℕ) : Type 0 where
@@ -163,63 +162,63 @@ module _ {list proposal rest : List ℕ} {taken packets : ℕ} (s : Parting list
       ∙ from-last list xs l (s .ss) packets taken (s .taken-is)
 
   module _ (some : length rest ≡ 0 → ⊥) where
-    module _ (part : Taken) (b : part ≡ Inside.partBytes (frontOf rest)) where
-      pub parting-unsound : part ≡ Taken.Rejected → (xs : List Step) → rejected ≡ partsChecked (apart proposal) xs
+    module _ (frame : Taken) (b : frame ≡ Inside.frameTakes (frontOf rest)) where
+      pub parting-unsound : frame ≡ Taken.Rejected → (xs : List Step) → rejected ≡ partsChecked (apart proposal) xs
       unfolding checkedFrom
       parting-unsound p xs =
           let (k, q) = some-fuel some in
           sym (s .same xs ∙ rw (q, apart-unsound k rest _ some refl (sym b ∙ p)) refl)
 
-      pub front-is : (n : ℕ) → part ≡ Taken.Bytes n → Front.part n ≡ frontOf rest
-      front-is n p = front-part (frontOf rest) n (sym b ∙ p)
+      pub front-is : (n : ℕ) → frame ≡ Taken.Bytes n → Front.frame n ≡ frontOf rest
+      front-is n p = front-frame (frontOf rest) n (sym b ∙ p)
 
-    -- a whole part of n bytes, and what its packet takes
-    module _ (n : ℕ) (e : Front.part n ≡ frontOf rest) where
-      pub part-within : 4 + n ≤ length rest
-      part-within = front-whole-part rest n e .within
+    -- a whole frame of n bytes, and what its packet takes
+    module _ (n : ℕ) (e : Front.frame n ≡ frontOf rest) where
+      pub frame-within : 4 + n ≤ length rest
+      frame-within = whole-frame rest n e .within
 
       module _ (next : Taken)
           (q : next ≡ packetTakes (take (4 + n - 4) (drop 4 rest)) (take (length list - taken) (drop taken list))) where
-        takes : doingTakes (packetDoes (partBytes n rest)) (drop taken list) ≡ next
-        unfolding packetTakes partBytes
+        takes : doingTakes (packetDoes (framedBytes n rest)) (drop taken list) ≡ next
+        unfolding packetTakes framedBytes
         takes = let z : 4 + n - 4 ≡ n = omega arith in sym (q ∙ rw (z, tail-whole) refl)
 
         checked-here : (k : ℕ) → s .fuel ≡ suc k → (xs : List Step)
             → partsChecked (apart proposal) xs
-            ≡ checkedFrom (s .ss) packets (withPart (partBytes n rest) (apartFrom k (behindPart n rest))) xs
-        checked-here k f xs = s .same xs ∙ rw (f, apart-part rest n e k) refl
+            ≡ checkedFrom (s .ss) packets (withFrame (framedBytes n rest) (apartFrom k (behindFrame n rest))) xs
+        checked-here k f xs = s .same xs ∙ rw (f, apart-frame rest n e k) refl
 
         pub parting-rejected : next ≡ Taken.Rejected → (xs : List Step) → recordsOf list ≡ records xs
             → rejected ≡ partsChecked (apart proposal) xs
         unfolding doingTakes further
         parting-rejected r xs l =
             let (k, f) = some-fuel some in
-            sym (checked-here k f xs ∙ go (apartFrom k (behindPart n rest)) (packetDoes (partBytes n rest)) refl (takes ∙ r))
+            sym (checked-here k f xs ∙ go (apartFrom k (behindFrame n rest)) (packetDoes (framedBytes n rest)) refl (takes ∙ r))
           where
-            go : (a : Apart) (d : Doing) → packetDoes (partBytes n rest) ≡ d → doingTakes d (drop taken list) ≡ Taken.Rejected
-                → checkedFrom (s .ss) packets (withPart (partBytes n rest) a) xs ≡ rejected
-            go a none p t = from-none (s .ss) packets (partBytes n rest) a xs p
+            go : (a : Apart) (d : Doing) → packetDoes (framedBytes n rest) ≡ d → doingTakes d (drop taken list) ≡ Taken.Rejected
+                → checkedFrom (s .ss) packets (withFrame (framedBytes n rest) a) xs ≡ rejected
+            go a none p t = from-none (s .ss) packets (framedBytes n rest) a xs p
             go a (steps ts) p t =
-                from-next (s .ss) ts packets (partBytes n rest) a xs p
+                from-next (s .ss) ts packets (framedBytes n rest) a xs p
                 ∙ from-rejected list xs l (s .ss ++ ts) (packets + 1) a
                 (append-taken (s .ss) ts list taken (s .taken-is) ∙ ap (further taken) t)
 
         pub parting-next : (j : ℕ) → next ≡ Taken.Bytes j
             → Parting list proposal (take (length rest - (4 + n)) (drop (4 + n) rest)) (taken + j) (packets + 1)
-        unfolding doingTakes further behindPart
-        parting-next j r = rw tail-whole (go (packetDoes (partBytes n rest)) refl (takes ∙ r))
+        unfolding doingTakes further behindFrame
+        parting-next j r = rw tail-whole (go (packetDoes (framedBytes n rest)) refl (takes ∙ r))
           where
-            go : (d : Doing) → packetDoes (partBytes n rest) ≡ d → doingTakes d (drop taken list) ≡ Taken.Bytes j
+            go : (d : Doing) → packetDoes (framedBytes n rest) ≡ d → doingTakes d (drop taken list) ≡ Taken.Bytes j
                 → Parting list proposal (drop (4 + n) rest) (taken + j) (packets + 1)
             go none p t = let z : _≡_ {A = ℕ} 0 1 = cc in absurd (omega arith)
             go (steps ts) p t =
-                let w = part-within in
+                let w = frame-within in
                 let (k, f) = some-fuel some in
                 record {
                   ss = s .ss ++ ts;
                   fuel = k;
                   same = λ xs. checked-here k f xs
-                      ∙ from-next (s .ss) ts packets (partBytes n rest) (apartFrom k (behindPart n rest)) xs p;
+                      ∙ from-next (s .ss) ts packets (framedBytes n rest) (apartFrom k (behindFrame n rest)) xs p;
                   enough = rw length-drop (omega (arith, s .enough));
                   taken-is = append-taken (s .ss) ts list taken (s .taken-is) ∙ ap (further taken) t;
                   few = rw length-drop (omega (arith, s .few));

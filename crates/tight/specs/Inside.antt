@@ -65,9 +65,9 @@ doingTakes (steps ss) rest = stepsTake ss rest
 unfoldable pub packetTakes : List ℕ → List ℕ → Taken
 packetTakes packet rest = doingTakes (packetDoes packet) rest
 
--- a whole part at the front of a proposal's bytes
-unfoldable pub partBytes : Front → Taken
-partBytes Front.end = Taken.Rejected
-partBytes Front.cut = Taken.Rejected
-partBytes Front.unmarked = Taken.Rejected
-partBytes (Front.part n) = Taken.Bytes n
+-- a whole frame at the front of a proposal's bytes
+unfoldable pub frameTakes : Front → Taken
+frameTakes Front.end = Taken.Rejected
+frameTakes Front.cut = Taken.Rejected
+frameTakes Front.unmarked = Taken.Rejected
+frameTakes (Front.frame n) = Taken.Bytes n

@@ -1,5 +1,7 @@
 // A proposal's packets gone through beside the list's records.
 use crate::TightAnswer;
+use cue::frame;
+use cue::frame::Frame;
 use cue::records;
 use lbp16::pointer::Pointer;
 use lbp16::pointer::Pointers;
@@ -11,8 +13,6 @@ use packet::command;
 use packet::command::LIMIT;
 use packet::judge;
 use packet::judge::Verdict;
-use recording::part;
-use recording::part::Part;
 ghost use mathlib.Core.Path.{_≡_};
 ghost use mathlib.Core.Bool.{false};
 ghost use mathlib.Core.List.{List};
@@ -26,7 +26,7 @@ ghost use Rattle.card.specs.Inside.{LetPass};
 ghost use Rattle.cue.specs.Records.{records, recordsOf, recordBytes};
 ghost use Rattle.cue.specs.Output.{apart, frontOf};
 ghost use Rattle.tight.specs.Tight.{unlocks, sameBytes, doneBy, partsChecked, checkListed};
-ghost use Rattle.tight.specs.Inside.{unset, elementStep, stepTakes, stepsTake, doingTakes, packetTakes, partBytes};
+ghost use Rattle.tight.specs.Inside.{unset, elementStep, stepTakes, stepsTake, doingTakes, packetTakes, frameTakes};
 
 // The bytes that something takes from the front of a list or of a proposal, if it may stand there.
 pub enum Taken {
@@ -184,16 +184,16 @@ fn packet_takes(list: &[u8], packet: &[u8]) -> Taken
     }
 }
 
-// The bytes of the whole part at the front of a proposal's.
-fn part_bytes(rest: &[u8]) -> Taken
-    ensures { λ r. ⌜ r ≡ partBytes (frontOf (now (rest .entry))) ⌝ }
+// The bytes of the whole frame at the front of a proposal's.
+fn frame_bytes(rest: &[u8]) -> Taken
+    ensures { λ r. ⌜ r ≡ frameTakes (frontOf (now (rest .entry))) ⌝ }
 {
-    let part = part::part_at(rest);
-    match part {
-        Part::End => Taken::Rejected,
-        Part::Cut => Taken::Rejected,
-        Part::Unmarked => Taken::Rejected,
-        Part::Whole(n) => Taken::Bytes(n),
+    let frame = frame::frame_at(rest);
+    match frame {
+        Frame::End => Taken::Rejected,
+        Frame::Cut => Taken::Rejected,
+        Frame::Unmarked => Taken::Rejected,
+        Frame::Whole(n) => Taken::Bytes(n),
     }
 }
 
@@ -205,8 +205,8 @@ pub(crate) fn packets_checked(list: &[u8], proposal: &[u8]) -> TightAnswer
     let mut taken: usize = 0;
     let mut packets: u64 = 0;
     while rest.len() != 0 {
-        let part = part_bytes(rest);
-        let Taken::Bytes(n) = part else {
+        let frame = frame_bytes(rest);
+        let Taken::Bytes(n) = frame else {
             return TightAnswer::Rejected;
         };
         let end = 4 + n;

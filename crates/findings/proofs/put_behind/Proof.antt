@@ -4,8 +4,8 @@ use borrow.Author.Needs.{needs}
 use Rattle.findings.proofs.put_behind.Statement.{statement}
 use Rattle.findings.proofs.put_behind.Tie as tie
 
-part-end-requires : tie.Need-part-end-requires
-part-end-requires c κs = search needs
+frame-end-requires : tie.Need-frame-end-requires
+frame-end-requires c κs = search needs
 
 least-requires : tie.Need-least-requires
 least-requires c κs = search needs
@@ -17,7 +17,7 @@ part-put-both-start : tie.Need-part-put-both-start
 part-put-both-start c = search needs
 
 part-put-both-end : tie.Need-part-put-both-end
-part-put-both-end c = let w = end-within (c .before .before .before .before .before .before .args .behind .now) in omega (arith, c .before .before .part-end .ensures)
+part-put-both-end c = let w = end-within (c .before .before .before .before .before .before .args .behind .now) in omega (arith, c .before .before .frame-end .ensures)
 
 put-both-requires : tie.Need-put-both-requires
 put-both-requires c κs = search needs
@@ -26,13 +26,13 @@ same-length : tie.Need-same-length
 same-length c = search needs
 
 returns : tie.Need-returns
-returns c = rw (front-bytes (c .before .before .before .before .before .before .before .before .before .before .args .behind .now) (c .before .before .before .before .before .before .part-end .ensures) (c .before .before .before .before .before .least .ensures)) at (c .before .before .put-both .ensures)
+returns c = rw (front-bytes (c .before .before .before .before .before .before .before .before .before .before .args .behind .now) (c .before .before .before .before .before .before .frame-end .ensures) (c .before .before .before .before .before .least .ensures)) at (c .before .before .put-both .ensures)
 
 pub put-behind-spec : {M : Type 1} → statement M
 put-behind-spec =
     tie.close
     (tie.spec
-    part-end-requires
+    frame-end-requires
     least-requires
     sub-put-both
     part-put-both-start

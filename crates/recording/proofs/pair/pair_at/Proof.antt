@@ -4,8 +4,8 @@ use borrow.Author.Needs.{needs}
 use Rattle.recording.proofs.pair.pair_at.Statement.{statement}
 use Rattle.recording.proofs.pair.pair_at.Tie as tie
 
-part-at-requires : tie.Need-part-at-requires
-part-at-requires c κs = search needs
+frame-at-requires : tie.Need-frame-at-requires
+frame-at-requires c κs = search needs
 
 enum-told : tie.Need-enum-told
 enum-told c = search needs
@@ -16,20 +16,20 @@ enum-told-2 c = search needs
 enum-told-3 : tie.Need-enum-told-3
 enum-told-3 c = search needs
 
-enum-known-part : tie.Need-enum-known-part
-enum-known-part c = search needs
+enum-known-frame : tie.Need-enum-known-frame
+enum-known-frame c = search needs
 
 whole-at-requires : tie.Need-whole-at-requires
-whole-at-requires c κs = (pair-within (c .before .before .before .before .before .before .before .before .before .args .rest .now) (c .before .before .before .before .before .before .before .before .before .args .store .now) (c .before .before .before .before .before .before .before .before .before .args .p) (c .before .before .before .before .before .before .before .before .before .args .room .now) _ (c .before .before .before .before .before .part-at .ensures) _ (c .before .before .before .part .given .1), c .before .before .before .before .before .before .before .before .before .pre)
+whole-at-requires c κs = (pair-within (c .before .before .before .before .before .before .before .before .before .args .rest .now) (c .before .before .before .before .before .before .before .before .before .args .store .now) (c .before .before .before .before .before .before .before .before .before .args .p) (c .before .before .before .before .before .before .before .before .before .args .room .now) _ (c .before .before .before .before .before .frame-at .ensures) _ (c .before .before .before .frame .given .1), c .before .before .before .before .before .before .before .before .before .pre)
 
 returns : tie.Need-returns
-returns c = pair-end _ _ _ _ _ (c .before .before .part-at .ensures) (c .enum-told .given .1)
+returns c = pair-end _ _ _ _ _ (c .before .before .frame-at .ensures) (c .enum-told .given .1)
 
 returns-2 : tie.Need-returns-2
-returns-2 c = pair-cut _ _ _ _ _ (c .before .before .part-at .ensures) (c .enum-told2 .given .1)
+returns-2 c = pair-cut _ _ _ _ _ (c .before .before .frame-at .ensures) (c .enum-told2 .given .1)
 
 returns-3 : tie.Need-returns-3
-returns-3 c = pair-unmarked _ _ _ _ _ (c .before .before .part-at .ensures) (c .enum-told3 .given .1)
+returns-3 c = pair-unmarked _ _ _ _ _ (c .before .before .frame-at .ensures) (c .enum-told3 .given .1)
 
 same-length : tie.Need-same-length
 same-length c = search needs
@@ -38,17 +38,17 @@ same-length-2 : tie.Need-same-length-2
 same-length-2 c = search needs
 
 returns-4 : tie.Need-returns-4
-returns-4 c = c .before .before .before .before .whole-at .ensures ∙ pair-whole _ _ _ _ _ (c .before .before .before .before .before .before .before .before .before .before .part-at .ensures) _ (c .before .before .before .before .before .before .before .before .part .given .1)
+returns-4 c = c .before .before .before .before .whole-at .ensures ∙ pair-whole _ _ _ _ _ (c .before .before .before .before .before .before .before .before .before .before .frame-at .ensures) _ (c .before .before .before .before .before .before .before .before .frame .given .1)
 
 pub pair-at-spec : {M : Type 1} → statement M
 pair-at-spec =
     tie.close
     (tie.spec
-    part-at-requires
+    frame-at-requires
     enum-told
     enum-told-2
     enum-told-3
-    enum-known-part
+    enum-known-frame
     whole-at-requires
     returns
     returns-2

@@ -4,8 +4,8 @@ use borrow.Author.Needs.{needs}
 use Rattle.recording.proofs.pair.reply_at.Statement.{statement}
 use Rattle.recording.proofs.pair.reply_at.Tie as tie
 
-part-at-requires : tie.Need-part-at-requires
-part-at-requires c κs = search needs
+frame-at-requires : tie.Need-frame-at-requires
+frame-at-requires c κs = search needs
 
 enum-told : tie.Need-enum-told
 enum-told c = search needs
@@ -16,11 +16,11 @@ enum-told-2 c = search needs
 enum-told-3 : tie.Need-enum-told-3
 enum-told-3 c = search needs
 
-enum-known-part : tie.Need-enum-known-part
-enum-known-part c = search needs
+enum-known-frame : tie.Need-enum-known-frame
+enum-known-frame c = search needs
 
 returns : tie.Need-returns
-returns c = reply-length _ _ _ _ (c .before .before .before .before .part-at .ensures) _ (c .before .before .part .given .1) (c .if1 .taken)
+returns c = reply-length _ _ _ _ (c .before .before .before .before .frame-at .ensures) _ (c .before .before .frame .given .1) (c .if1 .taken)
 
 add-end : tie.Need-add-end
 add-end c = search needs
@@ -32,41 +32,41 @@ part-first-wrong-start : tie.Need-part-first-wrong-start
 part-first-wrong-start c = search needs
 
 part-first-wrong-end : tie.Need-part-first-wrong-end
-part-first-wrong-end c = reply-within (c .before .before .before .before .before .before .before .args .expected .now) _ (c .before .before .before .before .before .before .before .args .n) _ (c .before .before .before .before .part-at .ensures) _ (c .before .before .part .given .1)
+part-first-wrong-end c = reply-within (c .before .before .before .before .before .before .before .args .expected .now) _ (c .before .before .before .before .before .before .before .args .n) _ (c .before .before .before .before .frame-at .ensures) _ (c .before .before .frame .given .1)
 
 first-wrong-requires : tie.Need-first-wrong-requires
 first-wrong-requires c κs = search needs
 
 returns-2 : tie.Need-returns-2
-returns-2 c = reply-wrong _ _ _ _ (c .before .before .before .before .before .before .before .part-at .ensures) _ (c .before .before .before .before .before .part .given .1) (c .before .before .before .if1 .left) _ (c .before .first-wrong .ensures) (c .if2 .taken)
+returns-2 c = reply-wrong _ _ _ _ (c .before .before .before .before .before .before .before .frame-at .ensures) _ (c .before .before .before .before .before .frame .given .1) (c .before .before .before .if1 .left) _ (c .before .first-wrong .ensures) (c .if2 .taken)
 
 add-t9 : tie.Need-add-t9
-add-t9 c = let w = reply-within (c .before .before .before .before .before .before .before .before .before .before .args .expected .now) _ (c .before .before .before .before .before .before .before .before .before .before .args .n) _ (c .before .before .before .before .before .before .before .part-at .ensures) _ (c .before .before .before .before .before .part .given .1) in omega (arith, c .before .before .before .before .before .before .before .before .before .before .pre)
+add-t9 c = let w = reply-within (c .before .before .before .before .before .before .before .before .before .before .args .expected .now) _ (c .before .before .before .before .before .before .before .before .before .before .args .n) _ (c .before .before .before .before .before .before .before .frame-at .ensures) _ (c .before .before .before .before .before .frame .given .1) in omega (arith, c .before .before .before .before .before .before .before .before .before .before .pre)
 
 add-t14 : tie.Need-add-t14
-add-t14 c = let w = reply-within (c .before .before .before .before .before .before .before .before .before .before .args .expected .now) _ (c .before .before .before .before .before .before .before .before .before .before .args .n) _ (c .before .before .before .before .before .before .before .part-at .ensures) _ (c .before .before .before .before .before .part .given .1) in omega (arith, c .before .before .before .before .before .before .before .before .before .before .pre)
+add-t14 c = let w = reply-within (c .before .before .before .before .before .before .before .before .before .before .args .expected .now) _ (c .before .before .before .before .before .before .before .before .before .before .args .n) _ (c .before .before .before .before .before .before .before .frame-at .ensures) _ (c .before .before .before .before .before .frame .given .1) in omega (arith, c .before .before .before .before .before .before .before .before .before .before .pre)
 
 returns-3 : tie.Need-returns-3
-returns-3 c = reply-end _ _ _ _ (c .before .before .part-at .ensures) (c .enum-told .given .1)
+returns-3 c = reply-end _ _ _ _ (c .before .before .frame-at .ensures) (c .enum-told .given .1)
 
 returns-4 : tie.Need-returns-4
-returns-4 c = reply-cut _ _ _ _ (c .before .before .part-at .ensures) (c .enum-told2 .given .1)
+returns-4 c = reply-cut _ _ _ _ (c .before .before .frame-at .ensures) (c .enum-told2 .given .1)
 
 returns-5 : tie.Need-returns-5
-returns-5 c = reply-unmarked _ _ _ _ (c .before .before .part-at .ensures) (c .enum-told3 .given .1)
+returns-5 c = reply-unmarked _ _ _ _ (c .before .before .frame-at .ensures) (c .enum-told3 .given .1)
 
 returns-6 : tie.Need-returns-6
-returns-6 c = reply-good _ _ _ _ (c .before .before .before .before .before .before .before .part-at .ensures) _ (c .before .before .before .before .before .part .given .1) (c .before .before .before .if1 .left) _ (c .before .first-wrong .ensures) (c .if2 .left)
+returns-6 c = reply-good _ _ _ _ (c .before .before .before .before .before .before .before .frame-at .ensures) _ (c .before .before .before .before .before .frame .given .1) (c .before .before .before .if1 .left) _ (c .before .first-wrong .ensures) (c .if2 .left)
 
 pub reply-at-spec : {M : Type 1} → statement M
 reply-at-spec =
     tie.close
     (tie.spec
-    part-at-requires
+    frame-at-requires
     enum-told
     enum-told-2
     enum-told-3
-    enum-known-part
+    enum-known-frame
     returns
     add-end
     sub-first-wrong

@@ -9,7 +9,7 @@ use borrow.Author.Tests.{eq-eqb, ne-eqb}
 use Rattle.cue.specs.Output.{Front, frontOf}
 use Rattle.tight.specs.Tight.{checkListed}
 use Rattle.tight.proofs.PartsLaws.{Parting, parting-first, parting-last, parting-unsound, parting-rejected, parting-next}
-use Rattle.tight.proofs.PartsLaws.{taken-within, front-is, part-within}
+use Rattle.tight.proofs.PartsLaws.{taken-within, front-is, frame-within}
 
 abbrev Inv-loop : tie.InvT-loop
 Inv-loop list proposal rest₀ taken₀ packets₀ rest taken packets = Parting list proposal rest taken packets
@@ -20,11 +20,11 @@ abbrev μ-loop : tie.MeasureT-loop
 loop-holds : tie.Need-loop-holds Inv-loop μ-loop
 loop-holds c = parting-first _ _
 
-part-bytes-requires : tie.Need-part-bytes-requires Inv-loop μ-loop
-part-bytes-requires c κs = search needs
+frame-bytes-requires : tie.Need-frame-bytes-requires Inv-loop μ-loop
+frame-bytes-requires c κs = search needs
 
-enum-known-part : tie.Need-enum-known-part Inv-loop μ-loop
-enum-known-part c = search needs
+enum-known-frame : tie.Need-enum-known-frame Inv-loop μ-loop
+enum-known-frame c = search needs
 
 enum-told : tie.Need-enum-told Inv-loop μ-loop
 enum-told c = search needs
@@ -33,21 +33,21 @@ returns : tie.Need-returns Inv-loop μ-loop
 unfolding checkListed
 returns c xs l =
     let b = c .before .before in
-    parting-unsound (b .before .before .loop .inv) (b .before .loop-test .taken) _ (b .part-bytes .ensures)
+    parting-unsound (b .before .before .loop .inv) (b .before .loop-test .taken) _ (b .frame-bytes .ensures)
     (c .enum-told .given .1)
     xs
 
--- a whole part stands at the front
-part : (c : tie.After-known-told Inv-loop μ-loop)
-    → Front.part (c .before .part .given .0 .0) ≡ frontOf (c .before .before .before .before .before .loop .rest .now)
-part c =
+-- a whole frame stands at the front
+frame : (c : tie.After-known-told Inv-loop μ-loop)
+    → Front.frame (c .before .frame .given .0 .0) ≡ frontOf (c .before .before .before .before .before .loop .rest .now)
+frame c =
     let b = c .before .before .before in
-    front-is (b .before .before .loop .inv) (b .before .loop-test .taken) _ (b .part-bytes .ensures) _ (c .before .part .given .1)
+    front-is (b .before .before .loop .inv) (b .before .loop-test .taken) _ (b .frame-bytes .ensures) _ (c .before .frame .given .1)
 
 add-end : tie.Need-add-end Inv-loop μ-loop
 add-end c =
     let b = c .before .before .before in
-    let w = part-within (b .before .before .loop .inv) (b .before .loop-test .taken) _ (part c) in
+    let w = frame-within (b .before .before .loop .inv) (b .before .loop-test .taken) _ (frame c) in
     omega arith
 
 sub-packet-takes : tie.Need-sub-packet-takes Inv-loop μ-loop
@@ -68,7 +68,7 @@ part-packet-takes-start-2 c = search needs
 part-packet-takes-end-2 : tie.Need-part-packet-takes-end-2 Inv-loop μ-loop
 part-packet-takes-end-2 c =
     let b = c .before .before .before .before in
-    part-within (b .before .before .loop .inv) (b .before .loop-test .taken) _ (part (c .before))
+    frame-within (b .before .before .loop .inv) (b .before .loop-test .taken) _ (frame (c .before))
 
 packet-takes-requires : tie.Need-packet-takes-requires Inv-loop μ-loop
 packet-takes-requires c κs = search needs
@@ -84,7 +84,7 @@ unfolding checkListed
 returns-2 c xs l =
     let b = c .before .before .before .before .before .before .before .before in
     parting-rejected (b .before .before .loop .inv) (b .before .loop-test .taken) _
-    (part (c .before .before .before .before .before))
+    (frame (c .before .before .before .before .before))
     _
     (c .before .before .packet-takes .ensures)
     (c .enum-told2 .given .1)
@@ -96,14 +96,14 @@ turn : (c : tie.After-known-told2 Inv-loop μ-loop)
     → (let p = c .before .before .before .before .before .before .before in
     let l = p .before .before .before .before in
     let a = l .before .before .before .args in
-    let end = 4 + p .part .given .0 .0 in
+    let end = 4 + p .frame .given .0 .0 in
     Parting (a .list .now) (a .proposal .now) (take (length (l .loop .rest .now) - end) (drop end (l .loop .rest .now)))
     (l .loop .taken + c .before .next .given .0 .0)
     (l .loop .packets + 1))
 turn c =
     let b = c .before .before .before .before .before .before .before .before .before in
     parting-next (b .before .before .loop .inv) (b .before .loop-test .taken) _
-    (part (c .before .before .before .before .before .before))
+    (frame (c .before .before .before .before .before .before))
     _
     (c .before .before .before .packet-takes .ensures)
     _
@@ -118,8 +118,8 @@ add-packets c = let w = turn c .few in omega arith
 sub-rest : tie.Need-sub-rest Inv-loop μ-loop
 sub-rest c =
     let b = c .before .before .before .before .before .before .before .before .before in
-    part-within (b .before .before .loop .inv) (b .before .loop-test .taken) _
-    (part (c .before .before .before .before .before .before))
+    frame-within (b .before .before .loop .inv) (b .before .loop-test .taken) _
+    (frame (c .before .before .before .before .before .before))
 
 part-rest-start : tie.Need-part-rest-start Inv-loop μ-loop
 part-rest-start c = sub-rest c
@@ -150,8 +150,8 @@ packets-checked-spec =
     Inv-loop
     μ-loop
     loop-holds
-    part-bytes-requires
-    enum-known-part
+    frame-bytes-requires
+    enum-known-frame
     enum-told
     returns
     add-end

@@ -1,7 +1,7 @@
 use borrow.Author.Needs.{needs}
-use Rattle.recording.proofs.part.part_at.Statement.{statement}
-use Rattle.recording.proofs.part.part_at.Tie as tie
-use Rattle.recording.proofs.PartLaws.{front-end, front-short, front-unmarked, front-cut, front-part}
+use Rattle.cue.proofs.frame.frame_at.Statement.{statement}
+use Rattle.cue.proofs.frame.frame_at.Tie as tie
+use Rattle.cue.proofs.FrameLaws.{front-end, front-short, front-unmarked, front-cut, front-frame}
 
 returns : tie.Need-returns
 returns c = front-end _ (c .if1 .taken)
@@ -25,13 +25,18 @@ add-if4 : tie.Need-add-if4
 add-if4 c = search needs
 
 returns-4 : tie.Need-returns-4
-returns-4 c = let b = c .before .before .before in front-cut _ (b .before .if2 .left) _ (b .pair-at .ensures) (c .before .before .if3 .left) _ (c .before .pair-at2 .ensures) (c .if4 .taken)
+returns-4 c =
+    let b = c .before .before .before in
+    front-cut _ (b .before .if2 .left) _ (b .pair-at .ensures) (c .before .before .if3 .left) _ (c .before .pair-at2 .ensures)
+    (c .if4 .taken)
 
 returns-5 : tie.Need-returns-5
-returns-5 c = let b = c .before .before .before in front-part _ _ (b .pair-at .ensures) (c .before .before .if3 .left) _ (c .before .pair-at2 .ensures) (c .if4 .left)
+returns-5 c =
+    let b = c .before .before .before in
+    front-frame _ _ (b .pair-at .ensures) (c .before .before .if3 .left) _ (c .before .pair-at2 .ensures) (c .if4 .left)
 
-pub part-at-spec : {M : Type 1} → statement M
-part-at-spec =
+pub frame-at-spec : {M : Type 1} → statement M
+frame-at-spec =
     tie.close
     (tie.spec
     returns

@@ -1,4 +1,4 @@
--- What stands at the front, from the tests that the code makes.
+-- What stands at the front of frames, from the tests that the code makes.
 use Prim.Native.Nat.{ℕ, _+_, _≤_, _<_}
 use mathlib.Core.Path.{_≡_, refl, sym, _∙_}
 use mathlib.Core.List.{List}
@@ -9,8 +9,8 @@ use lib.ListN.{length, take, drop, length-drop}
 use lib.Seq.{length-take-le}
 use borrow.Author.Tests.{ltb-false, le-ltb, lt-ltb, eq-eqb, ne-eqb}
 use Rattle.packet.specs.Bytes.{number}
-use Rattle.cue.specs.Output.{packetMark, lengthAt, Front, frontOf, partBytes}
+use Rattle.cue.specs.Output.{packetMark, lengthAt, Front, frontOf, framedBytes}
 use Rattle.cue.proofs.OutputLaws.{front-whole}
 
 module _ (rest : List ℕ) where
   pub front-end : length rest ≡ 0 → Front.end ≡ frontOf rest
@@ -38,26 +38,26 @@ module _ (rest : List ℕ) where
         )
         refl
 
-  pub front-part : (mark : ℕ) → mark ≡ number (take 2 (drop 0 rest)) → mark ≡ packetMark → (n : ℕ)
-      → n ≡ number (take 2 (drop 2 rest)) → 4 + n ≤ length rest → Front.part n ≡ frontOf rest
+  pub front-frame : (mark : ℕ) → mark ≡ number (take 2 (drop 0 rest)) → mark ≡ packetMark → (n : ℕ)
+      → n ≡ number (take 2 (drop 2 rest)) → 4 + n ≤ length rest → Front.frame n ≡ frontOf rest
   unfolding lengthAt
-  front-part mark e q n f h = rw f (sym (front-whole rest (sym e ∙ q) (rw f at h)))
+  front-frame mark e q n f h = rw f (sym (front-whole rest (sym e ∙ q) (rw f at h)))
 
--- A whole part has the length written before it, and stands within the bytes.
+-- A whole frame has the length written in it, and stands within the bytes.
 pub record Whole (rest : List ℕ) (n : ℕ) : Type 0 where
   pub length-is : lengthAt rest ≡ n
   pub within : 4 + n ≤ length rest
 
-pub front-whole-part : (rest : List ℕ) (n : ℕ) → Front.part n ≡ frontOf rest → Whole rest n
+pub whole-frame : (rest : List ℕ) (n : ℕ) → Front.frame n ≡ frontOf rest → Whole rest n
 unfolding frontOf
-front-whole-part rest n e =
+whole-frame rest n e =
     go (eqb (length rest) 0) (ltb (length rest) 2) (eqb (number (take 2 rest)) packetMark) (ltb (length rest) (4 + lengthAt rest))
     refl
     e
   where
     go : (a b c d : Bool) → ltb (length rest) (4 + lengthAt rest) ≡ d
-        → Front.part n
-        ≡ cond a Front.end (cond b Front.cut (cond c (cond d Front.cut (Front.part (lengthAt rest))) Front.unmarked))
+        → Front.frame n
+        ≡ cond a Front.end (cond b Front.cut (cond c (cond d Front.cut (Front.frame (lengthAt rest))) Front.unmarked))
         → Whole rest n
     go true b c d q f = let z : _≡_ {A = ℕ} 0 1 = cc in absurd (omega arith)
     go false true c d q f = let z : _≡_ {A = ℕ} 0 1 = cc in absurd (omega arith)
@@ -67,11 +67,11 @@ front-whole-part rest n e =
         let z : lengthAt rest ≡ n = cc in
         record { length-is = z; within = rw (← z) (ltb-false _ _ q) }
 
-pub front-within : (rest : List ℕ) (n : ℕ) → Front.part n ≡ frontOf rest → 4 + n ≤ length rest
-front-within rest n e = front-whole-part rest n e .within
+pub front-within : (rest : List ℕ) (n : ℕ) → Front.frame n ≡ frontOf rest → 4 + n ≤ length rest
+front-within rest n e = whole-frame rest n e .within
 
-pub part-length : (rest : List ℕ) (n : ℕ) → Front.part n ≡ frontOf rest → length (partBytes n rest) ≡ n
-unfolding partBytes
-part-length rest n e =
+pub frame-length : (rest : List ℕ) (n : ℕ) → Front.frame n ≡ frontOf rest → length (framedBytes n rest) ≡ n
+unfolding framedBytes
+frame-length rest n e =
     let w = front-within rest n e in
     length-take-le n (drop 4 rest) (rw length-drop (omega arith))
