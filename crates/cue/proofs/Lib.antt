@@ -13,6 +13,7 @@ pub mod CompileLaws
 pub mod Demand3
 pub mod ReadingLaws
 pub mod PackerLaws
+pub mod WalkLaws
 pub mod LoopLaws
 pub mod WriteLaws
 pub mod RoomLaws

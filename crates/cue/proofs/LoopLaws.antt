@@ -20,6 +20,7 @@ use Rattle.cue.specs.Summary.{Progress, none, some, summary, turnedBy}
 use Rattle.cue.specs.Inside.{advance, finished, onward, Planned, planned, planAnswer, Roomy}
 use Rattle.cue.specs.declared.packer.Packer.{Packer}
 use Rattle.cue.proofs.PackingLaws.{record-bytes-le}
+use Rattle.cue.proofs.WalkLaws.{records-next, records-end}
 use Rattle.cue.proofs.ReadingLaws.{Passing, passing}
 use Rattle.cue.proofs.PackerLaws.{Fine, Following, next, grown, output-append, output-one}
 
@@ -39,19 +40,12 @@ unfolding planned withRecord
 planned-more s x (refused n i) = refl
 planned-more s x (records xs) = ap Planned.packed (onward-next s x xs)
 
-ended : (fuel index : ℕ) → recordsFrom fuel index [] ≡ records []
-unfolding recordsFrom
-ended zero index = refl
-ended (suc fuel) index = refl
-
 -- past a good record, at a refused one, and at the end
 module _ (fuel index : ℕ) (s : Progress) where
   pub planned-next : (rest : List ℕ) → 0 < length rest → first (recordRefusals index rest) ≡ 0
       → planned s (recordsFrom (suc fuel) index rest)
       ≡ planned (advance s (recordStep rest)) (recordsFrom fuel (index + 1) (drop (recordBytes (recordKind rest)) rest))
-  unfolding recordsFrom
-  planned-next [] h e = absurd (omega arith)
-  planned-next (b ∷ bs) h e = rw e (planned-more s _ _)
+  planned-next rest h e = rw (records-next fuel index rest h e) (planned-more s _ _)
 
   pub planned-refused : (rest : List ℕ) → 0 < length rest → (first (recordRefusals index rest) ≡ 0 → ⊥)
       → planned s (recordsFrom (suc fuel) index rest) ≡ Planned.refused (first (recordRefusals index rest)) index
@@ -64,8 +58,8 @@ module _ (fuel index : ℕ) (s : Progress) where
       go (suc n) v h = refl
 
   pub planned-end : (rest : List ℕ) → length rest ≡ 0 → planned s (recordsFrom fuel index rest) ≡ Planned.packed (finished s)
-  unfolding recordsFrom planned
-  planned-end [] h = rw (ended fuel index, onward-end) refl
+  unfolding planned
+  planned-end [] h = rw (records-end fuel index, onward-end) refl
   planned-end (b ∷ bs) h = absurd (omega arith)
 
 -- What holds before a record: the packets so far, and the packer that follows them.

@@ -1,5 +1,5 @@
 -- Going through an accepted list, record by record.
-use Prim.Native.Nat.{ℕ, zero, suc, _+_, _-_, _≤_, _<_}
+use Prim.Native.Nat.{ℕ, _+_, _-_, _≤_, _<_}
 use mathlib.Core.Path.{_≡_, refl, sym, ap, _∙_}
 use mathlib.Core.List.{List, [], _∷_, _++_, append-assoc, append-nil}
 use native.Mathlib.Omega.{arith}
@@ -9,14 +9,14 @@ use Rattle.lbp16.specs.Answer.{Answer}
 use Rattle.lbp16.specs.Space.{storeBytes}
 use Rattle.lbp16.specs.declared.Refusal.{Refusal}
 use Rattle.packet.specs.Step.{Step, isWrite}
-use Rattle.packet.specs.Rules.{first}
 use Rattle.packet.specs.Command.{pickKind}
-use Rattle.cue.specs.Records.{Listed, refused, records, recordsOf, recordsFrom, recordRefusals, recordStep, recordKind, recordBytes, withRecord, listedAt}
+use Rattle.cue.specs.Records.{Listed, refused, records, recordsOf, recordStep, recordKind, recordBytes}
 use Rattle.cue.specs.Compile.{needed}
 use Rattle.cue.specs.Records.{recordAt, brief}
 use Rattle.cue.specs.declared.records.Record.{Record}
 use Rattle.cue.proofs.ReadingLaws.{passing}
 use Rattle.cue.proofs.PackingLaws.{record-bytes-le, space-again}
+use Rattle.cue.proofs.WalkLaws.{Remains, remains-all, remains-none, remains-next}
 use Rattle.independent.specs.Independent.{cellOf}
 use Rattle.independent.specs.Inside.{listRefusal, Accepted, Present, placeOf, placeBy}
 use Rattle.independent.proofs.PlaceLaws.{placed, place-inside}
@@ -24,61 +24,24 @@ use Rattle.independent.proofs.PlaceLaws.{placed, place-inside}
 -- Before the record with this index: the records done, and those that the rest of the list has.
 pub record Walk (list rest : List ℕ) (index : ℕ) (done : List Step) : Type 0 where
   pub todo : List Step
-  fuel : ℕ
-  enough : length rest ≤ fuel
-  rest-records : recordsFrom fuel index rest ≡ records todo
+  remains : Remains index rest todo
   pub list-records : recordsOf list ≡ records (done ++ todo)
   pub few : index ≤ 100000
 
 pub walk-first : (list : List ℕ) → (a : Accepted list) → Walk list list 0 []
-unfolding recordsOf
 walk-first list a =
     record {
       todo = a .xs;
-      fuel = length list;
-      enough = omega arith;
-      rest-records = a .list-records;
+      remains = remains-all list (a .xs) (a .list-records);
       list-records = a .list-records;
       few = omega arith;
     }
 
 -- at the list's end all records are done
-ended : (fuel index : ℕ) (rest : List ℕ) → length rest ≡ 0 → recordsFrom fuel index rest ≡ records []
-unfolding recordsFrom
-ended zero index rest l = refl
-ended (suc fuel) index [] l = refl
-ended (suc fuel) index (b ∷ bs) l = absurd (omega arith)
-
 pub walk-last : (list rest : List ℕ) (index : ℕ) (done : List Step) → Walk list rest index done → length rest ≡ 0
     → recordsOf list ≡ records done
 walk-last list rest index done w l =
-    let e = ended (w .fuel) index rest l in
-    let f = w .rest-records in
-    let n : [] ≡ w .todo = cc in
-    w .list-records ∙ ap records (ap (λ t. done ++ t) (sym n) ∙ append-nil done)
-
--- the first of the records that the rest has
-record Next (fuel index : ℕ) (rest : List ℕ) (todo : List Step) : Type 0 where
-  later : List Step
-  same : todo ≡ recordStep rest ∷ later
-  fine : first (recordRefusals index rest) ≡ 0
-  later-records : recordsFrom fuel (index + 1) (drop (recordBytes (recordKind rest)) rest) ≡ records later
-
-next : (fuel index : ℕ) (rest : List ℕ) (todo : List Step) → (length rest ≡ 0 → ⊥)
-    → recordsFrom (suc fuel) index rest ≡ records todo → Next fuel index rest todo
-unfolding recordsFrom withRecord
-next fuel index [] todo h e = absurd (h refl)
-next fuel index (b ∷ bs) todo h e = go _ _ refl refl e
-  where
-    rest : List ℕ
-    rest = b ∷ bs
-
-    go : (r : ℕ) (v : Listed) → first (recordRefusals index rest) ≡ r
-        → recordsFrom fuel (index + 1) (drop (recordBytes (recordKind rest)) rest) ≡ v
-        → listedAt r index (withRecord (recordStep rest) v) ≡ records todo → Next fuel index rest todo
-    go zero (refused m i) f g e = let z : _≡_ {A = ℕ} 0 1 = cc in absurd (omega arith)
-    go zero (records ys) f g e = record { later = ys; same = cc; fine = f; later-records = g }
-    go (suc r) v f g e = let z : _≡_ {A = ℕ} 0 1 = cc in absurd (omega arith)
+    w .list-records ∙ ap records (ap (λ t. done ++ t) (remains-none (w .remains) l) ∙ append-nil done)
 
 -- the place of a record that the code read
 place-brief : (x : Step) → placeBy (brief x) ≡ placeOf (cellOf x)
@@ -98,35 +61,27 @@ pub record Here (list rest : List ℕ) (index : ℕ) (done : List Step) : Type 0
 pub here : (list rest : List ℕ) (index : ℕ) (done : List Step) → Walk list rest index done → (length rest ≡ 0 → ⊥)
     → Here list rest index done
 unfolding recordStep brief
-here list rest index done w h = go (w .fuel) (w .enough) (w .rest-records)
-  where
-    x : Step
-    x = recordStep rest
-
-    go : (k : ℕ) → length rest ≤ k → recordsFrom k index rest ≡ records (w .todo) → Here list rest index done
-    go zero n e = absurd (h (omega arith))
-    go (suc k) n e =
-        let t = next k index rest (w .todo) h e in
-        let p = passing index rest (t .fine) in
-        let few = p .few in
-        let all : recordsOf list ≡ records (done ++ x ∷ t .later) = w .list-records ∙ ap (λ s. records (done ++ s)) (t .same) in
-        record {
-          cell = placed x (p .good) (p .plain) (p .wide) .cell;
-          place = rw (p .read) (place-brief x);
-          write = ap (λ (r : Record). r .write) (p .read);
-          whole = p .bytes;
-          later = t .later;
-          list-records = all;
-          walk =
-              record {
-                todo = t .later;
-                fuel = k;
-                enough = rw length-drop (omega (arith, record-bytes-le (recordKind rest)));
-                rest-records = t .later-records;
-                list-records = all ∙ ap records (sym (append-assoc done (x ∷ []) (t .later)));
-                few = omega (arith, w .few);
-              };
-        }
+here list rest index done w h =
+    let x = recordStep rest in
+    let t = remains-next (w .remains) h in
+    let p = passing index rest (t .fine) in
+    let few = p .few in
+    let all : recordsOf list ≡ records (done ++ x ∷ t .later) = w .list-records ∙ ap (λ s. records (done ++ s)) (t .same) in
+    record {
+      cell = placed x (p .good) (p .plain) (p .wide) .cell;
+      place = rw (p .read) (place-brief x);
+      write = ap (λ (r : Record). r .write) (p .read);
+      whole = p .bytes;
+      later = t .later;
+      list-records = all;
+      walk =
+          record {
+            todo = t .later;
+            remains = t .remains;
+            list-records = all ∙ ap records (sym (append-assoc done (x ∷ []) (t .later)));
+            few = omega (arith, w .few);
+          };
+    }
 
 -- one turn of a loop over the records, as the code makes it
 module _ (list rest : List ℕ) (index : ℕ) (done : List Step) (w : Walk list rest index done) (l : length rest ≡ 0 → ⊥)

@@ -64,15 +64,8 @@ unfolding packets closedFrom openAfter lastOf closes opens packets-from
 packets-are [] = refl
 packets-are (x ∷ xs) = packets-some _ xs
 
--- past a good record, at a refused one, and at the end
+-- past a good record, and at a refused one
 module _ (fuel index : ℕ) where
-  pub records-next : (rest : List ℕ) → 0 < length rest → first (recordRefusals index rest) ≡ 0
-      → recordsFrom (suc fuel) index rest
-      ≡ withRecord (recordStep rest) (recordsFrom fuel (index + 1) (drop (recordBytes (recordKind rest)) rest))
-  unfolding recordsFrom
-  records-next [] h e = absurd (omega arith)
-  records-next (b ∷ bs) h e = rw e refl
-
   pub good-next : (rest : List ℕ) → 0 < length rest → first (recordRefusals index rest) ≡ 0
       → goodFrom (suc fuel) index rest
       ≡ recordStep rest ∷ goodFrom fuel (index + 1) (drop (recordBytes (recordKind rest)) rest)
@@ -91,14 +84,6 @@ module _ (fuel index : ℕ) where
   unfolding goodFrom goodThen
   good-refused [] n h e = absurd (omega arith)
   good-refused (b ∷ bs) n h e = rw e refl
-
-  pub records-end : recordsFrom fuel index [] ≡ records []
-  unfolding recordsFrom
-  records-end = go fuel
-    where
-      go : (k : ℕ) → recordsFrom k index [] ≡ records []
-      go zero = refl
-      go (suc k) = refl
 
 -- the good records of a list that is not refused are all
 pub good-all : (fuel index : ℕ) (rest : List ℕ) (xs : List Step) → recordsFrom fuel index rest ≡ records xs

@@ -17,13 +17,14 @@ use Rattle.cue.specs.Packing.{Command, packets}
 use Rattle.cue.specs.Output.{outputOf}
 use Rattle.cue.specs.Compile.{outputBytes}
 use Rattle.cue.proofs.PackingLaws.{record-bytes-le}
+use Rattle.cue.proofs.WalkLaws.{records-next, records-end}
 use Rattle.cue.proofs.PackerLaws.{output-append}
 use Rattle.parts.specs.Taking.{State, Standing, going, ended, faulted, Taken, Stopped, decidedAt, byteTaken, recordTaken, faultedBy}
 use Rattle.parts.specs.Taking.{isGoing, goesOn, oneMore, bytesTaken, endTaken, partTaken, called, fresh}
 use Rattle.parts.specs.Rule.{Opened, none, closes, opens, lastOf, packingRule, closedFrom, openAfter, goodFrom, goodRecords}
 use Rattle.parts.proofs.FrontLaws.{Waiting, reaches, decided-number, decided-whole, cut-number, step-front, kind-front}
 use Rattle.parts.proofs.ListLaws.{withRecords, with-snoc, with-refused, with-records, closed-snoc, open-snoc, packets-are}
-use Rattle.parts.proofs.ListLaws.{records-next, good-next, records-refused, good-refused, records-end}
+use Rattle.parts.proofs.ListLaws.{good-next, records-refused, good-refused}
 
 -- The records `xs` are wholly taken and `left` is what follows the collected bytes; `css` are the packets handed out.
 pub record Before (list left : List ℕ) (s : State Opened) (css : List (List Command)) : Type 0 where

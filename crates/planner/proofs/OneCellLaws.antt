@@ -7,27 +7,23 @@ use native.Mathlib.Omega.{arith}
 use lib.ListN.{length, take, drop, replicate, length-drop}
 use lib.Seq.{take-all}
 use Rattle.packet.specs.Step.{Step, isWrite}
-use Rattle.packet.specs.Rules.{first}
-use Rattle.cue.specs.Records.{Listed, refused, records, recordsOf, recordsFrom}
-use Rattle.cue.specs.Records.{recordRefusals, recordStep, recordKind, recordBytes, withRecord, listedAt}
+use Rattle.cue.specs.Records.{recordStep, recordKind, recordBytes}
 use Rattle.cue.specs.Records.{recordAt, brief}
 use Rattle.cue.specs.declared.records.Record.{Record}
 use Rattle.cue.proofs.ReadingLaws.{passing}
+use Rattle.cue.proofs.WalkLaws.{Remains, remains-all, remains-none, Next, remains-next}
 use Rattle.planner.specs.Planner.{OneCell}
 
 -- `count` of n equal records are counted; the rest of the list has the others.
 record Left (rest : List ℕ) (count n : ℕ) (x : Step) : Type 0 where
   todo : ℕ
-  fuel : ℕ
   index : ℕ
   sum : count + todo ≡ n
-  enough : length rest ≤ fuel
-  rest-records : recordsFrom fuel index rest ≡ records (replicate todo x)
+  remains : Remains index rest (replicate todo x)
 
 left-first : (list : List ℕ) (n : ℕ) (x : Step) → OneCell list n x → Left list 0 n x
-unfolding recordsOf
 left-first list n x o =
-    record { todo = n; fuel = length list; index = 0; sum = omega arith; enough = omega arith; rest-records = o .list-records }
+    record { todo = n; index = 0; sum = omega arith; remains = remains-all list (replicate n x) (o .list-records) }
 
 -- the first record that is left, as the code reads it, and those behind it
 record Front (rest : List ℕ) (count n : ℕ) (x : Step) : Type 0 where
@@ -38,24 +34,19 @@ record Front (rest : List ℕ) (count n : ℕ) (x : Step) : Type 0 where
 
 front : (rest : List ℕ) (count n : ℕ) (x : Step) → isWrite (x .kind) ≡ false → (length rest ≡ 0 → ⊥) → Left rest count n x
     → Front rest count n x
-unfolding recordsFrom withRecord recordStep recordBytes
-front [] count n x reads h l = absurd (h refl)
-front (b ∷ bs) count n x reads h l = start (l .fuel) (l .enough) (l .rest-records)
+unfolding recordStep recordBytes
+front rest count n x reads h l = end (l .todo) (l .sum) (remains-next (l .remains) h)
   where
-    rest : List ℕ
-    rest = b ∷ bs
-
-    bytes : ℕ
-    bytes = recordBytes (recordKind rest)
-
-    end : (fuel m : ℕ) (ys : List Step) → length rest ≤ suc fuel → count + m ≡ n → first (recordRefusals (l .index) rest) ≡ 0
-        → recordsFrom fuel (l .index + 1) (drop bytes rest) ≡ records ys
-        → records (recordStep rest ∷ ys) ≡ records (replicate m x) → Front rest count n x
-    end fuel zero ys f s p g e = let z : _≡_ {A = ℕ} 0 1 = cc in absurd (omega arith)
-    end fuel (suc m) ys f s p g e =
+    end : (m : ℕ) → count + m ≡ n → Next (l .index) rest (replicate m x) → Front rest count n x
+    end zero s t =
+        let e : [] ≡ recordStep rest ∷ t .later = t .same in
+        let z : _≡_ {A = ℕ} 0 1 = cc in
+        absurd (omega arith)
+    end (suc m) s t =
+        let e : x ∷ replicate m x ≡ recordStep rest ∷ t .later = t .same in
         let same : recordStep rest ≡ x = cc in
-        let tail : ys ≡ replicate m x = cc in
-        let pass = passing (l .index) rest p in
+        let tail : t .later ≡ replicate m x = cc in
+        let pass = passing (l .index) rest (t .fine) in
         let kind : isWrite (recordKind rest) ≡ false = ap (λ (y : Step). isWrite (y .kind)) same ∙ reads in
         let six : recordBytes (recordKind rest) ≡ 6 = rw kind refl in
         let wide : recordBytes (recordKind rest) ≤ length rest = pass .bytes in
@@ -63,41 +54,15 @@ front (b ∷ bs) count n x reads h l = start (l .fuel) (l .enough) (l .rest-reco
           at = pass .read ∙ ap brief same;
           whole = omega arith;
           more = omega arith;
-          next =
-              record {
-                todo = m;
-                fuel = fuel;
-                index = l .index + 1;
-                sum = omega arith;
-                enough = rw length-drop (omega arith);
-                rest-records = rw six at g ∙ ap records tail;
-              };
+          next = record { todo = m; index = l .index + 1; sum = omega arith; remains = rw (six, tail) at (t .remains) };
         }
 
-    go : (fuel r : ℕ) (v : Listed) → length rest ≤ suc fuel → first (recordRefusals (l .index) rest) ≡ r
-        → recordsFrom fuel (l .index + 1) (drop bytes rest) ≡ v
-        → listedAt r (l .index) (withRecord (recordStep rest) v) ≡ records (replicate (l .todo) x) → Front rest count n x
-    go fuel zero (refused m i) f p g e = let z : _≡_ {A = ℕ} 0 1 = cc in absurd (omega arith)
-    go fuel zero (records ys) f p g e = end fuel (l .todo) ys f (l .sum) p g e
-    go fuel (suc r) v f p g e = let z : _≡_ {A = ℕ} 0 1 = cc in absurd (omega arith)
-
-    start : (fuel : ℕ) → length rest ≤ fuel → recordsFrom fuel (l .index) rest ≡ records (replicate (l .todo) x)
-        → Front rest count n x
-    start zero f e = absurd (omega arith)
-    start (suc fuel) f e = go fuel _ _ f refl refl e
-
 left-last : (rest : List ℕ) (count n : ℕ) (x : Step) → length rest ≡ 0 → Left rest count n x → count ≡ n
-unfolding recordsFrom
-left-last (b ∷ bs) count n x h l = absurd (omega arith)
-left-last [] count n x h l = go (l .fuel) (l .todo) (l .sum) (l .rest-records)
+left-last rest count n x h l = go (l .todo) (l .sum) (remains-none (l .remains) h)
   where
-    end : (m : ℕ) → count + m ≡ n → records [] ≡ records (replicate m x) → count ≡ n
-    end zero s e = omega arith
-    end (suc m) s e = let z : _≡_ {A = ℕ} 0 1 = cc in absurd (omega arith)
-
-    go : (fuel m : ℕ) → count + m ≡ n → recordsFrom fuel (l .index) [] ≡ records (replicate m x) → count ≡ n
-    go zero m s e = end m s e
-    go (suc fuel) m s e = end m s e
+    go : (m : ℕ) → count + m ≡ n → replicate m x ≡ [] → count ≡ n
+    go zero s e = omega arith
+    go (suc m) s e = let z : _≡_ {A = ℕ} 0 1 = cc in absurd (omega arith)
 
 -- the cell, as the code reads it from the list's first record
 pub cell-is : (list : List ℕ) (n : ℕ) (x : Step) → OneCell list n x → recordAt list ≡ brief x

@@ -19,6 +19,7 @@ use Rattle.cue.specs.Compile.{compiled}
 use Rattle.cue.specs.Compile
 use Rattle.cue.proofs.CompileLaws.{whole, accepted-exactly, compile-cases}
 use Rattle.cue.proofs.OwnBytesLaws.{same-kind, same-step, judged-alike, any-index}
+use Rattle.cue.proofs.WalkLaws.{records-next}
 use Rattle.salvage.specs.Salvage.{stands, sizeAt, Stretch, kept, skipped, skip, scan, scanFrom}
 use Rattle.salvage.specs.Salvage.{keptBytes, logFrom, output, logged}
 use Rattle.salvage.proofs.ScanLaws.{by-scan, scan-kept, stands-passes, stands-whole, size-some, bytesOf, joined, covered}
@@ -167,14 +168,7 @@ too-many : (rest : List ℕ) → first (recordRefusals mostRecords rest) ≡ 21
 unfolding recordRefusals first
 too-many rest = refl
 
--- one record of a list, and one too many
-record-next : (fuel index : ℕ) (rest : List ℕ) → 0 < length rest → first (recordRefusals index rest) ≡ 0
-    → recordsFrom (suc fuel) index rest
-    ≡ withRecord (recordStep rest) (recordsFrom fuel (index + 1) (drop (recordBytes (recordKind rest)) rest))
-unfolding recordsFrom
-record-next fuel index [] h e = absurd (omega arith)
-record-next fuel index (b ∷ bs) h e = rw e refl
-
+-- one record too many
 record-past : (fuel : ℕ) (rest : List ℕ) → 0 < length rest → recordsFrom (suc fuel) mostRecords rest ≡ refused 21 mostRecords
 unfolding recordsFrom
 record-past fuel [] h = absurd (omega arith)
@@ -198,7 +192,7 @@ unfolding sizeAt
 next-kept fuel index r x xs a n e =
     let some : 0 < length (r ++ x) = rw length-append (omega (arith, a .size, size-some r)) in
     let pass = any-index 0 index (r ++ x) n (stands-passes (r ++ x) (alone-stands r x a)) in
-    record-next fuel index (r ++ x) some pass
+    records-next fuel index (r ++ x) some pass
     ∙ rw (same-step r x (omega (arith, a .size)), alone-size r x a, drop-append-seam, e) (with-playable index (recordStep r) xs)
 
 past-kept : (fuel : ℕ) (r x : List ℕ) (xs : List Step) → Alone r
