@@ -1,26 +1,31 @@
 -- Laws of what the exports return and leave, over plain lists.
-use Prim.Native.Nat.{ℕ, suc, _+_, _≤_}
+use Prim.Native.Nat.{ℕ, zero, suc, _+_, _≤_}
 use mathlib.Core.Path.{_≡_, refl, ap, sym, _∙_}
-use mathlib.Core.Bool.{true, false}
+use mathlib.Core.Bool.{Bool, true, false}
 use mathlib.Core.List.{List, [], _∷_, append-nil}
 use native.Mathlib.Omega.{arith}
 use lib.ListN.{length, drop, set, drop-of-length-le}
 use lib.Seq.{sets, sets-eq}
+use lib.Dec.{eqb}
 use borrow.Author.Tests.{eq-eqb, ne-eqb}
 use Rattle.lbp16.specs.Answer.{Answer, refused}
+use Rattle.lbp16.specs.Pointer.{pointersOf}
 use Rattle.lbp16.specs.Word.{fieldsOf, written, listed}
 use Rattle.lbp16.specs.declared.word.Fields.{Fields}
 use Rattle.lbp16.specs.declared.word.Written.{Written}
 use Rattle.packet.specs.Verdict.{answerTo, verdictListed}
+use Rattle.packet.specs.Counts.{elementsMoved}
 use Rattle.packet.specs.declared.judge.Verdict.{Verdict}
-use Rattle.card.specs.Run.{checkedList, ListOutcome, runList, ranList}
+use Rattle.card.specs.Run.{checkedList, ListOutcome, asList, runList, ranList}
 use Rattle.card.specs.declared.run.RanList.{RanList}
-use Rattle.card.specs.Spi.{runBurst, burstListed, burstLeft}
+use Rattle.card.specs.Spi.{runBurst, burstListed, burstLeft, mostInBurst}
 use Rattle.card.specs.declared.spi.BurstAnswer.{BurstAnswer}
+use Rattle.card.proofs.RunLaws.{CheckRefused, RunRefused, refusals-listed}
+use Rattle.card.proofs.SpiLaws.{burst-refused-in-table}
 use Rattle.cue.specs.Compile.{compiled, compileListed, left}
 use Rattle.cue.specs.declared.CompileAnswer.{CompileAnswer}
 use Rattle.cue.proofs.CompileLaws.{RefusedList, refused-numbers}
-use Rattle.head.specs.Exports.{fieldsLeft, numberOf, valueOf, countOf, spiLeft, exportSpi, compileLeft, exportCompile, given, exportCheck, runLeft, exportRun, fieldBytes, fieldsFrom, exportFields, badFlags, exportWord}
+use Rattle.head.specs.Exports.{fieldsLeft, numberOf, valueOf, countOf, spiLeft, exportSpi, compileLeft, exportCompile, given, exportCheck, runLeft, exportRun, elementsGiven, fieldBytes, fieldsFrom, exportFields, badFlags, exportWord}
 
 -- stores to every place of a list leave the values stored
 pub stored-whole : (vs l : List ℕ) → length l ≡ length vs → sets l 0 vs ≡ vs
@@ -49,7 +54,41 @@ ran-left packet store pointers reply r number value store′ pointers′ reply�
     rw (v, n)
     (ap (λ (o : ListOutcome). runLeft (numberOf (o .answer)) (valueOf (o .answer)) (o .elements) (o .store) (o .pointers) (o .reply)) done)
 
--- the same of a check
+-- No refusal of a run has the number 0, so a run that returns 0 has done the packet's commands.
+run-never-zero : (packet store pointers reply : List ℕ) (n place : ℕ)
+    → runList packet store pointers reply .answer ≡ Answer.refused n place → n ≡ 0 → ⊥
+unfolding runList asList
+run-never-zero packet store pointers reply n place e z = by-count (eqb (length pointers) 8) refl
+  where
+    listed : RunRefused packet store (pointersOf pointers) reply n place → ⊥
+    listed (RunRefused.room h m k) = omega arith
+    listed (RunRefused.check h (CheckRefused.state b m k)) = omega arith
+    listed (RunRefused.check h (CheckRefused.long b l m k)) = omega arith
+    listed (RunRefused.check h (CheckRefused.command b l r)) = omega (arith, r .in-table .0)
+
+    by-count : (b : Bool) → eqb (length pointers) 8 ≡ b → ⊥
+    by-count true q = listed (refusals-listed packet store (pointersOf pointers) reply n place (rw q at e))
+    by-count false q = let m : 1 ≡ n = let f = rw q at e in cc in omega arith
+
+given-by-number : (packet : List ℕ) (a : Answer) (number elements : ℕ) → ((n place : ℕ) → a ≡ Answer.refused n place → n ≡ 0 → ⊥)
+    → number ≡ numberOf a → elements ≡ elementsMoved a packet → elements ≡ elementsGiven number packet
+unfolding numberOf elementsMoved elementsGiven
+given-by-number packet (Answer.accepted values) number elements never n e = rw n e
+given-by-number packet (Answer.refused zero place) number elements never n e = absurd (never zero place refl refl)
+given-by-number packet (Answer.refused (suc m) place) number elements never n e = rw n e
+
+-- the elements that a run's call answers
+pub run-elements : (packet store pointers reply : List ℕ) (r : RanList) (number : ℕ) (store′ pointers′ reply′ : List ℕ)
+    → ranList r store′ pointers′ reply′ ≡ runList packet store pointers reply
+    → number ≡ numberOf (verdictListed (r .answer))
+    → r .elements ≡ elementsMoved (verdictListed (r .answer)) packet
+    → r .elements ≡ elementsGiven number packet
+unfolding ranList
+run-elements packet store pointers reply r number store′ pointers′ reply′ done n e =
+    given-by-number packet (verdictListed (r .answer)) number (r .elements)
+    (λ m place q. run-never-zero packet store pointers reply m place (sym (ap (λ (o : ListOutcome). o .answer) done) ∙ q)) n e
+
+-- what a check's call leaves, from what the check answers
 pub check-left : (packet store pointers : List ℕ) (r : Verdict) (number value : ℕ)
     → verdictListed r ≡ answerTo (checkedList packet store pointers) → value ≡ valueOf (verdictListed r)
     → number ≡ numberOf (verdictListed r) → given number value ≡ exportCheck packet store pointers
@@ -66,7 +105,19 @@ unfolding burstLeft exportSpi
 spi-left words store room a number value store′ room′ e v n =
     rw (v, n) (ap (λ b. spiLeft (numberOf (b .answer)) (valueOf (b .answer)) (b .store) (b .room)) e)
 
--- the same of a compilation
+-- the value of a burst's call: the elements done, or the place, which is 0
+pub spi-bounded : (words store room : List ℕ) (a : BurstAnswer) (value : ℕ) (store′ room′ : List ℕ)
+    → burstLeft a store′ room′ ≡ runBurst words store room
+    → ((n : ℕ) → burstListed a ≡ Answer.accepted (n ∷ []) → n ≤ mostInBurst)
+    → value ≡ valueOf (burstListed a)
+    → value ≤ mostInBurst
+unfolding burstLeft burstListed valueOf
+spi-bounded words store room (BurstAnswer.Accepted n) value store′ room′ e h v = rw v (h n refl)
+spi-bounded words store room (BurstAnswer.Refused r) value store′ room′ e h v =
+    let p = burst-refused-in-table words store room (r .number) (r .place) (sym (ap (λ b. b .answer) e)) .at-start in
+    omega (arith, v)
+
+-- what a compilation's call leaves
 module _ (list room : List ℕ) (a : CompileAnswer) (number bytes packets : ℕ) (room′ : List ℕ) where
   pub compile-left : left a room′ ≡ compiled list room
       → bytes ≡ valueOf (compileListed a)

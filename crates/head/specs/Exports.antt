@@ -1,5 +1,5 @@
 -- What the C exports return and leave. The answers themselves are those of a packet, a burst and a command word.
-use Prim.Native.Nat.{ℕ}
+use Prim.Native.Nat.{ℕ, zero, suc}
 use mathlib.Core.List.{List, [], _∷_}
 use mathlib.Core.Bool.{Bool, not, _||_, cond}
 use lib.ListN.{length, getD}
@@ -8,6 +8,7 @@ use Rattle.lbp16.specs.Answer.{Answer, accepted, refused}
 use Rattle.lbp16.specs.Word.{fieldsOf, bit, written}
 use Rattle.lbp16.specs.declared.word.Fields.{Fields}
 use Rattle.packet.specs.Verdict.{answerTo}
+use Rattle.packet.specs.Counts.{countsOf, sum}
 use Rattle.card.specs.Run.{checkedList, runList}
 use Rattle.card.specs.Spi.{runBurst}
 use Rattle.cue.specs.Compile.{compiled}
@@ -90,6 +91,11 @@ unfoldable pub exportRun : List ℕ → List ℕ → List ℕ → List ℕ → R
 exportRun packet store pointers reply =
     let o = runList packet store pointers reply in
     runLeft (numberOf (o .answer)) (valueOf (o .answer)) (o .elements) (o .store) (o .pointers) (o .reply)
+
+-- How many elements head_run answers, by the number that it returns: the sum of the counts of the packet's commands for 0, else none.
+unfoldable pub elementsGiven : ℕ → List ℕ → ℕ
+elementsGiven zero packet = sum (countsOf packet)
+elementsGiven (suc n) packet = 0
 
 -- A word's fields as seven bytes: write, address, info, space, size, increment, count. A flag is 0 or 1.
 unfoldable pub fieldBytes : Fields → List ℕ

@@ -1,4 +1,4 @@
-use Rattle.head.proofs.ExportLaws.{ran-left}
+use Rattle.head.proofs.ExportLaws.{ran-left, run-elements}
 use borrow.Author.Needs.{needs}
 use Rattle.head.proofs.head_run.Statement.{statement}
 use Rattle.head.proofs.head_run.Tie as tie
@@ -22,7 +22,11 @@ same-length-3 : tie.Need-same-length-3
 same-length-3 c = search needs
 
 returns : tie.Need-returns
-returns c = ran-left _ _ _ _ _ _ _ _ _ _ (c .before .before .before .before .before .before .before .before .run-list .ensures .0) (c .before .verdict-value .ensures) (c .verdict-number .ensures)
+returns c =
+    let ran = c .before .before .before .before .before .before .before .before .run-list .ensures in (
+      ran-left _ _ _ _ _ _ _ _ _ _ (ran .0) (c .before .verdict-value .ensures) (c .verdict-number .ensures),
+      (run-elements _ _ _ _ _ _ _ _ _ (ran .0) (c .verdict-number .ensures) (ran .1 .0), ran .1 .1),
+    )
 
 pub head-run-spec : {M : Type 1} → statement M
 head-run-spec =

@@ -1,7 +1,7 @@
 use borrow.Author.Needs.{needs}
 use Rattle.head.proofs.head_spi.Statement.{statement}
 use Rattle.head.proofs.head_spi.Tie as tie
-use Rattle.head.proofs.ExportLaws.{spi-left}
+use Rattle.head.proofs.ExportLaws.{spi-left, spi-bounded}
 
 burst-requires : tie.Need-burst-requires
 burst-requires c κs = search needs
@@ -19,7 +19,11 @@ same-length-2 : tie.Need-same-length-2
 same-length-2 c = search needs
 
 returns : tie.Need-returns
-returns c = spi-left _ _ _ _ _ _ _ _ (c .before .before .before .before .before .before .burst .ensures .0) (c .before .burst-value .ensures) (c .burst-number .ensures)
+returns c =
+    let done = c .before .before .before .before .before .before .burst .ensures in (
+      spi-left _ _ _ _ _ _ _ _ (done .0) (c .before .burst-value .ensures) (c .burst-number .ensures),
+      spi-bounded _ _ _ _ _ _ _ (done .0) (done .1) (c .before .burst-value .ensures),
+    )
 
 pub head-spi-spec : {M : Type 1} → statement M
 head-spi-spec =
