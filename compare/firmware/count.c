@@ -1,25 +1,16 @@
-/* Counts the instructions of calls of the library on an emulated Cortex-M4. QEMU's -icount shift=0 makes an instruction a
- * nanosecond, and SysTick counts one for 40 of them, so each call is made often enough to lose that rounding. */
+/* Counts the instructions of some calls of the library. */
 #include <string.h>
 
 #include "head.h"
 #include "machine.h"
+#include "ticks.h"
 
 static uint8_t store[HEAD_STORE_BYTES], reply[HEAD_REPLY_BYTES], packet[HEAD_REPLY_BYTES];
+static uint8_t show[8 + 2 * HEAD_REPLY_BYTES], fields[HEAD_FIELDS];
 static uint32_t pointers[HEAD_POINTERS], words[128], answer[128];
 static uint64_t value, elements;
 static uint32_t length, refused;
 static int well;
-
-#define SYSTICK ((volatile uint32_t *)0xE000E010)
-
-static uint32_t count(void (*call)(void), uint32_t times)
-{
-    uint32_t before = SYSTICK[2];
-    for (uint32_t i = 0; i < times; i++)
-        call();
-    return (uint32_t)((uint64_t)((before - SYSTICK[2]) & 0xFFFFFF) * 40 / times);
-}
 
 static void report(const char *name, void (*call)(void), uint32_t times)
 {
@@ -39,6 +30,16 @@ static void run(void)
 static void check(void)
 {
     refused = head_check(packet, length, store, sizeof store, pointers, HEAD_POINTERS, &value);
+}
+
+static void why(void)
+{
+    refused = head_why(packet, length, store, sizeof store, pointers, HEAD_POINTERS, &value, &elements, fields, sizeof fields);
+}
+
+static void judge(void)
+{
+    refused = head_judge(show, sizeof show, store, sizeof store, pointers, HEAD_POINTERS, &value, &elements);
 }
 
 static void burst(void)
@@ -73,6 +74,17 @@ static void blocks(uint32_t word, uint32_t left, uint32_t data)
     }
 }
 
+/* A recording of the packet and its reply, which is the same at each run. */
+static void record(void)
+{
+    static const uint8_t mark[4] = {'L', 'B', HEAD_REPLY_BYTES & 0xFF, HEAD_REPLY_BYTES >> 8};
+    run();
+    memcpy(show, mark, 4);
+    memcpy(show + 4, packet, sizeof packet);
+    memcpy(show + 4 + sizeof packet, mark, 4);
+    memcpy(show + 8 + sizeof packet, reply, sizeof reply);
+}
+
 static void packets(void)
 {
     blocks(0x4280, 368, 0);
@@ -85,10 +97,19 @@ static void packets(void)
     }
     report("small368", run, 10);
     report("check368", check, 10);
-    for (length = 0; length < HEAD_REPLY_BYTES;)
-        put(0x2101);
-    report("info736", run, 10);
     report("memcpy1472", copy, 1000);
+}
+
+/* The packet that takes most: info reads of one element without an address. */
+static void longest(void)
+{
+    for (length = 0; length < HEAD_REPLY_BYTES;)
+        put(0x3D01);
+    report("info736", run, 10);
+    report("checkinfo736", check, 10);
+    report("whyinfo736", why, 10);
+    record();
+    report("judgeinfo736", judge, 10);
 }
 
 static void bursts(void)
@@ -103,10 +124,9 @@ int program(const uint8_t *file)
 {
     (void)file;
     well = 1;
-    SYSTICK[1] = 0xFFFFFF;
-    SYSTICK[2] = 0;
-    SYSTICK[0] = 5;
+    start_ticks();
     packets();
+    longest();
     bursts();
     return well;
 }
