@@ -1,3 +1,2 @@
--- Laws of the definitions in specs/, and of the loop over a log.
-pub mod LineLaws
+-- Laws of the definitions in specs/.
 pub mod AccountLaws

@@ -1,6 +1,5 @@
 -- What the salvaging program writes for the bytes that it is given.
-use Prim.Native.Nat.{ℕ}
-use mathlib.Core.Path.{_≡_}
+use Prim.Native.Nat.{ℕ, _*_}
 use mathlib.Core.List.{List, [], _∷_, _++_}
 use mathlib.Core.Bool.{Bool, _&&_, cond}
 use lib.ListN.{length, getD, take}
@@ -8,17 +7,15 @@ use lib.Seq.{sets}
 use lib.Dec.{eqb, ltb}
 use Rattle.text.specs.Number.{ascii}
 use Rattle.text.specs.Line.{pairLine, tooLongLine}
-use Rattle.salvage.specs.Salvage.{scan, keptCount, output, logged}
+use Rattle.salvage.specs.Salvage.{scan, keptCount, entries, output, logged}
 use Rattle.account.specs.declared.Request.{Request}
+use Rattle.account.specs.declared.Told.{Told}
 
 -- the most bytes that a list may have: those of a hundred thousand writes
 abbrev pub mostBytes : ℕ
 mostBytes = 1000000
 
--- the bytes of the room, and the numbers of the log
-abbrev pub roomBytes : ℕ
-roomBytes = 3715000
-
+-- the numbers of the log
 abbrev pub logNumbers : ℕ
 logNumbers = 285716
 
@@ -41,39 +38,44 @@ keptLine records bytes = pairLine (ascii "kept records ") records (ascii ", byte
 unfoldable pub accountOf : List ℕ → List ℕ
 accountOf list = linesOf (logged list) ++ keptLine (keptCount (scan list)) (length (output list))
 
--- All that the program's function answers and leaves: the text, and both rooms after it.
+-- all that the program writes: how it is used, the playable list, or the account
+unfoldable pub written : Request → List ℕ → List ℕ
+written Request.Usage list = usageLine
+written Request.List list = cond (ltb mostBytes (length list)) tooLongLine (output list)
+written Request.Log list = cond (ltb mostBytes (length list)) tooLongLine (accountOf list)
+
+-- What the program's function answers and leaves: what is to be written, and from which rooms.
 pub record Left : Type 0 where
-  pub text : List ℕ
+  pub told : Told
   pub room : List ℕ
   pub log : List ℕ
 
-unfoldable pub lineOnly : List ℕ → List ℕ → List ℕ → Left
-lineOnly line room log = record { text = line; room = sets room 0 line; log = log }
+abbrev pub leaves : Told → List ℕ → List ℕ → Left
+leaves told room log = record { told = told; room = room; log = log }
 
--- the playable list; or the account, which is put over it
-unfoldable pub fixed : List ℕ → List ℕ → List ℕ → Left
-fixed list room log =
-    record { text = output list; room = sets room 0 (output list); log = sets log 0 (logged list) }
+-- the playable list at the front of the room, and the stretches skipped at that of the log
+unfoldable pub saved : Told → List ℕ → List ℕ → List ℕ → Left
+saved told list room log = leaves told (sets room 0 (output list)) (sets log 0 (logged list))
 
-unfoldable pub accounted : List ℕ → List ℕ → List ℕ → Left
-accounted list room log =
-    record {
-      text = accountOf list;
-      room = sets (sets room 0 (output list)) 0 (accountOf list);
-      log = sets log 0 (logged list);
-    }
+unfoldable pub accountTold : List ℕ → Told
+accountTold list = Told.Account (entries list) (keptCount (scan list)) (length (output list))
 
 unfoldable pub answered : Request → List ℕ → List ℕ → List ℕ → Left
-answered Request.Usage list room log = lineOnly usageLine room log
-answered Request.List list room log = cond (ltb mostBytes (length list)) (lineOnly tooLongLine room log) (fixed list room log)
-answered Request.Log list room log = cond (ltb mostBytes (length list)) (lineOnly tooLongLine room log) (accounted list room log)
+answered Request.Usage list room log = leaves Told.Usage room log
+answered Request.List list room log =
+    cond (ltb mostBytes (length list)) (leaves Told.TooLong room log) (saved (Told.List (length (output list))) list room log)
+answered Request.Log list room log =
+    cond (ltb mostBytes (length list)) (leaves Told.TooLong room log) (saved (accountTold list) list room log)
 
--- The text stands at the front of the room, n bytes of it.
-pub record Said (left : Left) (room log : List ℕ) (n : ℕ) : Type 0 where
-  pub count : n ≡ length (left .text)
-  pub front : take n room ≡ left .text
-  pub room-left : room ≡ left .room
-  pub log-left : log ≡ left .log
+-- The text of it: an account's lines are those of the log's entries, one by one, and the last.
+unfoldable pub toldText : Left → List ℕ
+toldText l = textOf (l .told)
+  where
+    textOf : Told → List ℕ
+    textOf Told.Usage = usageLine
+    textOf Told.TooLong = tooLongLine
+    textOf (Told.List n) = take n (l .room)
+    textOf (Told.Account e records bytes) = linesOf (take (2 * e) (l .log)) ++ keptLine records bytes
 
 -- What is asked for: by no argument the list, by "--log" alone the account, by anything else how the program is used.
 unfoldable pub isLog : List ℕ → Bool

@@ -1,12 +1,12 @@
-// What the salvaging program writes: a playable list, or an account of what was skipped.
+// What the salvaging program writes: a playable list, or an account of what was skipped, a line at a time.
 use salvage::scan;
-use text::line;
+use salvage::scan::Counts;
 
-mod lines;
+pub mod lines;
 
 ghost use mathlib.Core.Path.{_≡_};
-ghost use Rattle.account.specs.Account.{answered, fixed, accounted, Said, isLog, requested, mostRead};
-ghost use Rattle.account.specs.Inside.{Taken};
+ghost use Rattle.account.specs.Account.{answered, leaves, isLog, requested, mostRead};
+ghost use Rattle.account.specs.Inside.{Taken, Saved};
 
 // The most bytes that a list may have.
 const MOST: usize = 1000000;
@@ -16,6 +16,18 @@ pub enum Request {
     List,
     Log,
     Usage,
+}
+
+// What is to be written: a line, so many bytes of the room, or a line for each entry of the log and one for what was kept.
+pub enum Told {
+    Usage,
+    TooLong,
+    List(usize),
+    Account {
+        entries: usize,
+        records: usize,
+        bytes: usize,
+    },
 }
 
 fn is_log(word: &[u8]) -> bool
@@ -55,50 +67,42 @@ pub fn most_read(request: Request) -> usize
     }
 }
 
-// The playable list.
-fn put_list(input: &[u8], room: &mut [u8], log: &mut [u64]) -> usize
+fn save(input: &[u8], room: &mut [u8], log: &mut [u64]) -> Counts
     requires { ⌜ Taken (now input) (now room) (now log) ⌝ }
-    ensures { λ r. ⌜ Said (fixed (now (input .entry)) (now (room .entry)) (now (log .entry))) (now (room .exit)) (now (log .exit)) r ⌝ }
+    ensures { λ r. ⌜ Saved (now (input .entry)) (now (room .entry)) (now (log .entry)) (now (room .exit)) (now (log .exit)) r ⌝ }
 {
     let counts = scan::count(input);
     salvage::salvage(input, room, log);
-    counts.bytes
+    counts
 }
 
-// The account, put over the playable list.
-fn put_account(input: &[u8], room: &mut [u8], log: &mut [u64]) -> usize
-    requires { ⌜ Taken (now input) (now room) (now log) ⌝ }
-    ensures { λ r. ⌜ Said (accounted (now (input .entry)) (now (room .entry)) (now (log .entry))) (now (room .exit)) (now (log .exit)) r ⌝ }
-{
-    let counts = scan::count(input);
-    salvage::salvage(input, room, log);
-    let numbers = 2 * counts.entries;
-    let at = lines::put_lines(room, &log[..numbers]);
-    lines::put_kept(room, at, counts.records as u64, counts.bytes as u64)
-}
-
-// The bytes to write stand at the front of the room; how many they are is answered.
 pub fn answer(
     request: Request,
     input: &[u8],
-    room: &mut [u8; 3715000],
+    room: &mut [u8; 1000000],
     log: &mut [u64; 285716],
-) -> usize
-    ensures { λ r. ⌜ Said (answered request (now (input .entry)) (now (room .entry)) (now (log .entry))) (now (room .exit)) (now (log .exit)) r ⌝ }
+) -> Told
+    ensures { λ r. ⌜ leaves r (now (room .exit)) (now (log .exit)) ≡ answered request (now (input .entry)) (now (room .entry)) (now (log .entry)) ⌝ }
 {
     match request {
-        Request::Usage => text::put(room, 0, b"usage: cuefix [--log] < LIST\n"),
+        Request::Usage => Told::Usage,
         Request::List => {
             if MOST < input.len() {
-                return line::too_long(room, 0);
+                return Told::TooLong;
             }
-            put_list(input, room, log)
+            let counts = save(input, room, log);
+            Told::List(counts.bytes)
         }
         Request::Log => {
             if MOST < input.len() {
-                return line::too_long(room, 0);
+                return Told::TooLong;
             }
-            put_account(input, room, log)
+            let counts = save(input, room, log);
+            Told::Account {
+                entries: counts.entries,
+                records: counts.records,
+                bytes: counts.bytes,
+            }
         }
     }
 }

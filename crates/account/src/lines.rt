@@ -1,30 +1,31 @@
-// The lines of an account.
+// The lines that the program writes, each at the front of a room that it fits.
 use text::line;
 ghost use mathlib.Core.Path.{_≡_};
-ghost use Rattle.text.specs.Room.{filled, putAt};
-ghost use Rattle.account.specs.Account.{skippedLine, keptLine, linesOf};
+ghost use Rattle.text.specs.Line.{tooLongLine};
+ghost use Rattle.text.specs.Room.{filled, textLeft};
+ghost use Rattle.account.specs.Account.{usageLine, skippedLine, keptLine};
 
-fn put_skipped(room: &mut [u8], at: usize, start: u64, n: u64) -> usize
-    ensures { λ r. ⌜ filled r (now (room .exit)) ≡ putAt (skippedLine start n) at (now (room .entry)) ⌝ }
+pub fn usage(room: &mut [u8; 64]) -> usize
+    ensures { λ r. ⌜ filled r (now (room .exit)) ≡ textLeft usageLine (now (room .entry)) ⌝ }
 {
-    line::pair(room, at, b"skipped ", n, b" at ", start)
+    text::put(room, 0, b"usage: cuefix [--log] < LIST\n")
 }
 
-pub(crate) fn put_kept(room: &mut [u8], at: usize, records: u64, bytes: u64) -> usize
-    ensures { λ r. ⌜ filled r (now (room .exit)) ≡ putAt (keptLine records bytes) at (now (room .entry)) ⌝ }
+pub fn too_long(room: &mut [u8; 64]) -> usize
+    ensures { λ r. ⌜ filled r (now (room .exit)) ≡ textLeft tooLongLine (now (room .entry)) ⌝ }
 {
-    line::pair(room, at, b"kept records ", records, b", bytes ", bytes)
+    line::too_long(room, 0)
 }
 
-// A line for each entry, from the room's start on.
-pub(crate) fn put_lines(room: &mut [u8], log: &[u64]) -> usize
-    ensures { λ r. ⌜ filled r (now (room .exit)) ≡ putAt (linesOf (now (log .entry))) 0 (now (room .entry)) ⌝ }
+// A stretch skipped: two numbers of the log.
+pub fn skipped(room: &mut [u8; 64], start: u64, n: u64) -> usize
+    ensures { λ r. ⌜ filled r (now (room .exit)) ≡ textLeft (skippedLine start n) (now (room .entry)) ⌝ }
 {
-    let mut rest = log;
-    let mut at: usize = 0;
-    while 2 <= rest.len() {
-        at = put_skipped(room, at, rest[0], rest[1]);
-        rest = &rest[2..];
-    }
-    at
+    line::pair(room, 0, b"skipped ", n, b" at ", start)
+}
+
+pub fn kept(room: &mut [u8; 64], records: u64, bytes: u64) -> usize
+    ensures { λ r. ⌜ filled r (now (room .exit)) ≡ textLeft (keptLine records bytes) (now (room .entry)) ⌝ }
+{
+    line::pair(room, 0, b"kept records ", records, b", bytes ", bytes)
 }

@@ -1,5 +1,7 @@
 // The salvaging program: a damaged cue list on standard input, a playable one, or an account, on standard output.
 use account::Request;
+use account::Told;
+use account::lines;
 use libc::STDIN_FILENO;
 use libc::STDOUT_FILENO;
 
@@ -11,35 +13,81 @@ fn take(request: Request, input: &mut [u8]) -> usize {
     io::read_full(STDIN_FILENO, &mut input[..most])
 }
 
-fn say(
+fn put(room: &[u8], n: usize) {
+    if n <= room.len() {
+        io::write_all(STDOUT_FILENO, &room[..n]);
+    }
+}
+
+// A line for each entry, written as it is made.
+fn put_skipped(log: &[u64], line: &mut [u8; 64]) {
+    let mut rest = log;
+    while 2 <= rest.len() {
+        let n = lines::skipped(line, rest[0], rest[1]);
+        put(line, n);
+        rest = &rest[2..];
+    }
+}
+
+fn put_kept(records: usize, bytes: usize, line: &mut [u8; 64]) {
+    let n = lines::kept(line, records as u64, bytes as u64);
+    put(line, n);
+}
+
+fn put_account(log: &[u64], entries: usize, records: usize, bytes: usize, line: &mut [u8; 64]) {
+    if entries <= log.len() / 2 {
+        put_skipped(&log[..2 * entries], line);
+    }
+    put_kept(records, bytes, line);
+}
+
+fn put_usage(line: &mut [u8; 64]) {
+    let n = lines::usage(line);
+    put(line, n);
+}
+
+fn put_too_long(line: &mut [u8; 64]) {
+    let n = lines::too_long(line);
+    put(line, n);
+}
+
+fn put_told(told: Told, room: &[u8], log: &[u64], line: &mut [u8; 64]) {
+    match told {
+        Told::Usage => put_usage(line),
+        Told::TooLong => put_too_long(line),
+        Told::List(n) => put(room, n),
+        Told::Account {
+            entries,
+            records,
+            bytes,
+        } => put_account(log, entries, records, bytes, line),
+    }
+}
+
+fn answer(
     request: Request,
     input: &[u8],
     taken: usize,
-    room: &mut [u8; 3715000],
+    room: &mut [u8; 1000000],
     log: &mut [u64; 285716],
-) -> usize {
+) -> Told {
     if input.len() < taken {
-        return 0;
+        return Told::TooLong;
     }
     account::answer(request, &input[..taken], room, log)
-}
-
-fn put(room: &[u8], said: usize) {
-    if said <= room.len() {
-        io::write_all(STDOUT_FILENO, &room[..said]);
-    }
 }
 
 // `input` has room for one byte more than a list may have, so that a longer one is noticed.
 fn serve(
     request: Request,
     input: &mut [u8; 1000001],
-    room: &mut [u8; 3715000],
+    room: &mut [u8; 1000000],
     log: &mut [u64; 285716],
+    line: &mut [u8; 64],
 ) {
     let taken = take(request, input);
-    let said = say(request, input, taken, room, log);
-    put(room, said);
+    let told = answer(request, input, taken, room, log);
+    put_told(told, room, log, line);
 }
 
 fn main() {
@@ -49,7 +97,8 @@ fn main() {
     serve(
         request,
         &mut [0; 1000001],
-        &mut [0; 3715000],
+        &mut [0; 1000000],
         &mut [0; 285716],
+        &mut [0; 64],
     );
 }

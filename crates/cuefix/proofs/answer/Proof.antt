@@ -2,8 +2,8 @@ use mathlib.Core.Path.{sym}
 use native.Mathlib.Omega.{arith}
 use lib.Seq.{length-take-le}
 use borrow.Author.Needs.{needs}
-use Rattle.cuefix.proofs.say.Statement.{statement}
-use Rattle.cuefix.proofs.say.Tie as tie
+use Rattle.cuefix.proofs.answer.Statement.{statement}
+use Rattle.cuefix.proofs.answer.Tie as tie
 
 returns : tie.Need-returns
 returns c = search needs
@@ -17,5 +17,5 @@ answer-requires c κs = search needs
 returns-2 : tie.Need-returns-2
 returns-2 c = search needs
 
-pub say-spec : {M : Type 1} → statement M
-say-spec = tie.close (tie.spec returns slice-aggregate-answer answer-requires returns-2)
+pub answer-spec : {M : Type 1} → statement M
+answer-spec = tie.close (tie.spec returns slice-aggregate-answer answer-requires returns-2)
