@@ -118,7 +118,8 @@ module _ (packet store list reply : List ℕ) where
     unfolding ranList asList outcome answerTo
     run-refused n place r a e z = go (eight-or-not (length list))
       where
-        by : (v : Verdict) → length list ≡ 8 → Answer.refused n place ≡ answerTo v → ranList r store list reply ≡ asList (outcome v store (pointersOf list) reply)
+        by : (v : Verdict) → length list ≡ 8 → Answer.refused n place ≡ answerTo v
+            → ranList r store list reply ≡ asList (outcome v store (pointersOf list) reply)
         by (refused m k) l e = rw (a, e, z, list-back list l) refl
         by (accepted c) l e = let z : _≡_ {A = ℕ} 0 1 = cc in absurd (omega arith)
 

@@ -20,7 +20,7 @@ use Rattle.packet.specs.Step.{Kind, read, write, infoRead, isInfo, rowBy, answe
 use Rattle.packet.specs.Step.{valuesRead}
 use Rattle.packet.proofs.ElementLaws.{write-kind, row-le, carried-write, answered-read}
 use Rattle.packet.proofs.InfoLaws.{source-whole}
-use Rattle.packet.specs.Command.{kindOf, rowOf, headerBytes, commandBytes, stride, elements, areaBytes}
+use Rattle.packet.specs.Command.{kindOf, rowOf, headerBytes, commandBytes, stride, areaBytes}
 use Rattle.packet.specs.Command.{handed, stepsAt}
 use Rattle.packet.proofs.CommandLaws.{Passed, stride-le}
 use Rattle.card.specs.Inside.{LetPass, Within, moved, laid, spanAt}

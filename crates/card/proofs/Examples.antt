@@ -14,7 +14,11 @@ use Rattle.card.specs.Spi.{Burst, runBurst}
 
 -- a burst on a store of zeros, with room full of ones
 pub sent : List ℕ → Burst
-unfolding Space.row Space.areaRow Bytes.number Bytes.bytesOf Step.isInfo Step.isWrite Step.rowBy Step.at Step.carried Step.answered Step.stored Step.source Step.after Step.seen Step.storeAfter Step.valuesRead Rules.first Rules.misaligned Rules.pastEnd Rules.anyStep Command.payload Command.elements Spi.headerOf Spi.otherCommand Spi.firstWord Spi.bytesOfWords Spi.wordsOfBytes Spi.burstKind Spi.burstSteps Spi.burstRefusals Spi.burstWords Spi.burstOutcome Spi.runBurst
+unfolding Space.row Space.areaRow Bytes.number Bytes.bytesOf Step.isInfo Step.isWrite Step.rowBy Step.at Step.carried
+    Step.answered Step.stored Step.source Step.after Step.seen Step.storeAfter Step.valuesRead Rules.first
+    Rules.misaligned Rules.pastEnd Rules.anyStep Command.payload Command.elements Spi.headerOf Spi.otherCommand
+    Spi.firstWord Spi.bytesOfWords Spi.wordsOfBytes Spi.burstKind Spi.burstSteps Spi.burstRefusals Spi.burstWords
+    Spi.burstOutcome Spi.runBurst
 sent words = runBurst words (replicate 65728 0) (replicate (length words) 1)
 
 -- a word missing on a read

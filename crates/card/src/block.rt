@@ -18,7 +18,8 @@ fn move_each(
     count: u32,
     wide: bool,
 )
-    requires { ⌜ («from_step» ≤ 4) × («to_step» ≤ 4) × Within count from «from_step» (cond wide 4 2) (length (now src)) × Within count to «to_step» (cond wide 4 2) (length (now dst)) ⌝ }
+    requires { ⌜ («from_step» ≤ 4) × («to_step» ≤ 4) × Within count from «from_step» (cond wide 4 2) (length (now src))
+        × Within count to «to_step» (cond wide 4 2) (length (now dst)) ⌝ }
     ensures { λ r. ⌜ now (dst .exit) ≡ moved count (cond wide 4 2) (now (src .entry)) from «from_step» (now (dst .entry)) to «to_step» ⌝ }
 {
     let mut n = count;
@@ -83,7 +84,8 @@ pub(crate) fn move_elements(
     count: u32,
     wide: bool,
 )
-    requires { ⌜ («from_step» ≤ 4) × («to_step» ≤ 4) × Within count from «from_step» (cond wide 4 2) (length (now src)) × Within count to «to_step» (cond wide 4 2) (length (now dst)) ⌝ }
+    requires { ⌜ («from_step» ≤ 4) × («to_step» ≤ 4) × Within count from «from_step» (cond wide 4 2) (length (now src))
+        × Within count to «to_step» (cond wide 4 2) (length (now dst)) ⌝ }
     ensures { λ r. ⌜ now (dst .exit) ≡ moved count (cond wide 4 2) (now (src .entry)) from «from_step» (now (dst .entry)) to «to_step» ⌝ }
 {
     if count == 0 {

@@ -59,8 +59,11 @@ fn span_of(f: Fields, r: Reach) -> Span
 
 // Elements of a read, from where they stand in `src` to the front of the reply's unused tail.
 fn read_span(s: Span, src: &[u8], tail: &mut [u8])
-    requires { ⌜ (s .step ≤ 4) × (s .element ≤ 4) × Within (s .count) (s .at) (s .step) (cond (eqb (s .element) 4) 4 2) (length (now src)) × Within (s .count) 0 (s .element) (cond (eqb (s .element) 4) 4 2) (length (now tail)) ⌝ }
-    ensures { λ r. ⌜ now (tail .exit) ≡ moved (s .count) (cond (eqb (s .element) 4) 4 2) (now (src .entry)) (s .at) (s .step) (now (tail .entry)) 0 (s .element) ⌝ }
+    requires { ⌜ (s .step ≤ 4) × (s .element ≤ 4)
+        × Within (s .count) (s .at) (s .step) (cond (eqb (s .element) 4) 4 2) (length (now src))
+        × Within (s .count) 0 (s .element) (cond (eqb (s .element) 4) 4 2) (length (now tail)) ⌝ }
+    ensures { λ r. ⌜ now (tail .exit)
+        ≡ moved (s .count) (cond (eqb (s .element) 4) 4 2) (now (src .entry)) (s .at) (s .step) (now (tail .entry)) 0 (s .element) ⌝ }
 {
     let wide = s.element == 4;
     if s.count == 1 {
@@ -72,8 +75,11 @@ fn read_span(s: Span, src: &[u8], tail: &mut [u8])
 
 // The elements of a read, from the store or from the info area, which shows the pointer as it stands before the command.
 fn read_command(rest: &[u8], pointers: &[u32], f: Fields, r: Reach, store: &[u8], tail: &mut [u8])
-    requires { ⌜ Ready (now pointers) f (now rest) r × (f .write ≡ false) × (length (now store) ≡ storeBytes) × (f .count * answered (kindOf f) (spaceOf (f .space)) ≤ length (now tail)) ⌝ }
-    ensures { λ q. ⌜ now (tail .exit) ≡ valuesRead (stepsAt (pointersOf (now (pointers .entry))) f (now (rest .entry))) (now (store .entry)) ++ drop (length (valuesRead (stepsAt (pointersOf (now (pointers .entry))) f (now (rest .entry))) (now (store .entry)))) (now (tail .entry)) ⌝ }
+    requires { ⌜ Ready (now pointers) f (now rest) r × (f .write ≡ false) × (length (now store) ≡ storeBytes)
+        × (f .count * answered (kindOf f) (spaceOf (f .space)) ≤ length (now tail)) ⌝ }
+    ensures { λ q. ⌜ now (tail .exit)
+        ≡ valuesRead (stepsAt (pointersOf (now (pointers .entry))) f (now (rest .entry))) (now (store .entry))
+        ++ drop (length (valuesRead (stepsAt (pointersOf (now (pointers .entry))) f (now (rest .entry))) (now (store .entry)))) (now (tail .entry)) ⌝ }
 {
     let s = span_of(f, r);
     if command::is_info(f) {
@@ -111,9 +117,11 @@ fn do_command(
     reply: &mut [u8],
     filled: usize,
 )
-    requires { ⌜ Ready (now pointers) f (now rest) r × (length (now store) ≡ storeBytes) × (filled + f .count * answered (kindOf f) (spaceOf (f .space)) ≤ length (now reply)) ⌝ }
+    requires { ⌜ Ready (now pointers) f (now rest) r × (length (now store) ≡ storeBytes)
+        × (filled + f .count * answered (kindOf f) (spaceOf (f .space)) ≤ length (now reply)) ⌝ }
     ensures { λ q. ⌜ now (store .exit) ≡ storeAfter (stepsAt (pointersOf (now (pointers .entry))) f (now (rest .entry))) (now (store .entry)) ⌝ }
-    ensures { λ q. ⌜ now (reply .exit) ≡ laid filled (valuesRead (stepsAt (pointersOf (now (pointers .entry))) f (now (rest .entry))) (now (store .entry))) (now (reply .entry)) ⌝ }
+    ensures { λ q. ⌜ now (reply .exit)
+        ≡ laid filled (valuesRead (stepsAt (pointersOf (now (pointers .entry))) f (now (rest .entry))) (now (store .entry))) (now (reply .entry)) ⌝ }
 {
     let which = refusal::which_of(0, f);
     match which {
@@ -137,8 +145,10 @@ fn summed(before: u64, count: u8) -> u64
 
 // Does all commands of a packet that the check accepted, and gives how many elements were moved. No rule is asked a second time.
 fn perform(packet: &[u8], store: &mut [u8], pointers: &mut [u32], reply: &mut [u8]) -> u64
-    requires { ⌜ IsAccepted (judge (pointersOf (now pointers)) (now packet)) × (length (now store) ≡ storeBytes) × (length (now pointers) ≡ 8) × (length (now reply) ≡ limit) ⌝ }
-    ensures { λ r. ⌜ Performed (now (packet .entry)) (now (store .entry)) (now (reply .entry)) (now (pointers .entry)) (now (store .exit)) (now (reply .exit)) (now (pointers .exit)) r ⌝ }
+    requires { ⌜ IsAccepted (judge (pointersOf (now pointers)) (now packet)) × (length (now store) ≡ storeBytes)
+        × (length (now pointers) ≡ 8) × (length (now reply) ≡ limit) ⌝ }
+    ensures { λ r. ⌜ Performed (now (packet .entry)) (now (store .entry)) (now (reply .entry)) (now (pointers .entry))
+        (now (store .exit)) (now (reply .exit)) (now (pointers .exit)) r ⌝ }
 {
     let mut filled: usize = 0;
     let mut elements: u64 = 0;
@@ -201,7 +211,8 @@ fn not_run(answer: Verdict) -> RanList
 // Runs one packet: the whole of it is checked, on the state that the run finds, before anything is done. The pointers are lent as a
 // list, as for a check.
 pub fn run_list(packet: &[u8], store: &mut [u8], list: &mut [u32], reply: &mut [u8]) -> RanList
-    ensures ran { λ r. ⌜ ranList r (now (store .exit)) (now (list .exit)) (now (reply .exit)) ≡ runList (now (packet .entry)) (now (store .entry)) (now (list .entry)) (now (reply .entry)) ⌝ }
+    ensures ran { λ r. ⌜ ranList r (now (store .exit)) (now (list .exit)) (now (reply .exit))
+        ≡ runList (now (packet .entry)) (now (store .entry)) (now (list .entry)) (now (reply .entry)) ⌝ }
     ensures summed { λ r. ⌜ r .elements ≡ elementsMoved (verdictListed (r .answer)) (now (packet .entry)) ⌝ }
     ensures bounded { λ r. ⌜ r .elements ≤ mostElements ⌝ }
 {

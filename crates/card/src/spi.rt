@@ -13,7 +13,8 @@ ghost use Rattle.lbp16.specs.Answer.{Answer};
 ghost use Rattle.lbp16.specs.Space.{registers, row, storeBytes};
 ghost use Rattle.lbp16.specs.Word.{bit};
 ghost use Rattle.packet.specs.Rules.{first, misaligned, pastEnd, anyStep};
-ghost use Rattle.card.specs.Spi.{headerOf, headerWritten, headerListed, otherCommand, firstWord, burstSteps, burstRefusals, runBurst, burstListed, burstLeft, mostInBurst};
+ghost use Rattle.card.specs.Spi.{headerOf, headerWritten, headerListed, otherCommand, firstWord, burstSteps};
+ghost use Rattle.card.specs.Spi.{burstRefusals, runBurst, burstListed, burstLeft, mostInBurst};
 ghost use Rattle.card.specs.Cells.{Cells, cells, filled};
 
 const READ: u8 = 0xA;

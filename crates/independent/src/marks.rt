@@ -98,7 +98,8 @@ pub(crate) fn mark(list: &[u8], marks: &mut [u8])
 // The first record of an accepted list that clashes with the records that left these marks.
 pub(crate) fn first_clash(list: &[u8], marks: &[u8]) -> Independence
     requires { ⌜ Accepted (now list) × (length (now marks) ≡ tableBytes) ⌝ }
-    ensures { λ r. ⌜ ((xs ys : List Step) → Marked xs (now (marks .entry)) → recordsOf (now (list .entry)) ≡ records ys → independenceListed r ≡ firstClash xs 0 ys) ⌝ }
+    ensures { λ r. ⌜ ((xs ys : List Step) → Marked xs (now (marks .entry)) → recordsOf (now (list .entry)) ≡ records ys
+        → independenceListed r ≡ firstClash xs 0 ys) ⌝ }
 {
     let mut rest = list;
     let mut index: u64 = 0;

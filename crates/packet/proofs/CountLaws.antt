@@ -1,13 +1,13 @@
 -- How many elements a packet can move. Each takes two bytes or more of packet or reply, and 127 of them a command word,
 -- which has two bytes.
-use Prim.Native.Nat.{ℕ, zero, suc, _+_, _*_, _%_, _≤_}
-use mathlib.Core.Path.{_≡_, refl, ap, sym, _∙_}
+use Prim.Native.Nat.{ℕ, zero, suc, _+_, _*_, _≤_}
+use mathlib.Core.Path.{_≡_, refl, ap, _∙_}
 use mathlib.Core.List.{List, [], _∷_}
 use mathlib.Core.Bool.{Bool, true, false, cond}
 use native.Mathlib.Omega.{arith}
-use native.Mathlib.Nat.{zero-add, zero-mul, mul-zero}
+use native.Mathlib.Nat.{zero-add, mul-zero}
 use lib.Dec.{ltb}
-use lib.ListN.{length, take, drop, length-append, length-drop}
+use lib.ListN.{length, take, length-append, length-drop}
 use Rattle.lbp16.specs.Space.{Space, registers, eeprom, status, information, absent, isAbsent, row, areaRow, infoRow, spaceOf}
 use Rattle.lbp16.specs.Word.{fieldsOf}
 use Rattle.lbp16.specs.declared.pointer.Pointers.{Pointers}
@@ -18,7 +18,7 @@ use Rattle.packet.specs.Command.{limit, fieldsAt, kindOf, headerBytes, c
 use Rattle.packet.specs.Judge.{Carried, begin, carry, judgeFrom, judge, accepted}
 use Rattle.packet.specs.Counts.{countsFrom, countsOf, sum}
 use Rattle.packet.proofs.StepLaws.{reply-append}
-use Rattle.packet.proofs.CommandLaws.{Passed, reply-of-command}
+use Rattle.packet.proofs.CommandLaws.{reply-of-command}
 use Rattle.packet.proofs.JudgeLaws.{accepted-past}
 use Rattle.packet.proofs.RefusalLaws.{all-passed, reaches-keeps, accepted-within}
 

@@ -17,7 +17,8 @@ use Rattle.lbp16.specs.declared.word.Fields.{Fields}
 use Rattle.lbp16.specs.declared.pointer.Pointers.{Pointers}
 use Rattle.packet.specs.Step.{unlocked, replyBytes, answered}
 use Rattle.packet.specs.Rules.{first}
-use Rattle.packet.specs.Command.{limit, fieldsAt, kindOf, headerBytes, commandBytes, stride, elements, refusals, whichOf, numberOf, Finding, found, whichListed, foundListed}
+use Rattle.packet.specs.Command.{limit, fieldsAt, kindOf, headerBytes, commandBytes, stride, elements, refusals}
+use Rattle.packet.specs.Command.{whichOf, numberOf, Finding, found, whichListed, foundListed}
 use Rattle.packet.specs.Reach.{reachFrom, reachAt, ForRegisters, JudgedAt}
 use Rattle.packet.specs.declared.command.Reach.{Reach}
 use Rattle.packet.specs.declared.command.Which.{Which}
@@ -225,19 +226,35 @@ module _ {list packet pointers : List ℕ} {open? : Bool} {reply : ℕ} {rest : 
     none = number-at rest (s .here) some ∙ passes _ _ _ _ _ pass
 
     next : (o : Bool)
-        → o ≡ unlocked open? (elements (kindOf (fieldsAt rest)) (spaceOf (fieldsAt rest .space)) (fieldsAt rest .count) (r .used) (stride (fieldsAt rest)) (drop (headerBytes (fieldsAt rest)) rest))
+        → o ≡ unlocked open?
+            (elements
+               (kindOf (fieldsAt rest))
+               (spaceOf (fieldsAt rest .space))
+               (fieldsAt rest .count)
+               (r .used)
+               (stride (fieldsAt rest))
+               (drop (headerBytes (fieldsAt rest)) rest))
         → commandAt g (length packet - length rest) rest .next
         ≡ record { pointers = pointersOf (set pointers (r .slot) (r .next)); unlocked = o; reply = reply + r .answered }
     unfolding reachFrom
     next o h =
         next-is rest (s .here) some none
         ∙ sym (progress-is g (fieldsAt rest) rest pass (r .used) (r .answered) _ o (ap (λ (t : Reach). t .used) e)
-        (rw (ap (λ (t : Reach). t .slot) e, ap (λ (t : Reach). t .next) e, ap (λ (t : Reach). t .used) e) (slot-written pointers (s .eight) _ _ _ (pass .present)))
+        (rw
+           (ap (λ (t : Reach). t .slot) e, ap (λ (t : Reach). t .next) e, ap (λ (t : Reach). t .used) e)
+           (slot-written pointers (s .eight) _ _ _ (pass .present)))
         h
         (ap (λ (t : Reach). t .answered) e))
 
     next-checked : (o : Bool)
-        → o ≡ unlocked open? (elements (kindOf (fieldsAt rest)) (spaceOf (fieldsAt rest .space)) (fieldsAt rest .count) (r .used) (stride (fieldsAt rest)) (drop (headerBytes (fieldsAt rest)) rest))
+        → o ≡ unlocked open?
+            (elements
+               (kindOf (fieldsAt rest))
+               (spaceOf (fieldsAt rest .space))
+               (fieldsAt rest .count)
+               (r .used)
+               (stride (fieldsAt rest))
+               (drop (headerBytes (fieldsAt rest)) rest))
         → Checked list packet pointers o reply rest r
     unfolding reachFrom commandAt found
     next-checked o h =
@@ -296,7 +313,14 @@ module _ {list packet pointers : List ℕ} {open? : Bool} {reply : ℕ} {rest : 
       checking-passed = rw fields-found (passed _ _ _ _ _ (bit-found .0))
 
       pub checking-next : (o : Bool)
-          → o ≡ unlocked open? (elements (kindOf (j .found .fields)) (spaceOf (j .found .fields .space)) (j .found .fields .count) (j .reach .used) (stride (j .found .fields)) (drop (headerBytes (j .found .fields)) rest))
+          → o ≡ unlocked open?
+              (elements
+                 (kindOf (j .found .fields))
+                 (spaceOf (j .found .fields .space))
+                 (j .found .fields .count)
+                 (j .reach .used)
+                 (stride (j .found .fields))
+                 (drop (headerBytes (j .found .fields)) rest))
           → Checked list packet pointers o reply rest (j .reach)
       checking-next o h =
           let pass = rw fields-found at checking-passed in

@@ -18,7 +18,8 @@ use Rattle.lbp16.proofs.PointerLaws.{slot-read}
 use Rattle.packet.specs.Bytes.{number}
 use Rattle.packet.specs.Step.{read, write, isInfo, rowBy, carried, answered}
 use Rattle.packet.specs.Rules.{Rule, first, misaligned, anyStep, barred}
-use Rattle.packet.specs.Command.{fieldsAt, kindOf, rowOf, headerBytes, commandBytes, addressUsed, stride, stepsAt, refusals, whichOf, found, whichListed, foundListed}
+use Rattle.packet.specs.Command.{fieldsAt, kindOf, rowOf, headerBytes, commandBytes, addressUsed, stride, stepsAt}
+use Rattle.packet.specs.Command.{refusals, whichOf, found, whichListed, foundListed}
 use Rattle.packet.specs.Reach.{reachFrom, reachAt, Ruled, JudgedAt, ForRegisters}
 use Rattle.packet.specs.declared.command.Reach.{Reach}
 use Rattle.packet.specs.declared.command.Which.{Which}

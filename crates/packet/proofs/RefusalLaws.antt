@@ -12,7 +12,7 @@ use Rattle.lbp16.specs.Pointer.{pointerOf}
 use Rattle.lbp16.specs.declared.word.Fields.{Fields}
 use Rattle.lbp16.specs.declared.pointer.Pointers.{Pointers}
 use Rattle.lbp16.proofs.PointerLaws.{with-pointer-other}
-use Rattle.packet.specs.Step.{Kind, read, write, infoRead, Step, isInfo, unlocked, replyBytes}
+use Rattle.packet.specs.Step.{Kind, Step, isInfo, unlocked, replyBytes}
 use Rattle.packet.specs.Rules.{Rule, first, anyStep, pastEnd}
 use Rattle.packet.specs.Command.{limit, fieldsAt, kindOf, headerBytes, commandBytes, elements, stepsAt}
 use Rattle.packet.specs.Command.{refusals, whichOf, found, pointersAfter}

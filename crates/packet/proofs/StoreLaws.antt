@@ -14,7 +14,8 @@ use borrow.Author.Tests.{ltb-false}
 use Rattle.lbp16.specs.Space.{Space, infoRow, areaRow, storeBytes}
 use Rattle.lbp16.proofs.BoolLaws.{or-false}
 use Rattle.lbp16.proofs.SpaceLaws.{row-end}
-use Rattle.packet.specs.Step.{Kind, read, write, infoRead, Step, isInfo, isWrite, rowBy, at, source, stored, answered, after, seen, storeAfter, valuesRead}
+use Rattle.packet.specs.Step.{Kind, read, write, infoRead, Step, isInfo, isWrite, rowBy, at, source, stored}
+use Rattle.packet.specs.Step.{answered, after, seen, storeAfter, valuesRead}
 use Rattle.packet.specs.Step.{replyBytes}
 use Rattle.packet.specs.Rules.{pastEnd, anyStep}
 

@@ -235,7 +235,8 @@ pub(crate) fn reach_by(f: Fields, row: Row, slot: usize, used: u32) -> Reach
 
 // The command at the front, on eight pointers that stand one after the other.
 pub fn next_command(rest: &[u8], pointers: &[u32]) -> Command
-    ensures { λ r. ⌜ (r .fields ≡ fieldsAt (now (rest .entry))) × (r .reach ≡ reachAt (pointersOf (now (pointers .entry))) (fieldsAt (now (rest .entry))) (now (rest .entry))) ⌝ }
+    ensures { λ r. ⌜ (r .fields ≡ fieldsAt (now (rest .entry)))
+        × (r .reach ≡ reachAt (pointersOf (now (pointers .entry))) (fieldsAt (now (rest .entry))) (now (rest .entry))) ⌝ }
 {
     let word = word_at(rest);
     let fields = word::fields_of(word);

@@ -49,7 +49,8 @@ pub fn refused(number: u32, place: usize) -> Verdict
 // The reply length, or the refusal of the earliest command that is refused, on pointers that are lent as a list. Another count of
 // them than eight is refused with 1.
 pub fn judge_list(packet: &[u8], list: &[u32]) -> Verdict
-    ensures { λ r. ⌜ verdictListed r ≡ answerTo (cond (eqb (length (now (list .entry))) 8) (judge (pointersOf (now (list .entry))) (now (packet .entry))) (refused 1 0)) ⌝ }
+    ensures { λ r. ⌜ verdictListed r
+        ≡ answerTo (cond (eqb (length (now (list .entry))) 8) (judge (pointersOf (now (list .entry))) (now (packet .entry))) (refused 1 0)) ⌝ }
 {
     if list.len() != 8 {
         return refused(1, 0);

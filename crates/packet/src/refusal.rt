@@ -21,7 +21,8 @@ ghost use Rattle.lbp16.specs.Pointer.{pointersOf};
 ghost use Rattle.lbp16.specs.declared.pointer.Pointers.{Pointers};
 ghost use Rattle.packet.specs.Bytes.{number};
 ghost use Rattle.packet.specs.Rules.{first, anyStep, barred};
-ghost use Rattle.packet.specs.Command.{limit, fieldsAt, kindOf, rowOf, headerBytes, addressUsed, stepsAt, outOfPlace, refusals, whichOf, found, whichListed, foundListed};
+ghost use Rattle.packet.specs.Command.{limit, fieldsAt, kindOf, rowOf, headerBytes, addressUsed, stepsAt};
+ghost use Rattle.packet.specs.Command.{outOfPlace, refusals, whichOf, found, whichListed, foundListed};
 ghost use Rattle.packet.specs.Reach.{reachAt, ForRegisters, Ruled, JudgedAt};
 
 // A command's number, 0 if no rule refuses it, and then its reach.
@@ -206,7 +207,8 @@ pub fn which_of(number: u32, f: Fields) -> Which
 
 // What is found at a command, by what is ruled of it.
 fn judged_by(f: Fields, place: usize, ruling: Ruling) -> Judged
-    ensures { λ r. ⌜ ((p : Pointers) (unlocked : Bool) (reply : ℕ) (rest : List ℕ) → f ≡ fieldsAt rest → Ruled p unlocked reply f rest ruling → JudgedAt p unlocked reply place rest r) ⌝ }
+    ensures { λ r. ⌜ ((p : Pointers) (unlocked : Bool) (reply : ℕ) (rest : List ℕ) → f ≡ fieldsAt rest
+        → Ruled p unlocked reply f rest ruling → JudgedAt p unlocked reply place rest r) ⌝ }
 {
     let found = Found {
         fields: f,

@@ -1,24 +1,23 @@
 -- The bytes before a refused command are an accepted packet: a command sees no byte past its own.
-use Prim.Native.Nat.{ℕ, zero, suc, _+_, _*_, _≤_, _<_}
+use Prim.Native.Nat.{ℕ, zero, suc, _+_, _*_, _≤_}
 use mathlib.Core.Path.{_≡_, refl, sym, ap, _∙_}
-use mathlib.Core.List.{List, [], _∷_, _++_, append-assoc}
+use mathlib.Core.List.{List, [], _++_, append-assoc}
 use mathlib.Core.Bool.{Bool, true, false, cond}
 use native.Mathlib.Omega.{arith}
-use native.Mathlib.Nat.{suc-mul, zero-mul}
+use native.Mathlib.Nat.{suc-mul}
 use borrow.Author.Tests.{le-ltb}
 use lib.ListN.{length, take, drop, length-append, length-drop, take-append-drop}
 use lib.Seq.{take-append-le, drop-append-le, take-at, drop-at, length-take-le}
 use Rattle.lbp16.specs.Space.{Space, spaceOf}
 use Rattle.lbp16.specs.Word.{fieldsOf}
-use Rattle.lbp16.specs.Pointer.{pointerOf}
 use Rattle.lbp16.specs.declared.word.Fields.{Fields}
 use Rattle.lbp16.specs.declared.pointer.Pointers.{Pointers}
 use Rattle.packet.specs.Bytes.{number}
 use Rattle.packet.specs.Step.{Kind, read, write, infoRead, isInfo, carried}
 use Rattle.packet.specs.Command.{fieldsAt, kindOf, headerBytes, commandBytes, addressUsed, payload, elements, handed, stepsAt}
 use Rattle.packet.specs.Command.{stride}
-use Rattle.packet.specs.Command.{pointersAfter, areaBytes}
-use Rattle.packet.specs.Judge.{Carried, Verdict, refused, accepted, begin, carry, judgeFrom, judge}
+use Rattle.packet.specs.Command.{pointersAfter}
+use Rattle.packet.specs.Judge.{Carried, refused, accepted, begin, carry, judgeFrom, judge}
 use Rattle.packet.proofs.CommandLaws.{Passed}
 use Rattle.packet.proofs.JudgeLaws.{PassedNext, judged-end, judged-past}
 use Rattle.packet.proofs.RefusalLaws.{Reaches, here, past, behind, RefusedAt, refused-in-table}

@@ -1,5 +1,5 @@
 -- The walk over a packet's commands, up to the one that the check refuses: where it stands between two of them.
-use Prim.Native.Nat.{ℕ, zero, suc, _+_, _*_, _-_, _≤_, _<_, min}
+use Prim.Native.Nat.{ℕ, zero, suc, _+_, _*_, _-_, _≤_, _<_}
 use mathlib.Core.Path.{_≡_, refl, sym, ap, _∙_}
 use mathlib.Core.List.{List}
 use native.Mathlib.Omega.{arith}
@@ -9,7 +9,7 @@ use Rattle.lbp16.specs.Space.{spaceOf}
 use Rattle.lbp16.specs.Pointer.{advanced, withPointer}
 use Rattle.lbp16.specs.declared.pointer.Pointers.{Pointers}
 use Rattle.packet.specs.Step.{isInfo}
-use Rattle.packet.specs.Command.{fieldsAt, kindOf, commandBytes, addressUsed, stride, pointersAfter}
+use Rattle.packet.specs.Command.{fieldsAt, kindOf, commandBytes, stride, pointersAfter}
 use Rattle.packet.specs.Judge.{Carried, refused, begin, carry, judge}
 use Rattle.packet.proofs.CommandLaws.{advanced-used}
 use Rattle.packet.proofs.JudgeLaws.{PassedNext}

@@ -29,7 +29,10 @@ add-result c = search needs
 
 returns : tie.Need-returns
 unfolding number
-returns c = let a = c .before .before .before .before .before .args in omega (arith, number-next 1 (now (a .s)) (a .at) (omega arith), number-from 0 (now (a .s)) (a .at) 1 (omega arith))
+returns c =
+    let at-args = c .before .before .before .before .before in
+    let a = at-args .args in
+    omega (arith, number-next 1 (now (a .s)) (a .at) (omega arith), number-from 0 (now (a .s)) (a .at) 1 (omega arith))
 
 pub fetch2-spec : {M : Type 1} → statement M
 fetch2-spec =

@@ -59,7 +59,15 @@ add-result-3 c = search needs
 
 returns : tie.Need-returns
 unfolding number
-returns c = let a = c .before .before .before .before .before .before .before .before .before .args in omega (arith, number-next 3 (now (a .s)) (a .at) (omega arith), number-from 2 (now (a .s)) (a .at) 1 (omega arith), number-from 1 (now (a .s)) (a .at) 2 (omega arith), number-from 0 (now (a .s)) (a .at) 3 (omega arith))
+returns c =
+    let at-args = c .before .before .before .before .before .before .before .before .before in
+    let a = at-args .args in
+    omega
+      (arith,
+       number-next 3 (now (a .s)) (a .at) (omega arith),
+       number-from 2 (now (a .s)) (a .at) 1 (omega arith),
+       number-from 1 (now (a .s)) (a .at) 2 (omega arith),
+       number-from 0 (now (a .s)) (a .at) 3 (omega arith))
 
 pub fetch4-spec : {M : Type 1} → statement M
 fetch4-spec =

@@ -21,13 +21,43 @@ same-length : tie.Need-same-length
 same-length c = search needs
 
 returns : tie.Need-returns
-returns c = let start = c .before .before .before .before .before .before .before .before in rw (c .before .before .before .before .before .if1 .taken) (moved 4 (now (start .args .src)) (now (start .args .dst)) _ (start .args .i) (start .args .j) _ (rw (c .before .before .before .before .before .if1 .taken) at (start .pre .0)) (λ k l. omega (arith, c .before .before .before .before .before .before .before .shared-slice-known .given k)) (c .before .before .before .fetch4 .ensures) (c .before .before .store4 .ensures))
+returns c =
+    let at-fetch4 = c .before .before .before in
+    let at-if1 = at-fetch4 .before .before in
+    let at-shared-slice-known = at-if1 .before .before in
+    let at-args = at-shared-slice-known .before in
+    rw
+      (at-if1 .if1 .taken)
+      (moved 4
+         (now (at-args .args .src))
+         (now (at-args .args .dst)) _
+         (at-args .args .i)
+         (at-args .args .j) _
+         (rw (at-if1 .if1 .taken) at (at-args .pre .0))
+         (λ k l. omega (arith, at-shared-slice-known .shared-slice-known .given k))
+         (at-fetch4 .fetch4 .ensures)
+         (c .before .before .store4 .ensures))
 
 same-length-2 : tie.Need-same-length-2
 same-length-2 c = search needs
 
 returns-2 : tie.Need-returns-2
-returns-2 c = let start = c .before .before .before .before .before .before .before .before in rw (c .before .before .before .before .before .if1 .left) (moved 2 (now (start .args .src)) (now (start .args .dst)) _ (start .args .i) (start .args .j) _ (rw (c .before .before .before .before .before .if1 .left) at (start .pre .0)) (λ k l. omega (arith, c .before .before .before .before .before .before .before .shared-slice-known .given k)) (c .before .before .before .fetch2 .ensures) (c .before .before .store2 .ensures))
+returns-2 c =
+    let at-fetch2 = c .before .before .before in
+    let at-if1 = at-fetch2 .before .before in
+    let at-shared-slice-known = at-if1 .before .before in
+    let at-args = at-shared-slice-known .before in
+    rw
+      (at-if1 .if1 .left)
+      (moved 2
+         (now (at-args .args .src))
+         (now (at-args .args .dst)) _
+         (at-args .args .i)
+         (at-args .args .j) _
+         (rw (at-if1 .if1 .left) at (at-args .pre .0))
+         (λ k l. omega (arith, at-shared-slice-known .shared-slice-known .given k))
+         (at-fetch2 .fetch2 .ensures)
+         (c .before .before .store2 .ensures))
 
 pub move-element-spec : {M : Type 1} → statement M
 move-element-spec =

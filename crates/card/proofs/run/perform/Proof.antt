@@ -21,36 +21,120 @@ next-command-requires : tie.Need-next-command-requires Inv-loop μ-loop
 next-command-requires c κs = search needs
 
 do-command-requires : tie.Need-do-command-requires Inv-loop μ-loop
-do-command-requires c κs = let n = next (c .before .before .before .before .before .before .before .before .loop .inv) (c .before .before .before .before .before .before .before .loop-test .taken) _ _ (c .before .before .before .before .before .next-command .ensures .0) (c .before .before .before .before .before .next-command .ensures .1) in (n .ready, n .store-bytes, n .room)
+do-command-requires c κs =
+    let at-next-command = c .before .before .before .before .before in
+    let at-loop-test = at-next-command .before .before in
+    let at-loop = at-loop-test .before in
+    let n =
+        next
+          (at-loop .loop .inv)
+          (at-loop-test .loop-test .taken) _ _
+          (at-next-command .next-command .ensures .0)
+          (at-next-command .next-command .ensures .1) in
+    (n .ready, n .store-bytes, n .room)
 
 mul-pointers : tie.Need-mul-pointers Inv-loop μ-loop
-mul-pointers c = let n = next (c .before .before .before .before .before .before .before .before .before .before .before .before .before .loop .inv) (c .before .before .before .before .before .before .before .before .before .before .before .before .loop-test .taken) _ _ (c .before .before .before .before .before .before .before .before .before .before .next-command .ensures .0) (c .before .before .before .before .before .before .before .before .before .before .next-command .ensures .1) in let h = n .slot in let e = c .before .before .before .before .before .before .before .before .before .before .before .before .before .loop .inv .eight in omega arith
+mul-pointers c =
+    let at-next-command = c .before .before .before .before .before .before .before .before .before .before in
+    let at-loop-test = at-next-command .before .before in
+    let at-loop = at-loop-test .before in
+    let n =
+        next
+          (at-loop .loop .inv)
+          (at-loop-test .loop-test .taken) _ _
+          (at-next-command .next-command .ensures .0)
+          (at-next-command .next-command .ensures .1) in
+    let h = n .slot in let e = at-loop .loop .inv .eight in omega arith
 
 slice-write-pointers : tie.Need-slice-write-pointers Inv-loop μ-loop
-slice-write-pointers c = next (c .before .before .before .before .before .before .before .before .before .before .before .before .before .loop .inv) (c .before .before .before .before .before .before .before .before .before .before .before .before .loop-test .taken) _ _ (c .before .before .before .before .before .before .before .before .before .before .next-command .ensures .0) (c .before .before .before .before .before .before .before .before .before .before .next-command .ensures .1) .slot
+slice-write-pointers c =
+    let at-next-command = c .before .before .before .before .before .before .before .before .before .before in
+    let at-loop-test = at-next-command .before .before in
+    let at-loop = at-loop-test .before in
+    next
+      (at-loop .loop .inv)
+      (at-loop-test .loop-test .taken) _ _
+      (at-next-command .next-command .ensures .0)
+      (at-next-command .next-command .ensures .1) .slot
 
 add-filled : tie.Need-add-filled Inv-loop μ-loop
-add-filled c = let h = next (c .before .before .before .before .before .before .before .before .before .before .before .before .before .before .loop .inv) (c .before .before .before .before .before .before .before .before .before .before .before .before .before .loop-test .taken) _ _ (c .before .before .before .before .before .before .before .before .before .before .before .next-command .ensures .0) (c .before .before .before .before .before .before .before .before .before .before .before .next-command .ensures .1) .answers in omega arith
+add-filled c =
+    let at-next-command = c .before .before .before .before .before .before .before .before .before .before .before in
+    let at-loop-test = at-next-command .before .before in
+    let at-loop = at-loop-test .before in
+    let h =
+        next
+          (at-loop .loop .inv)
+          (at-loop-test .loop-test .taken) _ _
+          (at-next-command .next-command .ensures .0)
+          (at-next-command .next-command .ensures .1) .answers in
+    omega arith
 
 summed-requires : tie.Need-summed-requires Inv-loop μ-loop
-summed-requires c κs = let h = count-small (c .before .before .before .before .before .before .before .before .before .before .before .before .before .before .loop .inv) (c .before .before .before .before .before .before .before .before .before .before .before .before .before .loop-test .taken) _ _ (c .before .before .before .before .before .before .before .before .before .before .before .next-command .ensures .0) (c .before .before .before .before .before .before .before .before .before .before .before .next-command .ensures .1) in omega (arith, c .before .before .before .before .before .before .before .before .before .before .before .before .before .before .before .before .before .before .before .good)
+summed-requires c κs =
+    let at-next-command = c .before .before .before .before .before .before .before .before .before .before .before in
+    let at-loop-test = at-next-command .before .before in
+    let at-loop = at-loop-test .before in
+    let at-good = at-loop .before .before .before .before .before in
+    let h =
+        count-small
+          (at-loop .loop .inv)
+          (at-loop-test .loop-test .taken) _ _
+          (at-next-command .next-command .ensures .0)
+          (at-next-command .next-command .ensures .1) in
+    omega (arith, at-good .good)
 
 sub-rest : tie.Need-sub-rest Inv-loop μ-loop
-sub-rest c = turn (c .before .before .before .before .before .before .before .before .before .before .before .before .before .before .before .loop .inv) (c .before .before .before .before .before .before .before .before .before .before .before .before .before .before .loop-test .taken) _ _ (c .before .before .before .before .before .before .before .before .before .before .before .before .next-command .ensures .0) (c .before .before .before .before .before .before .before .before .before .before .before .before .next-command .ensures .1) .whole
+sub-rest c =
+    let at-next-command = c .before .before .before .before .before .before .before .before .before .before .before .before in
+    let at-loop-test = at-next-command .before .before in
+    let at-loop = at-loop-test .before in
+    turn
+      (at-loop .loop .inv)
+      (at-loop-test .loop-test .taken) _ _
+      (at-next-command .next-command .ensures .0)
+      (at-next-command .next-command .ensures .1) .whole
 
 part-rest-start : tie.Need-part-rest-start Inv-loop μ-loop
-part-rest-start c = turn (c .before .before .before .before .before .before .before .before .before .before .before .before .before .before .before .loop .inv) (c .before .before .before .before .before .before .before .before .before .before .before .before .before .before .loop-test .taken) _ _ (c .before .before .before .before .before .before .before .before .before .before .before .before .next-command .ensures .0) (c .before .before .before .before .before .before .before .before .before .before .before .before .next-command .ensures .1) .whole
+part-rest-start c =
+    let at-next-command = c .before .before .before .before .before .before .before .before .before .before .before .before in
+    let at-loop-test = at-next-command .before .before in
+    let at-loop = at-loop-test .before in
+    turn
+      (at-loop .loop .inv)
+      (at-loop-test .loop-test .taken) _ _
+      (at-next-command .next-command .ensures .0)
+      (at-next-command .next-command .ensures .1) .whole
 
 part-rest-end : tie.Need-part-rest-end Inv-loop μ-loop
 part-rest-end c = search needs
 
 loop-less : tie.Need-loop-less Inv-loop μ-loop
-loop-less c = let t = turn (c .before .before .before .before .before .before .before .before .before .before .before .before .before .before .before .before .loop .inv) (c .before .before .before .before .before .before .before .before .before .before .before .before .before .before .before .loop-test .taken) _ _ (c .before .before .before .before .before .before .before .before .before .before .before .before .before .next-command .ensures .0) (c .before .before .before .before .before .before .before .before .before .before .before .before .before .next-command .ensures .1) in simp (length-take, length-drop) (omega (arith, t .some, t .whole))
+loop-less c =
+    let at-next-command = c .before .before .before .before .before .before .before .before .before .before .before .before .before in
+    let at-loop-test = at-next-command .before .before in
+    let at-loop = at-loop-test .before in
+    let t =
+        turn
+          (at-loop .loop .inv)
+          (at-loop-test .loop-test .taken) _ _
+          (at-next-command .next-command .ensures .0)
+          (at-next-command .next-command .ensures .1) in
+    simp (length-take, length-drop) (omega (arith, t .some, t .whole))
 
 loop-again : tie.Need-loop-again Inv-loop μ-loop
 loop-again c =
     let d = c .before .before .before .before .before .before .before .do-command .ensures in
-    doing-next (c .before .before .before .before .before .before .before .before .before .before .before .before .before .before .before .before .loop .inv) (c .before .before .before .before .before .before .before .before .before .before .before .before .before .before .before .loop-test .taken) _ _ (c .before .before .before .before .before .before .before .before .before .before .before .before .before .next-command .ensures .0) (c .before .before .before .before .before .before .before .before .before .before .before .before .before .next-command .ensures .1) _ _ (d .0) (d .1) _ (c .before .summed .ensures)
+    doing-next
+      (c .before .before .before .before .before .before .before .before .before .before .before .before .before .before .before .before .loop .inv)
+      (c .before .before .before .before .before .before .before .before .before .before .before .before .before .before .before .loop-test .taken)
+      _ _
+      (c .before .before .before .before .before .before .before .before .before .before .before .before .before .next-command .ensures .0)
+      (c .before .before .before .before .before .before .before .before .before .before .before .before .before .next-command .ensures .1)
+      _ _
+      (d .0)
+      (d .1) _
+      (c .before .summed .ensures)
 
 same-length : tie.Need-same-length Inv-loop μ-loop
 same-length c = length-store (c .before .loop .inv)

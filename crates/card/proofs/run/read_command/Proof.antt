@@ -26,8 +26,23 @@ read-span-requires : tie.Need-read-span-requires
 read-span-requires c κs =
     let b = c .before .before .before .before .before .before .before .before .before .before .before .before in
     let p = b .pre in
-    let q = from-area _ _ _ (b .args .store .now) _ _ (sym (c .before .before .before .before .before .before .is-info .ensures) ∙ c .before .before .before .before .before .if1 .taken) (c .before .before .before .pointer-in .ensures ∙ plain-pointer _ _ _ (c .before .before .before .before .slot-of .ensures)) (c .before .before .area-bytes .ensures) in
-    let a = read-asked _ _ _ (p .0 .passed) _ (c .before .before .before .before .before .before .before .span-of .ensures _ _ (p .0 .reach)) _ _ (b .args .tail .now) (p .1) (p .2) (p .3) q in
+    let q =
+        from-area _ _ _
+          (b .args .store .now) _ _
+          (sym (c .before .before .before .before .before .before .is-info .ensures)
+           ∙ c .before .before .before .before .before .if1 .taken)
+          (c .before .before .before .pointer-in .ensures
+           ∙ plain-pointer _ _ _ (c .before .before .before .before .slot-of .ensures))
+          (c .before .before .area-bytes .ensures) in
+    let a =
+        read-asked _ _ _
+          (p .0 .passed) _
+          (c .before .before .before .before .before .before .before .span-of .ensures _ _ (p .0 .reach)) _ _
+          (b .args .tail .now)
+          (p .1)
+          (p .2)
+          (p .3)
+          q in
     (a .step, a .width, a .spread, a .lined)
 
 read-span-requires-2 : tie.Need-read-span-requires-2
@@ -45,8 +60,23 @@ returns : tie.Need-returns
 returns c =
     let b = c .before .before .before .before .before .before .before .before .before .before .before .before .before .before .before in
     let p = b .pre in
-    let q = from-area _ _ _ (b .args .store .now) _ _ (sym (c .before .before .before .before .before .before .before .before .before .is-info .ensures) ∙ c .before .before .before .before .before .before .before .before .if1 .taken) (c .before .before .before .before .before .before .pointer-in .ensures ∙ plain-pointer _ _ _ (c .before .before .before .before .before .before .before .slot-of .ensures)) (c .before .before .before .before .before .area-bytes .ensures) in
-    read-done _ _ _ (p .0 .passed) _ (c .before .before .before .before .before .before .before .before .before .before .span-of .ensures _ _ (p .0 .reach)) _ _ _ (p .1) (p .2) (p .3) q _ (c .before .before .read-span .ensures)
+    let q =
+        from-area _ _ _
+          (b .args .store .now) _ _
+          (sym (c .before .before .before .before .before .before .before .before .before .is-info .ensures)
+           ∙ c .before .before .before .before .before .before .before .before .if1 .taken)
+          (c .before .before .before .before .before .before .pointer-in .ensures
+           ∙ plain-pointer _ _ _ (c .before .before .before .before .before .before .before .slot-of .ensures))
+          (c .before .before .before .before .before .area-bytes .ensures) in
+    read-done _ _ _
+      (p .0 .passed) _
+      (c .before .before .before .before .before .before .before .before .before .before .span-of .ensures _ _
+         (p .0 .reach)) _ _ _
+      (p .1)
+      (p .2)
+      (p .3)
+      q _
+      (c .before .before .read-span .ensures)
 
 same-length-2 : tie.Need-same-length-2
 same-length-2 c = search needs
@@ -55,8 +85,19 @@ returns-2 : tie.Need-returns-2
 returns-2 c =
     let b = c .before .before .before .before .before .before .before .before .before .before .before in
     let p = b .pre in
-    let q = from-store _ _ _ (b .args .store .now) (sym (c .before .before .before .before .before .is-info .ensures) ∙ c .before .before .before .before .if1 .left) in
-    read-done _ _ _ (p .0 .passed) _ (c .before .before .before .before .before .before .span-of .ensures _ _ (p .0 .reach)) _ _ _ (p .1) (p .2) (p .3) q _ (c .before .before .read-span2 .ensures)
+    let q =
+        from-store _ _ _
+          (b .args .store .now)
+          (sym (c .before .before .before .before .before .is-info .ensures)
+           ∙ c .before .before .before .before .if1 .left) in
+    read-done _ _ _
+      (p .0 .passed) _
+      (c .before .before .before .before .before .before .span-of .ensures _ _ (p .0 .reach)) _ _ _
+      (p .1)
+      (p .2)
+      (p .3)
+      q _
+      (c .before .before .read-span2 .ensures)
 
 pub read-command-spec : {M : Type 1} → statement M
 read-command-spec =

@@ -18,11 +18,24 @@ first-of-requires-2 c κs = search needs
 
 returns : tie.Need-returns
 unfolding headerListed first
-returns c = sym (header-refused _ _ (simp (c .before .first-of2 .ensures, c .before .before .other-command .ensures, c .before .before .before .first-of .ensures)) (c .if1 .taken))
+returns c =
+    let at-first-of = c .before .before .before in
+    sym
+      (header-refused _ _
+         (simp
+            (c .before .first-of2 .ensures, c .before .before .other-command .ensures, at-first-of .first-of .ensures))
+         (c .if1 .taken))
 
 -- past the test no rule holds
 none : (c : tie.Else1) → first (headerRules (c .before .before .before .before .before .before .args .h)) ≡ 0
-none c = sym (header-number _ _ _ _ (c .before .first-of2 .ensures) (c .before .before .other-command .ensures) (c .before .before .before .first-of .ensures)) ∙ c .if1 .left
+none c =
+    let at-first-of = c .before .before .before in
+    sym
+      (header-number _ _ _ _
+         (c .before .first-of2 .ensures)
+         (c .before .before .other-command .ensures)
+         (at-first-of .first-of .ensures))
+    ∙ c .if1 .left
 
 accepted : (c : tie.Else1) → Writable (c .before .before .before .before .before .before .args .h)
 accepted c = writable _ (none c)

@@ -48,7 +48,11 @@ same-length : tie.Need-same-length Inv-loop μ-loop
 same-length c = c .before .loop .inv .same ∙ simp length-set
 
 returns : tie.Need-returns Inv-loop μ-loop
-returns c = let a = c .before .before .before .before .args in reading-ends (c .before .loop .inv) (c .loop-test .left) ∙ ap (λ (n : ℕ). 0 ∷ cells (n - 1) (a .from) (a .stride) (now (a .store))) (length-set (now (a .answer)) 0 0)
+returns c =
+    let at-args = c .before .before .before .before in
+    let a = at-args .args in
+    reading-ends (c .before .loop .inv) (c .loop-test .left)
+    ∙ ap (λ (n : ℕ). 0 ∷ cells (n - 1) (a .from) (a .stride) (now (a .store))) (length-set (now (a .answer)) 0 0)
 
 pub read-cells-spec : {M : Type 1} → statement M
 read-cells-spec =

@@ -43,7 +43,26 @@ first-of-requires-6 c κs = search needs
 
 returns : tie.Need-returns
 unfolding first burstRefusals
-returns c = simp (c .first-of6 .ensures, c .before .first-of5 .ensures, c .before .before .first-of4 .ensures, c .before .before .before .other-command .ensures, c .before .before .before .before .first-of3 .ensures, c .before .before .before .before .before .before .first-of2 .ensures, c .before .before .before .before .before .before .before .first-of .ensures, c .before .before .before .before .before .before .before .before .out-of-place .ensures (now (c .before .before .before .before .before .before .before .before .before .before .before .before .before .before .before .args .words)), c .before .before .before .before .before .before .before .before .before .before .header-of .ensures, c .before .before .before .before .before .before .before .before .before .before .before .first-word .ensures)
+returns c =
+    let at-other-command = c .before .before .before in
+    let at-first-of3 = at-other-command .before in
+    let at-first-of2 = at-first-of3 .before .before in
+    let at-first-of = at-first-of2 .before in
+    let at-out-of-place = at-first-of .before in
+    let at-header-of = at-out-of-place .before .before in
+    let at-first-word = at-header-of .before in
+    let at-args = at-first-word .before .before .before .before in
+    simp
+      (c .first-of6 .ensures,
+       c .before .first-of5 .ensures,
+       c .before .before .first-of4 .ensures,
+       at-other-command .other-command .ensures,
+       at-first-of3 .first-of3 .ensures,
+       at-first-of2 .first-of2 .ensures,
+       at-first-of .first-of .ensures,
+       at-out-of-place .out-of-place .ensures (now (at-args .args .words)),
+       at-header-of .header-of .ensures,
+       at-first-word .first-word .ensures)
 
 pub refusal-of-spec : {M : Type 1} → statement M
 refusal-of-spec =

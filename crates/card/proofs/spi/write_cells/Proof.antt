@@ -7,7 +7,9 @@ clear-requires : tie.Need-clear-requires
 clear-requires c κs = search needs
 
 write-each-requires : tie.Need-write-each-requires
-write-each-requires c κs = let p = c .before .before .before .before .before .before .before .before .before .pre in (p .0, p .1, omega arith, rw (c .before .if1 .taken) at (p .3))
+write-each-requires c κs =
+    let at-entry = c .before .before .before .before .before .before .before .before .before in
+    let p = at-entry .pre in (p .0, p .1, omega arith, rw (c .before .if1 .taken) at (p .3))
 
 write-each-requires-2 : tie.Need-write-each-requires-2
 write-each-requires-2 c κs = search needs
@@ -19,7 +21,10 @@ same-length-2 : tie.Need-same-length-2
 same-length-2 c = search needs
 
 returns : tie.Need-returns
-returns c = (rw (c .before .before .before .before .if1 .taken) (c .before .before .write-each .ensures), c .before .before .before .before .before .before .before .clear .ensures)
+returns c =
+    let at-if1 = c .before .before .before .before in
+    let at-clear = at-if1 .before .before .before in
+    (rw (at-if1 .if1 .taken) (c .before .before .write-each .ensures), at-clear .clear .ensures)
 
 same-length-3 : tie.Need-same-length-3
 same-length-3 c = search needs

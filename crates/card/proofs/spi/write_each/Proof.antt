@@ -26,7 +26,11 @@ store4-requires : tie.Need-store4-requires Inv-loop μ-loop
 store4-requires c κs = let s = c .before .before .before .loop .inv in omega (arith, writing-inside s (c .before .before .loop-test .taken), s .whole)
 
 add-at : tie.Need-add-at Inv-loop μ-loop
-add-at c = omega (arith, writing-inside (c .before .before .before .before .before .before .loop .inv) (c .before .before .before .before .before .loop-test .taken), c .before .before .before .before .before .before .before .before .before .pre .2)
+add-at c =
+    let at-loop-test = c .before .before .before .before .before in
+    let at-loop = at-loop-test .before in
+    let at-entry = at-loop .before .before .before in
+    omega (arith, writing-inside (at-loop .loop .inv) (at-loop-test .loop-test .taken), at-entry .pre .2)
 
 add-i : tie.Need-add-i Inv-loop μ-loop
 add-i c = search needs
@@ -35,7 +39,10 @@ loop-less : tie.Need-loop-less Inv-loop μ-loop
 loop-less c = omega arith
 
 loop-again : tie.Need-loop-again Inv-loop μ-loop
-loop-again c = writing-next (c .before .before .before .before .before .before .loop .inv) (c .before .before .before .before .before .loop-test .taken) _ (c .before .before .store4 .ensures)
+loop-again c =
+    let at-loop-test = c .before .before .before .before .before in
+    let at-loop = at-loop-test .before in
+    writing-next (at-loop .loop .inv) (at-loop-test .loop-test .taken) _ (c .before .before .store4 .ensures)
 
 same-length : tie.Need-same-length Inv-loop μ-loop
 same-length c = c .before .loop .inv .whole ∙ sym (c .before .before .before .before .pre .0)

@@ -47,7 +47,10 @@ add-t12 : tie.Need-add-t12
 add-t12 c = search needs
 
 kept : (c : tie.After-struct-known3) → outOfRange (c .before .before .before .before .before .before .before .before .before .args .f) ≡ false
-kept c = sym (c .before .before .before .before .before .before .before .before .out-of-range .ensures) ∙ c .before .before .before .before .before .before .before .if1 .left
+kept c =
+    let at-if1 = c .before .before .before .before .before .before .before in
+    let at-out-of-range = at-if1 .before in
+    sym (at-out-of-range .out-of-range .ensures) ∙ at-if1 .if1 .left
 
 range : (c : tie.After-struct-known3) → InRange (c .before .before .before .before .before .before .before .before .before .args .f)
 range c = in-range _ (kept c)

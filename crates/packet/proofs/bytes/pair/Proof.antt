@@ -29,7 +29,10 @@ add-result : tie.Need-add-result
 add-result c = search needs
 
 returns : tie.Need-returns
-returns c = ap₂ (λ a b. a + 256 * b) (c .before .before .wide .ensures .0) (c .wide2 .ensures .0) ∙ sym (pair-two (now (c .before .before .before .before .before .args .s)) (c .before .before .before .before .before .args .at) (omega arith))
+returns c =
+    let at-args = c .before .before .before .before .before in
+    ap₂ (λ a b. a + 256 * b) (c .before .before .wide .ensures .0) (c .wide2 .ensures .0)
+    ∙ sym (pair-two (now (at-args .args .s)) (at-args .args .at) (omega arith))
 
 pub pair-spec : {M : Type 1} → statement M
 pair-spec =

@@ -24,15 +24,27 @@ row-of-requires : tie.Need-row-of-requires
 row-of-requires c κs = search needs
 
 plain-word : (c : tie.After-row-of) → ForRegisters (c .before .before .before .before .before .fields-of .result)
-plain-word c = registers-word _ _ (c .before .before .before .before .before .fields-of .ensures) (sym (c .before .before .before .before .for-registers .ensures) ∙ c .before .before .before .if1 .taken)
+plain-word c =
+    let at-if1 = c .before .before .before in
+    let at-for-registers = at-if1 .before in
+    let at-fields-of = at-for-registers .before in
+    registers-word _ _
+      (at-fields-of .fields-of .ensures)
+      (sym (at-for-registers .for-registers .ensures) ∙ at-if1 .if1 .taken)
 
 reach-by-requires : tie.Need-reach-by-requires
 reach-by-requires c κs = let r = plain-word c in (c .row-of .ensures ∙ registers-row _ r, registers-slot _ r)
 
 returns : tie.Need-returns
 returns c =
-    next-is _ _ _ _ _ (c .before .before .before .before .before .before .before .word-at .ensures) (c .before .before .before .before .before .before .fields-of .ensures)
-    (reach-found _ _ _ _ _ _ _ (registers-slot _ (plain-word (c .before))) (c .before .before .before .pointer-in .ensures) (c .before .before .address-by .ensures) (c .reach-by .ensures))
+    next-is _ _ _ _ _
+      (c .before .before .before .before .before .before .before .word-at .ensures)
+      (c .before .before .before .before .before .before .fields-of .ensures)
+    (reach-found _ _ _ _ _ _ _
+       (registers-slot _ (plain-word (c .before)))
+       (c .before .before .before .pointer-in .ensures)
+       (c .before .before .address-by .ensures)
+       (c .reach-by .ensures))
 
 is-info-requires : tie.Need-is-info-requires
 is-info-requires c κs = search needs
@@ -50,12 +62,23 @@ row-of-requires-2 : tie.Need-row-of-requires-2
 row-of-requires-2 c κs = search needs
 
 reach-by-requires-2 : tie.Need-reach-by-requires-2
-reach-by-requires-2 c κs = (c .row-of2 .ensures, slot-is _ _ _ (c .before .before .before .before .is-info .ensures) (c .before .before .before .slot-of .ensures))
+reach-by-requires-2 c κs =
+    let at-slot-of = c .before .before .before in
+    let at-is-info = at-slot-of .before in
+    (c .row-of2 .ensures, slot-is _ _ _ (at-is-info .is-info .ensures) (at-slot-of .slot-of .ensures))
 
 returns-2 : tie.Need-returns-2
 returns-2 c =
-    next-is _ _ _ _ _ (c .before .before .before .before .before .before .before .before .before .word-at .ensures) (c .before .before .before .before .before .before .before .before .fields-of .ensures)
-    (reach-found _ _ _ _ _ _ _ (slot-is _ _ _ (c .before .before .before .before .before .is-info .ensures) (c .before .before .before .before .slot-of .ensures)) (c .before .before .before .pointer-in2 .ensures) (c .before .before .address-by2 .ensures) (c .reach-by2 .ensures))
+    next-is _ _ _ _ _
+      (c .before .before .before .before .before .before .before .before .before .word-at .ensures)
+      (c .before .before .before .before .before .before .before .before .fields-of .ensures)
+    (reach-found _ _ _ _ _ _ _
+       (slot-is _ _ _
+          (c .before .before .before .before .before .is-info .ensures)
+          (c .before .before .before .before .slot-of .ensures))
+       (c .before .before .before .pointer-in2 .ensures)
+       (c .before .before .address-by2 .ensures)
+       (c .reach-by2 .ensures))
 
 pub next-command-spec : {M : Type 1} → statement M
 next-command-spec =

@@ -12,7 +12,10 @@ cast-elements : tie.Need-cast-elements
 cast-elements c = search needs
 
 mul-elements : tie.Need-mul-elements
-mul-elements c = let h = scaled-le (c .before .before .args .f .count) (c .before .before .args .row .element) (omega arith) (rw (c .before .before .pre .0) (row-le _)) in omega arith
+mul-elements c =
+    let at-args = c .before .before in
+    let h = scaled-le (at-args .args .f .count) (at-args .args .row .element) (omega arith) (rw (at-args .pre .0) (row-le _)) in
+    omega arith
 
 bytes-if-requires : tie.Need-bytes-if-requires
 bytes-if-requires c κs = search needs
@@ -52,8 +55,20 @@ cast-t20 c = search needs
 
 returns : tie.Need-returns
 returns c =
-    reach-is (c .before .before .before .before .before .before .before .before .before .before .before .args .f) (c .before .before .before .before .before .before .before .before .before .before .before .args .row) _ _ _ _ _ _ _ (c .before .before .before .before .before .before .before .before .before .before .before .pre .0) (c .before .before .before .before .before .before .before .before .before .before .before .pre .1) (c .header-bytes .ensures .0)
-    (c .before .before .before .before .before .before .before .before .bytes-if .ensures) (c .before .before .before .before .before .before .bytes-if2 .ensures) (c .before .before .before .before .before .bytes-if3 .ensures) (c .before .before .before .advance .ensures ∙ ap (λ (n : ℕ). advanced n (c .before .before .before .before .before .bytes-if3 .result)) (c .before .before .before .before .new .ensures))
+    reach-is
+      (c .before .before .before .before .before .before .before .before .before .before .before .args .f)
+      (c .before .before .before .before .before .before .before .before .before .before .before .args .row) _ _ _ _ _ _
+      _
+      (c .before .before .before .before .before .before .before .before .before .before .before .pre .0)
+      (c .before .before .before .before .before .before .before .before .before .before .before .pre .1)
+      (c .header-bytes .ensures .0)
+    (c .before .before .before .before .before .before .before .before .bytes-if .ensures)
+      (c .before .before .before .before .before .before .bytes-if2 .ensures)
+      (c .before .before .before .before .before .bytes-if3 .ensures)
+      (c .before .before .before .advance .ensures
+       ∙ ap
+           (λ (n : ℕ). advanced n (c .before .before .before .before .before .bytes-if3 .result))
+           (c .before .before .before .before .new .ensures))
 
 pub reach-by-spec : {M : Type 1} → statement M
 reach-by-spec =

@@ -18,7 +18,15 @@ judged-by-requires : tie.Need-judged-by-requires
 judged-by-requires c κs = search needs
 
 returns : tie.Need-returns
-returns c = c .judged-by .ensures _ _ _ _ (c .before .before .before .before .fields-of .ensures ∙ c .before .before .before .before .before .before .before .pre .0) (cut-off _ _ _ _ _ _ (let h = c .before .before .before .header-bytes .ensures .0 in omega arith) (c .before .cut-off .ensures))
+returns c =
+    let at-header-bytes = c .before .before .before in
+    let at-fields-of = at-header-bytes .before in
+    let at-entry = at-fields-of .before .before .before in
+    c .judged-by .ensures _ _ _ _
+      (at-fields-of .fields-of .ensures ∙ at-entry .pre .0)
+      (cut-off _ _ _ _ _ _
+         (let h = at-header-bytes .header-bytes .ensures .0 in omega arith)
+         (c .before .cut-off .ensures))
 
 area-ruling-requires : tie.Need-area-ruling-requires
 area-ruling-requires c κs = let h = c .before .header-bytes .ensures .0 in search needs
@@ -27,7 +35,12 @@ judged-by-requires-2 : tie.Need-judged-by-requires-2
 judged-by-requires-2 c κs = search needs
 
 returns-2 : tie.Need-returns-2
-returns-2 c = c .judged-by2 .ensures _ _ _ _ (c .before .before .before .before .fields-of .ensures ∙ c .before .before .before .before .before .before .before .pre .0) (c .before .area-ruling .ensures)
+returns-2 c =
+    let at-fields-of = c .before .before .before .before in
+    let at-entry = at-fields-of .before .before .before in
+    c .judged-by2 .ensures _ _ _ _
+      (at-fields-of .fields-of .ensures ∙ at-entry .pre .0)
+      (c .before .area-ruling .ensures)
 
 pub area-at-spec : {M : Type 1} → statement M
 area-at-spec =

@@ -14,6 +14,34 @@ use Rattle.packet.proofs.RuleLaws.{first-here, first-past}
 use Rattle.packet.proofs.refusal.area_number.Statement.{statement}
 use Rattle.packet.proofs.refusal.area_number.Tie as tie
 
+-- where the function starts, from behind each of its tests
+abbrev start-1 : tie.Else1 → tie.Start
+start-1 c = c .before .before .before
+
+abbrev start-2 : tie.Else2 → tie.Start
+start-2 c = start-1 (c .before .before)
+
+abbrev start-3 : tie.Else3 → tie.Start
+start-3 c = start-2 (c .before .before .before)
+
+abbrev start-4 : tie.Else4 → tie.Start
+start-4 c = start-3 (c .before .before)
+
+abbrev start-5 : tie.Else5 → tie.Start
+start-5 c = start-4 (c .before .before)
+
+abbrev start-6 : tie.Else6 → tie.Start
+start-6 c = start-5 (c .before .before)
+
+abbrev start-7 : tie.Else7 → tie.Start
+start-7 c = start-6 (c .before .before .before)
+
+abbrev start-8 : tie.Else8 → tie.Start
+start-8 c = start-7 (c .before .before)
+
+abbrev start-9 : tie.Else9 → tie.Start
+start-9 c = start-8 (c .before .before)
+
 abbrev table : tie.Start → Pointers → List Rule
 table s p = refusals p (s .args .unlocked) (s .args .reply) (s .args .f) (now (s .args .rest))
 
@@ -29,7 +57,7 @@ returns : tie.Need-returns
 unfolding refusals
 returns c p e = first-here _ _ _ (past-3 (c .before .before .before) p e) (c .if1 .taken)
 
-past-4 : (c : tie.Else1) → Past 2 (c .before .before .before)
+past-4 : (c : tie.Else1) → Past 2 (start-1 c)
 unfolding refusals
 past-4 c p e = first-past _ _ _ (past-3 (c .before .before .before) p e) (c .if1 .left)
 
@@ -40,23 +68,29 @@ returns-2 : tie.Need-returns-2
 unfolding refusals
 returns-2 c p e = first-here _ _ _ (past-4 (c .before .before) p e) (sym (c .before .is-absent .ensures) ∙ c .if2 .taken)
 
-past-5 : (c : tie.Else2) → Past 3 (c .before .before .before .before .before)
+past-5 : (c : tie.Else2) → Past 3 (start-2 c)
 unfolding refusals
 past-5 c p e = first-past _ _ _ (past-4 (c .before .before) p e) (sym (c .before .is-absent .ensures) ∙ c .if2 .left)
 
 returns-3 : tie.Need-returns-3
 unfolding refusals
-returns-3 c p e = first-here _ _ _ (past-5 (c .before .before .before) p e) (rw (← c .before .before .before .before .before .before .before .before .pre .0, ne-eqb _ _ (c .if3 .taken)) refl)
+returns-3 c p e =
+    let earlier = c .before .before .before in
+    let start = start-2 earlier in
+    first-here _ _ _ (past-5 earlier p e) (rw (← start .pre .0, ne-eqb _ _ (c .if3 .taken)) refl)
 
-past-6 : (c : tie.Else3) → Past 4 (c .before .before .before .before .before .before .before .before)
+past-6 : (c : tie.Else3) → Past 4 (start-3 c)
 unfolding refusals
-past-6 c p e = first-past _ _ _ (past-5 (c .before .before .before) p e) (rw (← c .before .before .before .before .before .before .before .before .pre .0, eq-eqb _ _ (c .if3 .left)) refl)
+past-6 c p e =
+    let earlier = c .before .before .before in
+    let start = start-2 earlier in
+    first-past _ _ _ (past-5 earlier p e) (rw (← start .pre .0, eq-eqb _ _ (c .if3 .left)) refl)
 
 returns-4 : tie.Need-returns-4
 unfolding refusals
 returns-4 c p e = first-here _ _ _ (past-6 (c .before .before) p e) (eq-eqb _ _ (c .if4 .taken))
 
-past-7 : (c : tie.Else4) → Past 5 (c .before .before .before .before .before .before .before .before .before .before)
+past-7 : (c : tie.Else4) → Past 5 (start-4 c)
 unfolding refusals
 past-7 c p e = first-past _ _ _ (past-6 (c .before .before) p e) (ne-eqb _ _ (c .if4 .left))
 
@@ -67,7 +101,7 @@ returns-5 : tie.Need-returns-5
 unfolding refusals reachFrom
 returns-5 c p e = first-here _ _ _ (past-7 (c .before .before) p e) (sym (c .before .out-of-place .ensures p _ (ap (λ (t : Reach). t .used) e)) ∙ c .if5 .taken)
 
-past-8 : (c : tie.Else5) → Past 6 (c .before .before .before .before .before .before .before .before .before .before .before .before)
+past-8 : (c : tie.Else5) → Past 6 (start-5 c)
 unfolding refusals reachFrom
 past-8 c p e = first-past _ _ _ (past-7 (c .before .before) p e) (sym (c .before .out-of-place .ensures p _ (ap (λ (t : Reach). t .used) e)) ∙ c .if5 .left)
 
@@ -78,23 +112,29 @@ returns-6 : tie.Need-returns-6
 unfolding refusals reachFrom
 returns-6 c p e = first-here _ _ _ (past-8 (c .before .before) p e) (sym (c .before .read-only .ensures p _ (ap (λ (t : Reach). t .used) e)) ∙ c .if6 .taken)
 
-past-9 : (c : tie.Else6) → Past 7 (c .before .before .before .before .before .before .before .before .before .before .before .before .before .before)
+past-9 : (c : tie.Else6) → Past 7 (start-6 c)
 unfolding refusals reachFrom
 past-9 c p e = first-past _ _ _ (past-8 (c .before .before) p e) (sym (c .before .read-only .ensures p _ (ap (λ (t : Reach). t .used) e)) ∙ c .if6 .left)
 
 returns-7 : tie.Need-returns-7
 unfolding refusals
-returns-7 c p e = first-here _ _ _ (past-9 (c .before .before .before) p e) (rw (← c .before .before .before .before .before .before .before .before .before .before .before .before .before .before .before .before .before .pre .0) (c .if7 .taken))
+returns-7 c p e =
+    let earlier = c .before .before .before in
+    let start = start-6 earlier in
+    first-here _ _ _ (past-9 earlier p e) (rw (← start .pre .0) (c .if7 .taken))
 
-past-10 : (c : tie.Else7) → Past 8 (c .before .before .before .before .before .before .before .before .before .before .before .before .before .before .before .before .before)
+past-10 : (c : tie.Else7) → Past 8 (start-7 c)
 unfolding refusals
-past-10 c p e = first-past _ _ _ (past-9 (c .before .before .before) p e) (rw (← c .before .before .before .before .before .before .before .before .before .before .before .before .before .before .before .before .before .pre .0) (c .if7 .left))
+past-10 c p e =
+    let earlier = c .before .before .before in
+    let start = start-6 earlier in
+    first-past _ _ _ (past-9 earlier p e) (rw (← start .pre .0) (c .if7 .left))
 
 returns-8 : tie.Need-returns-8
 unfolding refusals reachFrom
 returns-8 c p e = first-here _ _ _ (past-10 (c .before .before) p e) (rw (← ap (λ (t : Reach). t .bytes) e) (lt-ltb _ _ (c .if8 .taken)))
 
-past-11 : (c : tie.Else8) → Past 9 (c .before .before .before .before .before .before .before .before .before .before .before .before .before .before .before .before .before .before .before)
+past-11 : (c : tie.Else8) → Past 9 (start-8 c)
 unfolding refusals reachFrom
 past-11 c p e = first-past _ _ _ (past-10 (c .before .before) p e) (rw (← ap (λ (t : Reach). t .bytes) e) (le-ltb _ _ (c .if8 .left)))
 
@@ -103,11 +143,17 @@ passes-limit-requires c κs = search needs
 
 returns-9 : tie.Need-returns-9
 unfolding refusals reachFrom
-returns-9 c p e = first-here _ _ _ (past-11 (c .before .before) p e) (rw (← ap (λ (t : Reach). t .answered) e) (sym (c .before .passes-limit .ensures) ∙ c .if9 .taken))
+returns-9 c p e =
+    first-here _ _ _
+      (past-11 (c .before .before) p e)
+      (rw (← ap (λ (t : Reach). t .answered) e) (sym (c .before .passes-limit .ensures) ∙ c .if9 .taken))
 
-past-12 : (c : tie.Else9) → Past 10 (c .before .before .before .before .before .before .before .before .before .before .before .before .before .before .before .before .before .before .before .before .before)
+past-12 : (c : tie.Else9) → Past 10 (start-9 c)
 unfolding refusals reachFrom
-past-12 c p e = first-past _ _ _ (past-11 (c .before .before) p e) (rw (← ap (λ (t : Reach). t .answered) e) (sym (c .before .passes-limit .ensures) ∙ c .if9 .left))
+past-12 c p e =
+    first-past _ _ _
+      (past-11 (c .before .before) p e)
+      (rw (← ap (λ (t : Reach). t .answered) e) (sym (c .before .passes-limit .ensures) ∙ c .if9 .left))
 
 returns-10 : tie.Need-returns-10
 unfolding refusals first

@@ -19,7 +19,10 @@ address-in-requires : tie.Need-address-in-requires
 address-in-requires c κs = search needs
 
 reach-by-requires : tie.Need-reach-by-requires
-reach-by-requires c κs = (c .before .before .before .before .row-of .ensures, slot-is _ _ _ (c .before .before .before .is-info .ensures) (c .before .before .slot-of .ensures))
+reach-by-requires c κs =
+    let at-is-info = c .before .before .before in
+    let at-row-of = at-is-info .before in
+    (at-row-of .row-of .ensures, slot-is _ _ _ (at-is-info .is-info .ensures) (c .before .before .slot-of .ensures))
 
 area-number-requires : tie.Need-area-number-requires
 area-number-requires c κs = search needs
@@ -27,7 +30,11 @@ area-number-requires c κs = search needs
 returns : tie.Need-returns
 returns c =
     ruled _
-    (reach-found _ _ _ _ _ _ _ (slot-is _ _ _ (c .before .before .before .before .before .is-info .ensures) (c .before .before .before .before .slot-of .ensures)) (c .before .before .before .pointer-in .ensures)
+    (reach-found _ _ _ _ _ _ _
+       (slot-is _ _ _
+          (c .before .before .before .before .before .is-info .ensures)
+          (c .before .before .before .before .slot-of .ensures))
+       (c .before .before .before .pointer-in .ensures)
     (c .before .before .address-in .ensures) (c .before .reach-by .ensures))
     (c .area-number .ensures _)
 

@@ -14,15 +14,24 @@ address-in-requires : tie.Need-address-in-requires
 address-in-requires c κs = search needs
 
 reach-by-requires : tie.Need-reach-by-requires
-reach-by-requires c κs = (c .before .before .row-of .ensures ∙ registers-row _ (c .before .before .before .before .before .pre .1), registers-slot _ (c .before .before .before .before .before .pre .1))
+reach-by-requires c κs =
+    let at-entry = c .before .before .before .before .before in
+    (c .before .before .row-of .ensures ∙ registers-row _ (at-entry .pre .1), registers-slot _ (at-entry .pre .1))
 
 register-number-requires : tie.Need-register-number-requires
-register-number-requires c κs = let p = c .before .before .before .before .before .before .pre in (c .before .before .before .row-of .ensures ∙ registers-row _ (p .1), p .0, p .1, p .2)
+register-number-requires c κs =
+    let at-row-of = c .before .before .before in
+    let at-entry = at-row-of .before .before .before in
+    let p = at-entry .pre in (at-row-of .row-of .ensures ∙ registers-row _ (p .1), p .0, p .1, p .2)
 
 returns : tie.Need-returns
 returns c o =
     ruled _
-    (reach-found _ _ _ _ _ _ _ (registers-slot _ (c .before .before .before .before .before .before .before .pre .1)) (c .before .before .before .pointer-in .ensures) (c .before .before .address-in .ensures) (c .before .reach-by .ensures))
+    (reach-found _ _ _ _ _ _ _
+       (registers-slot _ (c .before .before .before .before .before .before .before .pre .1))
+       (c .before .before .before .pointer-in .ensures)
+       (c .before .before .address-in .ensures)
+       (c .before .reach-by .ensures))
     (c .register-number .ensures _ o)
 
 pub register-ruling-spec : {M : Type 1} → statement M

@@ -26,7 +26,12 @@ returns c = rw (c .before .if1 .taken) (ap (λ (r : Row). c .before .before .bef
 
 returns-2 : tie.Need-returns-2
 unfolding rowOf kindOf
-returns-2 c = rw (c .if1 .left) (ap (λ (r : Row). r .element) (c .before .before .pre), rw (c .before .before .pre) (let h = row-le (c .before .before .args .f) in omega arith))
+returns-2 c =
+    let at-entry = c .before .before in
+    rw
+      (c .if1 .left)
+      (ap (λ (r : Row). r .element) (at-entry .pre),
+       rw (at-entry .pre) (let h = row-le (at-entry .args .f) in omega arith))
 
 pub span-by-spec : {M : Type 1} → statement M
 span-by-spec = tie.close (tie.spec cast-element cast-result mul-result returns returns-2)

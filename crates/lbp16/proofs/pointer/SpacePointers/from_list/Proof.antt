@@ -42,7 +42,13 @@ unfolding spacesAt
 returns c =
     λ i.
     record {
-      registers = record { at = (c .before .before .before .before .before .before .new .ensures ∙ c .before .before .before .before .before .before .before .at-slot .ensures) i };
+      registers =
+          record {
+            at =
+                (c .before .before .before .before .before .before .new .ensures ∙ c .before .before .before .before .before .before .before .at-slot .ensures)
+                  i
+                  };
+          }
       eeprom = record { at = (c .before .before .before .before .new2 .ensures ∙ c .before .before .before .before .before .at-slot2 .ensures) i };
       status = record { at = (c .before .before .new3 .ensures ∙ c .before .before .before .at-slot3 .ensures) i };
       information = record { at = (c .new4 .ensures ∙ c .before .at-slot4 .ensures) i };

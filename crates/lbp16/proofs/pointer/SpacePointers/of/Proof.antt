@@ -26,7 +26,10 @@ returns-4 c = at-information (ofSpace (c .before .before .args .self)) _ (c .bef
 
 returns-5 : tie.Need-returns-5
 unfolding ofSpace
-returns-5 c = let r = c .before .match .rest in c .new .ensures ∙ at-absent (ofSpace (c .before .before .args .self)) _ (r .0 .0 .0 .1) (r .0 .0 .1) (r .0 .1) (r .1)
+returns-5 c =
+    let r = c .before .match .rest in
+    c .new .ensures
+    ∙ at-absent (ofSpace (c .before .before .args .self)) _ (r .0 .0 .0 .1) (r .0 .0 .1) (r .0 .1) (r .1)
 
 pub of-spec : {M : Type 1} → statement M
 of-spec = tie.close (tie.spec new-requires returns returns-2 returns-3 returns-4 returns-5)

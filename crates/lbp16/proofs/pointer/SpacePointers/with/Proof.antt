@@ -21,7 +21,14 @@ returns-4 c = at-information (λ s. withSpace (c .before .args .self) s (c .befo
 
 returns-5 : tie.Need-returns-5
 unfolding withSpace
-returns-5 c = let r = c .match .rest in at-absent (λ s. withSpace (c .before .args .self) s (c .before .args .p .at)) _ (r .0 .0 .0 .1) (r .0 .0 .1) (r .0 .1) (r .1)
+returns-5 c =
+    let r = c .match .rest in
+    at-absent
+      (λ s. withSpace (c .before .args .self) s (c .before .args .p .at)) _
+      (r .0 .0 .0 .1)
+      (r .0 .0 .1)
+      (r .0 .1)
+      (r .1)
 
 pub with-spec : {M : Type 1} → statement M
 with-spec = tie.close (tie.spec returns returns-2 returns-3 returns-4 returns-5)
