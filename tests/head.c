@@ -131,6 +131,26 @@ static void words(void)
     IS(word, 0x4285);
 }
 
+static void headers(void)
+{
+    /* P5: read 0x1000, increment, 3; and a count that no header has. */
+    static const uint32_t p5[] = { 0x1000, 0xA, 1, 3 };
+    static const uint32_t too_many[] = { 0x1000, 0xA, 1, 128 };
+    static const uint32_t unknown[] = { 0x1000, 0xC, 1, 128 };
+    uint32_t fields[] = { 9, 9, 9, 9 }, word = 7;
+
+    IS(head_header(0x1000A83F, fields, 4), 0);
+    SAME(fields, p5, sizeof p5);
+    IS(head_header(0, fields, 3), 13);
+    SAME(fields, p5, sizeof p5);
+    IS(head_header_word(too_many, 4, &word), 33);
+    IS(head_header_word(unknown, 4, &word), 32);
+    IS(head_header_word(unknown, 3, &word), 13);
+    IS(word, 7);
+    IS(head_header_word(p5, 4, &word), 0);
+    IS(word, 0x1000A830);
+}
+
 static void bursts(void)
 {
     /* P5's and P6's words with other counts, and a header alone. */
@@ -364,6 +384,7 @@ int main(void)
     packets();
     reasons();
     words();
+    headers();
     bursts();
     lists();
     damaged();
