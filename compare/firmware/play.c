@@ -174,8 +174,8 @@ static const struct room {
 };
 enum { ROOMS = sizeof rooms / sizeof rooms[0] };
 
-/* How often each export returned which number. */
-static uint32_t met[EXPORTS][NUMBERS], calls, differences;
+/* How often each export returned which number, and the most stack that it and its caller here used. */
+static uint32_t met[EXPORTS][NUMBERS], deepest[EXPORTS], calls, differences;
 
 /* The file, up to what was read of it. */
 static const uint8_t *at;
@@ -282,6 +282,27 @@ static void compare(const struct lending *lent, uint32_t count, const struct cal
     met[export][number < NUMBERS ? number : 0]++;
 }
 
+/* Makes the call, where STACK is set with the stack below painted, so that it shows how much was used. */
+__attribute__((noinline)) static uint32_t made(uint32_t export, struct call *c)
+{
+#ifdef STACK
+    const uint32_t paint = 0xC0DEC0DE, area = exports[export].call == independent ? 70000 : 4096;
+    uint32_t *top;
+    __asm__ volatile("mov %0, sp" : "=r"(top));
+    volatile uint32_t *low = top - area / 4;
+    for (volatile uint32_t *word = low; word < top; word++)
+        *word = paint;
+    uint32_t number = exports[export].call(c);
+    while (low < top && *low == paint)
+        low++;
+    uint32_t used = 4 * (uint32_t)(top - low);
+    deepest[export] = used > deepest[export] ? used : deepest[export];
+    return number;
+#else
+    return exports[export].call(c);
+#endif
+}
+
 /* Makes one call; 0 where the file cannot be read. */
 static int one(void)
 {
@@ -301,7 +322,7 @@ static int one(void)
         if (!lend(&lent[k], &c, k))
             return 0;
     calls++;
-    uint32_t number = exports[export].call(&c);
+    uint32_t number = made(export, &c);
     compare(lent, count, &c, answers, export, number, expected);
     return 1;
 }
@@ -319,6 +340,14 @@ static void report(void)
             }
         say("\n");
     }
+    for (uint32_t export = 0; export < EXPORTS; export++)
+        if (deepest[export]) {
+            say("stack ");
+            say(exports[export].name);
+            say(" ");
+            say_number(deepest[export]);
+            say("\n");
+        }
     say_number(calls);
     say(" calls, ");
     say_number(differences);
