@@ -1,3 +1,3 @@
-pub mod HexLaws
+pub mod AroundLaws
 pub mod FindingLaws
 pub mod SaidLaws

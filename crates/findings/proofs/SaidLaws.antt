@@ -9,12 +9,12 @@ use Rattle.lbp16.specs.Space.{storeBytes, areaRow, infoRow, row}
 use Rattle.lbp16.specs.Pointer.{fresh, freshSpaces, aboveSize, someOver, over, ofSpace}
 use Rattle.card.specs.Run.{badState}
 use Rattle.cue.specs.Play.{play}
-use Rattle.report.specs.Text.{ascii}
+use Rattle.text.specs.Number.{ascii}
 use Rattle.recording.specs.Recording as verdicts
 use Rattle.recording.specs.Show.{recordingOf}
 use Rattle.recording.proofs.ShowLaws.{zeroRooms}
 use Rattle.recording.proofs.JudgeLaws.{recorded-yes}
-use Rattle.findings.specs.Findings.{numbered, verdictText, leftText, said, freshlyJudged, mostBytes}
+use Rattle.findings.specs.Findings.{between, verdictText, leftText, judgedText, said, mostBytes}
 
 -- a fresh card is never refused with 1
 pub fresh-state : badState (replicate storeBytes 0) fresh ≡ false
@@ -25,7 +25,7 @@ fresh-state = refl
 pub recorded-said : (packets : List (List ℕ)) → play packets zeroRooms (replicate storeBytes 0) fresh .accepted ≡ true
     → length (recordingOf packets (replicate storeBytes 0) fresh) ≤ mostBytes
     → said (recordingOf packets (replicate storeBytes 0) fresh)
-    ≡ numbered (ascii "yes, ") (length packets) (ascii " packets\n")
-unfolding said leftText freshlyJudged verdicts.judged verdicts.said verdictText
+    ≡ between (ascii "yes, ") (length packets) (ascii " packets\n")
+unfolding said leftText judgedText verdicts.judged verdicts.said verdictText
 recorded-said packets ok few =
     rw (le-ltb mostBytes _ few, recorded-yes packets (replicate storeBytes 0) fresh fresh-state ok .0) refl

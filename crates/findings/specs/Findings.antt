@@ -1,5 +1,5 @@
 -- What the judging program writes for the recording that it is given: `yes` and the number of packets, or what is at fault.
-use Prim.Native.Nat.{ℕ, _+_}
+use Prim.Native.Nat.{ℕ, _+_, _-_}
 use mathlib.Core.List.{List, _++_}
 use mathlib.Core.Bool.{cond}
 use lib.ListN.{length, take, drop, replicate}
@@ -8,17 +8,25 @@ use Rattle.lbp16.specs.Space.{storeBytes}
 use Rattle.lbp16.specs.Pointer.{fresh}
 use Rattle.packet.specs.Command.{limit}
 use Rattle.cue.specs.Output.{Front, frontOf}
-use Rattle.recording.specs.Recording.{Verdict, Left, judgedIn}
-use Rattle.report.specs.Text.{ascii, decimal}
-use Rattle.findings.specs.Hex.{hexLine, around}
+use Rattle.recording.specs.Recording.{Verdict, Left, verdictListed, judgedIn}
+use Rattle.recording.specs.declared.Judgment.{Judgment}
+use Rattle.text.specs.Number.{ascii, hexBytes}
+use Rattle.text.specs.Line.{numbered, tooLongLine}
 
 -- the most bytes that a recording may have
 abbrev pub mostBytes : ℕ
 mostBytes = 1000000
 
 -- a number between two texts
-unfoldable pub numbered : List ℕ → ℕ → List ℕ → List ℕ
-numbered before n after = before ++ decimal n ++ after
+unfoldable pub between : List ℕ → ℕ → List ℕ → List ℕ
+between before n after = numbered before n ++ after
+
+unfoldable pub hexLine : List ℕ → List ℕ → List ℕ
+hexLine label bytes = label ++ hexBytes bytes ++ ascii "\n"
+
+-- the byte at k, and at most four on each side of it
+unfoldable pub around : ℕ → List ℕ → List ℕ
+around k bytes = drop (k - 4) (take (k + 5) bytes)
 
 -- the bytes that a whole frame takes, mark and length included
 unfoldable pub frameEnd : Front → ℕ
@@ -39,30 +47,36 @@ unfoldable pub bothReplies : List ℕ → List ℕ → ℕ → List ℕ
 bothReplies found reply k =
     hexLine (ascii "expected") (around k (take (length found) reply)) ++ hexLine (ascii "found   ") (around k found)
 
+-- the same of the bytes from the packet on
+unfoldable pub repliesText : List ℕ → List ℕ → ℕ → List ℕ
+repliesText rest reply k = bothReplies (frontBytes (behindFront rest)) reply k
+
 unfoldable pub badByteText : ℕ → ℕ → List ℕ → List ℕ → List ℕ
 badByteText i k rest reply =
-    numbered (ascii "packet ") i (ascii ", ") ++ numbered (ascii "byte ") k (ascii " of its reply is wrong\n")
-    ++ bothReplies (frontBytes (behindFront rest)) reply k
+    between (ascii "packet ") i (ascii ", ") ++ between (ascii "byte ") k (ascii " of its reply is wrong\n")
+    ++ repliesText rest reply k
 
--- The text of each verdict: `rest` begins with the last packet looked at, `reply` with what the card answered last. Packets, the bytes of a reply, and parts, packets and replies alike, are counted from 0.
+-- The text of each verdict: `rest` begins with the last packet looked at, `reply` with what the card answered last. Packets, the
+-- bytes of a reply, and parts, packets and replies alike, are counted from 0.
 unfoldable pub verdictText : Verdict → List ℕ → List ℕ → List ℕ
-verdictText (Verdict.yes n) rest reply = numbered (ascii "yes, ") n (ascii " packets\n")
-verdictText (Verdict.refused m k) rest reply = numbered (ascii "refused ") m (ascii "\n")
-verdictText (Verdict.badPacket i) rest reply = numbered (ascii "packet ") i (ascii " is refused\n")
-verdictText (Verdict.badLength i) rest reply = numbered (ascii "packet ") i (ascii ": its reply has another length\n")
+verdictText (Verdict.yes n) rest reply = between (ascii "yes, ") n (ascii " packets\n")
+verdictText (Verdict.refused m k) rest reply = between (ascii "refused ") m (ascii "\n")
+verdictText (Verdict.badPacket i) rest reply = between (ascii "packet ") i (ascii " is refused\n")
+verdictText (Verdict.badLength i) rest reply = between (ascii "packet ") i (ascii ": its reply has another length\n")
 verdictText (Verdict.badByte i k) rest reply = badByteText i k rest reply
-verdictText (Verdict.cut j) rest reply = numbered (ascii "part ") j (ascii " is cut\n")
-verdictText (Verdict.unmarked j) rest reply = numbered (ascii "part ") j (ascii " has no mark\n")
+verdictText (Verdict.cut j) rest reply = between (ascii "part ") j (ascii " is cut\n")
+verdictText (Verdict.unmarked j) rest reply = between (ascii "part ") j (ascii " has no mark\n")
+
+abbrev pub judgmentText : Judgment → List ℕ → List ℕ → List ℕ
+judgmentText judgment rest reply = verdictText (verdictListed judgment) rest reply
 
 unfoldable pub leftText : List ℕ → Left → List ℕ
 leftText recording l = verdictText (l .verdict) (drop (l .at) recording) (l .room)
 
--- judged on a fresh card
-unfoldable pub freshlyJudged : List ℕ → Left
-freshlyJudged recording = judgedIn recording (replicate storeBytes 0) fresh (replicate limit 0)
-
-unfoldable pub tooLongLine : List ℕ
-tooLongLine = ascii "too long\n"
+-- of a recording judged on a card of these cells, its pointers fresh
+unfoldable pub judgedText : List ℕ → List ℕ → List ℕ → List ℕ
+judgedText recording store reply = leftText recording (judgedIn recording store fresh reply)
 
 unfoldable pub said : List ℕ → List ℕ
-said recording = cond (ltb mostBytes (length recording)) tooLongLine (leftText recording (freshlyJudged recording))
+said recording =
+    cond (ltb mostBytes (length recording)) tooLongLine (judgedText recording (replicate storeBytes 0) (replicate limit 0))

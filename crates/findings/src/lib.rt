@@ -3,32 +3,29 @@ use cue::frame;
 use cue::frame::Frame;
 use lbp16::pointer::Pointers;
 use recording::Judgment;
-use report::line;
+use text::least;
+use text::line;
 
-mod hex;
+mod around;
 
 ghost use mathlib.Core.Path.{_≡_};
 ghost use Prim.Native.Nat.{_+_, _≤_};
 ghost use lib.ListN.{length};
-ghost use Rattle.lbp16.specs.Pointer.{fresh};
 ghost use Rattle.cue.specs.Output.{frontOf};
-ghost use Rattle.recording.specs.Recording.{verdictListed, judgedIn};
-ghost use Rattle.report.specs.Inside.{Put};
-ghost use Rattle.report.specs.Report.{reportLeft, lineLeft};
-ghost use Rattle.findings.specs.Findings.{numbered, frameEnd, frontBytes, behindFront, bothReplies, badByteText, verdictText, leftText, tooLongLine, said};
+ghost use Rattle.text.specs.Room.{filled, putAt, textLeft};
+ghost use Rattle.findings.specs.Findings.{between, frameEnd, frontBytes, bothReplies, repliesText};
+ghost use Rattle.findings.specs.Findings.{badByteText, judgmentText, judgedText, said};
 
 // The most bytes that a recording may have.
 const MOST: usize = 1000000;
 
 // A number between two texts. Each answers the place behind what it put.
-fn put_numbered(room: &mut [u8], at: usize, before: &[u8], n: u64, after: &[u8]) -> usize
-    requires { ⌜ at + length (now before) + length (now after) + 20 ≤ length (now room) ⌝ }
-    ensures { λ r. ⌜ Put (numbered (now (before .entry)) n (now (after .entry))) at (now (room .entry)) (now (room .exit)) r ⌝ }
-    ensures { λ r. ⌜ r ≤ at + length (now (before .entry)) + length (now (after .entry)) + 20 ⌝ }
+fn put_between(room: &mut [u8], at: usize, before: &[u8], n: u64, after: &[u8]) -> usize
+    ensures { λ r. ⌜ filled r (now (room .exit)) ≡ putAt (between (now (before .entry)) n (now (after .entry))) at (now (room .entry)) ⌝ }
+    ensures { λ r. ⌜ length (between (now (before .entry)) n (now (after .entry))) ≤ length (now (before .entry)) + length (now (after .entry)) + 20 ⌝ }
 {
-    let next = line::text(room, at, before);
-    let next = line::number(room, next, n);
-    line::text(room, next, after)
+    let next = line::numbered(room, at, before, n);
+    text::put(room, next, after)
 }
 
 // The bytes of the whole frame at the front, mark and length included, and none where there is no such frame.
@@ -46,55 +43,52 @@ fn frame_end(rest: &[u8]) -> usize
 
 // The reply that the card gave and the one found, around the byte at `k`.
 fn put_both(room: &mut [u8], at: usize, found: &[u8], reply: &[u8], k: usize) -> usize
-    requires { ⌜ at + 72 ≤ length (now room) ⌝ }
-    ensures { λ r. ⌜ Put (bothReplies (now (found .entry)) (now (reply .entry)) k) at (now (room .entry)) (now (room .exit)) r ⌝ }
+    ensures { λ r. ⌜ filled r (now (room .exit)) ≡ putAt (bothReplies (now (found .entry)) (now (reply .entry)) k) at (now (room .entry)) ⌝ }
 {
-    let own = hex::least(reply.len(), found.len());
-    let next = hex::put_around(room, at, b"expected", &reply[..own], k);
-    hex::put_around(room, next, b"found   ", found, k)
+    let own = least(found.len(), reply.len());
+    let next = around::put_around(room, at, b"expected", &reply[..own], k);
+    around::put_around(room, next, b"found   ", found, k)
 }
 
 // `behind` begins with the reply.
 fn put_behind(room: &mut [u8], at: usize, behind: &[u8], reply: &[u8], k: usize) -> usize
-    requires { ⌜ at + 72 ≤ length (now room) ⌝ }
-    ensures { λ r. ⌜ Put (bothReplies (frontBytes (now (behind .entry))) (now (reply .entry)) k) at (now (room .entry)) (now (room .exit)) r ⌝ }
+    ensures { λ r. ⌜ filled r (now (room .exit)) ≡ putAt (bothReplies (frontBytes (now (behind .entry))) (now (reply .entry)) k) at (now (room .entry)) ⌝ }
 {
     let end = frame_end(behind);
-    let start = hex::least(end, 4);
+    let start = least(4, end);
     put_both(room, at, &behind[start..end], reply, k)
 }
 
 // `rest` begins with the packet.
 fn put_replies(room: &mut [u8], at: usize, rest: &[u8], reply: &[u8], k: usize) -> usize
-    requires { ⌜ at + 72 ≤ length (now room) ⌝ }
-    ensures { λ r. ⌜ Put (bothReplies (frontBytes (behindFront (now (rest .entry)))) (now (reply .entry)) k) at (now (room .entry)) (now (room .exit)) r ⌝ }
+    ensures { λ r. ⌜ filled r (now (room .exit)) ≡ putAt (repliesText (now (rest .entry)) (now (reply .entry)) k) at (now (room .entry)) ⌝ }
 {
     let n = frame_end(rest);
     put_behind(room, at, &rest[n..], reply, k)
 }
 
 fn put_bad_byte(room: &mut [u8], packet: u64, place: u64, rest: &[u8], reply: &[u8]) -> usize
-    requires { ⌜ 256 ≤ length (now room) ⌝ }
-    ensures { λ r. ⌜ Put (badByteText packet place (now (rest .entry)) (now (reply .entry))) 0 (now (room .entry)) (now (room .exit)) r ⌝ }
+    ensures { λ r. ⌜ filled r (now (room .exit)) ≡ putAt (badByteText packet place (now (rest .entry)) (now (reply .entry))) 0 (now (room .entry)) ⌝ }
+    ensures { λ r. ⌜ length (badByteText packet place (now (rest .entry)) (now (reply .entry))) ≤ 256 ⌝ }
 {
-    let next = put_numbered(room, 0, b"packet ", packet, b", ");
-    let next = put_numbered(room, next, b"byte ", place, b" of its reply is wrong\n");
+    let next = put_between(room, 0, b"packet ", packet, b", ");
+    let next = put_between(room, next, b"byte ", place, b" of its reply is wrong\n");
     put_replies(room, next, rest, reply, place as usize)
 }
 
 // `rest` begins with the last packet looked at, and `reply` with what the card answered last.
 fn put_verdict(room: &mut [u8], judgment: Judgment, rest: &[u8], reply: &[u8]) -> usize
-    requires { ⌜ 256 ≤ length (now room) ⌝ }
-    ensures { λ r. ⌜ Put (verdictText (verdictListed judgment) (now (rest .entry)) (now (reply .entry))) 0 (now (room .entry)) (now (room .exit)) r ⌝ }
+    ensures { λ r. ⌜ filled r (now (room .exit)) ≡ putAt (judgmentText judgment (now (rest .entry)) (now (reply .entry))) 0 (now (room .entry)) ⌝ }
+    ensures { λ r. ⌜ length (judgmentText judgment (now (rest .entry)) (now (reply .entry))) ≤ 256 ⌝ }
 {
     match judgment {
-        Judgment::Yes(n) => put_numbered(room, 0, b"yes, ", n, b" packets\n"),
+        Judgment::Yes(n) => put_between(room, 0, b"yes, ", n, b" packets\n"),
         Judgment::Refused(r) => {
             let number = r.number as u64;
-            put_numbered(room, 0, b"refused ", number, b"\n")
+            put_between(room, 0, b"refused ", number, b"\n")
         }
-        Judgment::BadPacket(i) => put_numbered(room, 0, b"packet ", i, b" is refused\n"),
-        Judgment::BadLength(i) => put_numbered(
+        Judgment::BadPacket(i) => put_between(room, 0, b"packet ", i, b" is refused\n"),
+        Judgment::BadLength(i) => put_between(
             room,
             0,
             b"packet ",
@@ -102,16 +96,9 @@ fn put_verdict(room: &mut [u8], judgment: Judgment, rest: &[u8], reply: &[u8]) -
             b": its reply has another length\n",
         ),
         Judgment::BadByte { packet, place } => put_bad_byte(room, packet, place, rest, reply),
-        Judgment::Cut(j) => put_numbered(room, 0, b"part ", j, b" is cut\n"),
-        Judgment::Unmarked(j) => put_numbered(room, 0, b"part ", j, b" has no mark\n"),
+        Judgment::Cut(j) => put_between(room, 0, b"part ", j, b" is cut\n"),
+        Judgment::Unmarked(j) => put_between(room, 0, b"part ", j, b" has no mark\n"),
     }
-}
-
-fn put_too_long(room: &mut [u8]) -> usize
-    requires { ⌜ 256 ≤ length (now room) ⌝ }
-    ensures { λ r. ⌜ Put tooLongLine 0 (now (room .entry)) (now (room .exit)) r ⌝ }
-{
-    line::text(room, 0, b"too long\n")
 }
 
 // Judges a recording on a card of these cells, lent as zeros.
@@ -121,21 +108,21 @@ fn put_judged(
     store: &mut [u8; 65728],
     reply: &mut [u8; 1472],
 ) -> usize
-    requires { ⌜ 256 ≤ length (now room) ⌝ }
-    ensures { λ r. ⌜ Put (leftText (now (recording .entry)) (judgedIn (now (recording .entry)) (now (store .entry)) fresh (now (reply .entry)))) 0 (now (room .entry)) (now (room .exit)) r ⌝ }
+    ensures { λ r. ⌜ filled r (now (room .exit)) ≡ putAt (judgedText (now (recording .entry)) (now (store .entry)) (now (reply .entry))) 0 (now (room .entry)) ⌝ }
+    ensures { λ r. ⌜ length (judgedText (now (recording .entry)) (now (store .entry)) (now (reply .entry))) ≤ 256 ⌝ }
 {
     let judged = recording::judge_in(recording, store, Pointers::fresh(), reply);
     let judgment = judged.judgment;
-    let at = hex::least(judged.at, recording.len());
+    let at = least(judged.at, recording.len());
     put_verdict(room, judgment, &recording[at..], reply)
 }
 
 // The bytes to write stand at the front of the room; how many they are is answered.
 pub fn findings(recording: &[u8], room: &mut [u8; 256]) -> usize
-    ensures { λ r. ⌜ reportLeft r (now (room .exit)) ≡ lineLeft (said (now (recording .entry))) (now (room .entry)) ⌝ }
+    ensures { λ r. ⌜ filled r (now (room .exit)) ≡ textLeft (said (now (recording .entry))) (now (room .entry)) ⌝ }
 {
     if MOST < recording.len() {
-        return put_too_long(room);
+        return line::too_long(room, 0);
     }
     put_judged(room, recording, &mut [0; 65728], &mut [0; 1472])
 }

@@ -1,21 +1,20 @@
-use Rattle.findings.specs.Findings.{freshlyJudged}
+use native.Mathlib.Omega.{arith}
 use Rattle.findings.proofs.FindingLaws.{too-long-said, judged-said}
 use borrow.Author.Needs.{needs}
 use Rattle.findings.proofs.findings.Statement.{statement}
 use Rattle.findings.proofs.findings.Tie as tie
 
-put-too-long-requires : tie.Need-put-too-long-requires
-put-too-long-requires c κs = search needs
+too-long-requires : tie.Need-too-long-requires
+too-long-requires c κs = search needs
 
 returns : tie.Need-returns
-returns c = too-long-said _ _ _ _ (c .before .before .if1 .taken) (c .put-too-long .ensures)
+returns c = too-long-said _ _ (omega arith) (c .before .before .if1 .taken) (c .too-long .ensures)
 
 put-judged-requires : tie.Need-put-judged-requires
 put-judged-requires c κs = search needs
 
 returns-2 : tie.Need-returns-2
-unfolding freshlyJudged
-returns-2 c = judged-said _ _ _ _ (c .before .before .before .before .if1 .left) (c .put-judged .ensures)
+returns-2 c = judged-said _ _ (omega arith) (c .before .before .before .before .if1 .left) (c .put-judged .ensures .0) (c .put-judged .ensures .1)
 
 pub findings-spec : {M : Type 1} → statement M
-findings-spec = tie.close (tie.spec put-too-long-requires returns put-judged-requires returns-2)
+findings-spec = tie.close (tie.spec too-long-requires returns put-judged-requires returns-2)

@@ -17,7 +17,10 @@ part-put-both-start : tie.Need-part-put-both-start
 part-put-both-start c = search needs
 
 part-put-both-end : tie.Need-part-put-both-end
-part-put-both-end c = let w = end-within (c .before .before .before .before .before .before .args .behind .now) in omega (arith, c .before .before .frame-end .ensures)
+part-put-both-end c =
+    let b = c .before .before in
+    let w = end-within (b .before .before .before .before .args .behind .now) in
+    omega (arith, b .frame-end .ensures)
 
 put-both-requires : tie.Need-put-both-requires
 put-both-requires c κs = search needs
@@ -26,7 +29,10 @@ same-length : tie.Need-same-length
 same-length c = search needs
 
 returns : tie.Need-returns
-returns c = rw (front-bytes (c .before .before .before .before .before .before .before .before .before .before .args .behind .now) (c .before .before .before .before .before .before .frame-end .ensures) (c .before .before .before .before .before .least .ensures)) at (c .before .before .put-both .ensures)
+returns c =
+    let b = c .before .before .before .before .before in
+    let s = b .before .before .before .before .before .args .behind .now in
+    rw (front-bytes s (b .before .frame-end .ensures) (b .least .ensures)) at (c .before .before .put-both .ensures)
 
 pub put-behind-spec : {M : Type 1} → statement M
 put-behind-spec =

@@ -1,10 +1,8 @@
-use Rattle.findings.proofs.FindingLaws.{replies-put}
-use Rattle.findings.proofs.HexLaws.{line-behind}
-use Rattle.report.proofs.LineLaws.{put-length}
-use Rattle.report.specs.Text.{ascii}
-use lib.Seq.{length-take-le}
-use native.Mathlib.Omega.{arith}
 use mathlib.Core.Path.{sym}
+use native.Mathlib.Omega.{arith}
+use lib.Seq.{length-take-le}
+use Rattle.text.specs.Number.{ascii}
+use Rattle.findings.proofs.FindingLaws.{replies-put}
 use borrow.Author.Needs.{needs}
 use Rattle.findings.proofs.put_both.Statement.{statement}
 use Rattle.findings.proofs.put_both.Tie as tie
@@ -25,14 +23,17 @@ slice-aggregate-put-around-3 : tie.Need-slice-aggregate-put-around-3
 slice-aggregate-put-around-3 c = search needs
 
 put-around-requires-2 : tie.Need-put-around-requires-2
-put-around-requires-2 c κs = let p = c .before .before .before .before .put-around .ensures in omega (arith, line-behind _ _ _ p, put-length p, c .before .before .before .before .before .before .before .before .before .before .before .before .pre)
+put-around-requires-2 c κs = search needs
 
 same-length : tie.Need-same-length
 same-length c = search needs
 
 returns : tie.Need-returns
 unfolding ascii
-returns c = replies-put _ _ _ _ (c .before .before .before .before .before .before .before .before .before .before .before .least .ensures) (c .before .before .before .before .before .before .before .put-around .ensures) (c .before .before .put-around2 .ensures)
+returns c =
+    let z = c .before .before in
+    let y = z .before .before .before .before .before in
+    replies-put _ _ _ _ _ _ (y .before .before .before .before .least .ensures) (y .put-around .ensures) (z .put-around2 .ensures)
 
 pub put-both-spec : {M : Type 1} → statement M
 put-both-spec =

@@ -1,4 +1,4 @@
-use Rattle.findings.proofs.FindingLaws.{judged-put}
+use Rattle.findings.proofs.FindingLaws.{judged-is}
 use borrow.Author.Needs.{needs}
 use Rattle.findings.proofs.put_judged.Statement.{statement}
 use Rattle.findings.proofs.put_judged.Tie as tie
@@ -28,7 +28,10 @@ same-length : tie.Need-same-length
 same-length c = search needs
 
 returns : tie.Need-returns
-returns c = judged-put _ _ _ _ _ _ _ _ (c .before .before .before .before .before .before .before .before .before .before .fresh .ensures) (c .before .before .before .before .before .before .before .before .judge-in .ensures) (c .before .before .before .before .before .before .before .least .ensures) (c .before .before .put-verdict .ensures)
+returns c =
+    let b = c .before .before .before .before .before .before .before in
+    let e = judged-is _ _ _ _ _ _ _ _ (b .before .before .before .fresh .ensures) (b .before .judge-in .ensures) (b .least .ensures) in
+    rw e at (c .before .before .put-verdict .ensures)
 
 pub put-judged-spec : {M : Type 1} → statement M
 put-judged-spec =

@@ -1,5 +1,6 @@
-use Rattle.findings.proofs.FindingLaws.{end-within, behind-front}
 use native.Mathlib.Omega.{arith}
+use Rattle.findings.specs.Findings.{repliesText}
+use Rattle.findings.proofs.FindingLaws.{end-within, behind-front}
 use borrow.Author.Needs.{needs}
 use Rattle.findings.proofs.put_replies.Statement.{statement}
 use Rattle.findings.proofs.put_replies.Tie as tie
@@ -8,10 +9,14 @@ frame-end-requires : tie.Need-frame-end-requires
 frame-end-requires c κs = search needs
 
 sub-put-behind : tie.Need-sub-put-behind
-sub-put-behind c = let w = end-within (c .before .before .before .before .before .args .rest .now) in omega (arith, c .before .frame-end .ensures)
+sub-put-behind c =
+    let w = end-within (c .before .before .before .before .before .args .rest .now) in
+    omega (arith, c .before .frame-end .ensures)
 
 part-put-behind-start : tie.Need-part-put-behind-start
-part-put-behind-start c = let w = end-within (c .before .before .before .before .before .args .rest .now) in omega (arith, c .before .frame-end .ensures)
+part-put-behind-start c =
+    let w = end-within (c .before .before .before .before .before .args .rest .now) in
+    omega (arith, c .before .frame-end .ensures)
 
 part-put-behind-end : tie.Need-part-put-behind-end
 part-put-behind-end c = search needs
@@ -23,7 +28,10 @@ same-length : tie.Need-same-length
 same-length c = search needs
 
 returns : tie.Need-returns
-returns c = rw (behind-front (c .before .before .before .before .before .before .before .before .before .args .rest .now) (c .before .before .before .before .before .frame-end .ensures)) at (c .before .before .put-behind .ensures)
+unfolding repliesText
+returns c =
+    let b = c .before .before .before .before .before in
+    rw (behind-front (b .before .before .before .before .args .rest .now) (b .frame-end .ensures)) at (c .before .before .put-behind .ensures)
 
 pub put-replies-spec : {M : Type 1} → statement M
 put-replies-spec =

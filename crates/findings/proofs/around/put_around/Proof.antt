@@ -1,7 +1,7 @@
-use Rattle.findings.proofs.HexLaws.{window-is}
+use Rattle.findings.proofs.AroundLaws.{window-is}
 use borrow.Author.Needs.{needs}
-use Rattle.findings.proofs.hex.put_around.Statement.{statement}
-use Rattle.findings.proofs.hex.put_around.Tie as tie
+use Rattle.findings.proofs.around.put_around.Statement.{statement}
+use Rattle.findings.proofs.around.put_around.Tie as tie
 
 behind-window-requires : tie.Need-behind-window-requires
 behind-window-requires c κs = search needs
@@ -25,7 +25,10 @@ same-length : tie.Need-same-length
 same-length c = search needs
 
 returns : tie.Need-returns
-returns c = rw (window-is (c .before .before .before .before .before .before .before .before .before .before .args .bytes .now) (c .before .before .before .before .before .before .before .before .before .before .args .k) (c .before .before .before .before .before .before .behind-window .ensures) (c .before .before .before .before .before .before-window .ensures)) at (c .before .before .put-line .ensures)
+returns c =
+    let b = c .before .before .before .before .before in
+    let a = b .before .before .before .before .before .args in
+    rw (window-is (a .bytes .now) (a .k) (b .before .behind-window .ensures) (b .before-window .ensures)) at (c .before .before .put-line .ensures)
 
 pub put-around-spec : {M : Type 1} → statement M
 put-around-spec =
