@@ -60,9 +60,10 @@ unfolding elements payload carried isInfo
 elements-whole k s zero a d bytes h = tt
 elements-whole read s (suc n) a d bytes h =
     (λ e. let z : _≡_ {A = ℕ} 0 1 = cc in absurd (omega arith), elements-whole read s n (a + d) d bytes h)
-elements-whole write s (suc n) a d bytes h =
-    (λ e. let z : _≡_ {A = ℕ} 0 1 = cc in absurd (omega arith),
-     elements-whole write s n (a + d) d _ (λ e. let z : _≡_ {A = ℕ} 0 1 = cc in absurd (omega arith)))
+elements-whole write s (suc n) a d bytes h = (
+  λ e. let z : _≡_ {A = ℕ} 0 1 = cc in absurd (omega arith),
+  elements-whole write s n (a + d) d _ (λ e. let z : _≡_ {A = ℕ} 0 1 = cc in absurd (omega arith)),
+)
 elements-whole infoRead s (suc n) a d bytes h = (h, elements-whole infoRead s n (a + d) d bytes h)
 
 -- plain elements are no info reads

@@ -227,13 +227,13 @@ module _ {list packet pointers : List ℕ} {open? : Bool} {reply : ℕ} {rest : 
 
     next : (o : Bool)
         → o ≡ unlocked open?
-            (elements
-               (kindOf (fieldsAt rest))
-               (spaceOf (fieldsAt rest .space))
-               (fieldsAt rest .count)
-               (r .used)
-               (stride (fieldsAt rest))
-               (drop (headerBytes (fieldsAt rest)) rest))
+        (elements
+        (kindOf (fieldsAt rest))
+        (spaceOf (fieldsAt rest .space))
+        (fieldsAt rest .count)
+        (r .used)
+        (stride (fieldsAt rest))
+        (drop (headerBytes (fieldsAt rest)) rest))
         → commandAt g (length packet - length rest) rest .next
         ≡ record { pointers = pointersOf (set pointers (r .slot) (r .next)); unlocked = o; reply = reply + r .answered }
     unfolding reachFrom
@@ -241,20 +241,20 @@ module _ {list packet pointers : List ℕ} {open? : Bool} {reply : ℕ} {rest : 
         next-is rest (s .here) some none
         ∙ sym (progress-is g (fieldsAt rest) rest pass (r .used) (r .answered) _ o (ap (λ (t : Reach). t .used) e)
         (rw
-           (ap (λ (t : Reach). t .slot) e, ap (λ (t : Reach). t .next) e, ap (λ (t : Reach). t .used) e)
-           (slot-written pointers (s .eight) _ _ _ (pass .present)))
+        (ap (λ (t : Reach). t .slot) e, ap (λ (t : Reach). t .next) e, ap (λ (t : Reach). t .used) e)
+        (slot-written pointers (s .eight) _ _ _ (pass .present)))
         h
         (ap (λ (t : Reach). t .answered) e))
 
     next-checked : (o : Bool)
         → o ≡ unlocked open?
-            (elements
-               (kindOf (fieldsAt rest))
-               (spaceOf (fieldsAt rest .space))
-               (fieldsAt rest .count)
-               (r .used)
-               (stride (fieldsAt rest))
-               (drop (headerBytes (fieldsAt rest)) rest))
+        (elements
+        (kindOf (fieldsAt rest))
+        (spaceOf (fieldsAt rest .space))
+        (fieldsAt rest .count)
+        (r .used)
+        (stride (fieldsAt rest))
+        (drop (headerBytes (fieldsAt rest)) rest))
         → Checked list packet pointers o reply rest r
     unfolding reachFrom commandAt found
     next-checked o h =
@@ -314,13 +314,13 @@ module _ {list packet pointers : List ℕ} {open? : Bool} {reply : ℕ} {rest : 
 
       pub checking-next : (o : Bool)
           → o ≡ unlocked open?
-              (elements
-                 (kindOf (j .found .fields))
-                 (spaceOf (j .found .fields .space))
-                 (j .found .fields .count)
-                 (j .reach .used)
-                 (stride (j .found .fields))
-                 (drop (headerBytes (j .found .fields)) rest))
+          (elements
+          (kindOf (j .found .fields))
+          (spaceOf (j .found .fields .space))
+          (j .found .fields .count)
+          (j .reach .used)
+          (stride (j .found .fields))
+          (drop (headerBytes (j .found .fields)) rest))
           → Checked list packet pointers o reply rest (j .reach)
       checking-next o h =
           let pass = rw fields-found at checking-passed in

@@ -35,9 +35,10 @@ unfolding badByteText ascii
 returns c =
     let z = c .before .before in
     let y = z .before .before .before .before in
-    let x = y .before .before .before .before .before .before in
-    (put-then _ _ _ _ (put-then _ _ _ _ (x .put-between .ensures .0) (y .put-between2 .ensures .0)) (z .put-replies .ensures),
-      bad-byte-length _ _ _ _ (x .put-between .ensures .1) (y .put-between2 .ensures .1))
+    let x = y .before .before .before .before .before .before in (
+      put-then _ _ _ _ (put-then _ _ _ _ (x .put-between .ensures .0) (y .put-between2 .ensures .0)) (z .put-replies .ensures),
+      bad-byte-length _ _ _ _ (x .put-between .ensures .1) (y .put-between2 .ensures .1),
+    )
 
 pub put-bad-byte-spec : {M : Type 1} → statement M
 put-bad-byte-spec =

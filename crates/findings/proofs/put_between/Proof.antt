@@ -19,9 +19,10 @@ returns : tie.Need-returns
 unfolding between
 returns c =
     let b = c .before .before in
-    let z = b .before .before .before .before .before .before .before .before .before in
-    (put-then _ _ _ _ (b .before .before .before .before .numbered .ensures) (b .put .ensures),
-      between-length _ _ (z .args .n) (omega (arith, z .fits .n)))
+    let z = b .before .before .before .before .before .before .before .before .before in (
+      put-then _ _ _ _ (b .before .before .before .before .numbered .ensures) (b .put .ensures),
+      between-length _ _ (z .args .n) (omega (arith, z .fits .n)),
+    )
 
 pub put-between-spec : {M : Type 1} → statement M
 put-between-spec = tie.close (tie.spec numbered-requires put-requires same-length returns)

@@ -21,9 +21,9 @@ returns c =
     let at-entry = at-mark .before .before .before .before .before in
     let p = at-entry .pre in
     compared-is _ _
-      (p .0)
-      (p .1) _
-      (c .first-clash .ensures _ _ (at-mark .mark .ensures _ (p .0 .list-records)) (p .1 .list-records))
+    (p .0)
+    (p .1) _
+    (c .first-clash .ensures _ _ (at-mark .mark .ensures _ (p .0 .list-records)) (p .1 .list-records))
 
 pub compare-spec : {M : Type 1} → statement M
 compare-spec = tie.close (tie.spec mark-requires first-clash-requires same-length returns)

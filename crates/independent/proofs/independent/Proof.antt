@@ -21,10 +21,10 @@ returns-2 c =
     let at-if1 = c .before .before .before in
     let at-refusal-of = at-if1 .before .before in
     answered _ _ _
-      (second-refused _ _ _
-         (accepted-if _ _ (at-refusal-of .refusal-of .ensures) (at-if1 .if1 .left))
-         (c .before .before .refusal-of2 .ensures)
-         (c .if2 .taken))
+    (second-refused _ _ _
+    (accepted-if _ _ (at-refusal-of .refusal-of .ensures) (at-if1 .if1 .left))
+    (c .before .before .refusal-of2 .ensures)
+    (c .if2 .taken))
 
 slice-aggregate-compare : tie.Need-slice-aggregate-compare
 slice-aggregate-compare c = search needs
@@ -33,10 +33,11 @@ compare-requires : tie.Need-compare-requires
 compare-requires c κs =
     let at-refusal-of2 = c .before .before .before in
     let at-if1 = at-refusal-of2 .before in
-    let at-refusal-of = at-if1 .before .before in
-    (accepted-if _ _ (at-refusal-of .refusal-of .ensures) (at-if1 .if1 .left),
-     accepted-if _ _ (at-refusal-of2 .refusal-of2 .ensures) (c .before .if2 .left),
-     fresh-marks 8216 refl)
+    let at-refusal-of = at-if1 .before .before in (
+      accepted-if _ _ (at-refusal-of .refusal-of .ensures) (at-if1 .if1 .left),
+      accepted-if _ _ (at-refusal-of2 .refusal-of2 .ensures) (c .before .if2 .left),
+      fresh-marks 8216 refl,
+    )
 
 returns-3 : tie.Need-returns-3
 returns-3 c = answered _ _ _ (c .before .compare .ensures)

@@ -29,11 +29,11 @@ returns-2 c =
     let at-from-list = c .before .before .before in
     let at-if1 = at-from-list .before in
     list-checked _ _ _ _
-      (at-if1 .if1 .left) _
-      (check-state _ _ _
-         (sym (c .before .before .bad-state .ensures ∙ ap (badState _) (at-from-list .from-list .ensures))
-          ∙ c .before .if2 .taken))
-      (c .refused2 .ensures)
+    (at-if1 .if1 .left) _
+    (check-state _ _ _
+    (sym (c .before .before .bad-state .ensures ∙ ap (badState _) (at-from-list .from-list .ensures))
+    ∙ c .before .if2 .taken))
+    (c .refused2 .ensures)
 
 refused-requires-3 : tie.Need-refused-requires-3
 refused-requires-3 c κs = search needs
@@ -45,12 +45,12 @@ returns-3 c =
     let at-from-list = at-bad-state .before in
     let at-if1 = at-from-list .before in
     list-checked _ _ _ _
-      (at-if1 .if1 .left) _
-      (check-long _ _ _
-         (sym (at-bad-state .bad-state .ensures ∙ ap (badState _) (at-from-list .from-list .ensures))
-          ∙ c .before .before .if2 .left)
-         (c .before .if3 .taken))
-      (c .refused3 .ensures)
+    (at-if1 .if1 .left) _
+    (check-long _ _ _
+    (sym (at-bad-state .bad-state .ensures ∙ ap (badState _) (at-from-list .from-list .ensures))
+    ∙ c .before .before .if2 .left)
+    (c .before .if3 .taken))
+    (c .refused3 .ensures)
 
 judge-list-requires : tie.Need-judge-list-requires
 judge-list-requires c κs = search needs
@@ -58,13 +58,13 @@ judge-list-requires c κs = search needs
 returns-4 : tie.Need-returns-4
 returns-4 c =
     list-checked _ _ _ _
-      (c .before .before .before .before .before .if1 .left) _
-      (check-judge _ _ _
-         (sym
-            (c .before .before .before .bad-state .ensures
-             ∙ ap (badState _) (c .before .before .before .before .from-list .ensures))
-          ∙ c .before .before .if2 .left)
-         (c .before .if3 .left))
+    (c .before .before .before .before .before .if1 .left) _
+    (check-judge _ _ _
+    (sym
+    (c .before .before .before .bad-state .ensures
+    ∙ ap (badState _) (c .before .before .before .before .from-list .ensures))
+    ∙ c .before .before .if2 .left)
+    (c .before .if3 .left))
     (c .judge-list .ensures ∙ rw (eq-eqb _ _ (c .before .before .before .before .before .if1 .left)) refl)
 
 pub check-list-spec : {M : Type 1} → statement M

@@ -62,12 +62,13 @@ unfolding number
 returns c =
     let at-args = c .before .before .before .before .before .before .before .before .before in
     let a = at-args .args in
-    omega
-      (arith,
-       number-next 3 (now (a .s)) (a .at) (omega arith),
-       number-from 2 (now (a .s)) (a .at) 1 (omega arith),
-       number-from 1 (now (a .s)) (a .at) 2 (omega arith),
-       number-from 0 (now (a .s)) (a .at) 3 (omega arith))
+    omega (
+      arith,
+      number-next 3 (now (a .s)) (a .at) (omega arith),
+      number-from 2 (now (a .s)) (a .at) 1 (omega arith),
+      number-from 1 (now (a .s)) (a .at) 2 (omega arith),
+      number-from 0 (now (a .s)) (a .at) 3 (omega arith),
+    )
 
 pub fetch4-spec : {M : Type 1} → statement M
 fetch4-spec =

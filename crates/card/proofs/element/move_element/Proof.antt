@@ -27,16 +27,16 @@ returns c =
     let at-shared-slice-known = at-if1 .before .before in
     let at-args = at-shared-slice-known .before in
     rw
-      (at-if1 .if1 .taken)
-      (moved 4
-         (now (at-args .args .src))
-         (now (at-args .args .dst)) _
-         (at-args .args .i)
-         (at-args .args .j) _
-         (rw (at-if1 .if1 .taken) at (at-args .pre .0))
-         (λ k l. omega (arith, at-shared-slice-known .shared-slice-known .given k))
-         (at-fetch4 .fetch4 .ensures)
-         (c .before .before .store4 .ensures))
+    (at-if1 .if1 .taken)
+    (moved 4
+    (now (at-args .args .src))
+    (now (at-args .args .dst)) _
+    (at-args .args .i)
+    (at-args .args .j) _
+    (rw (at-if1 .if1 .taken) at (at-args .pre .0))
+    (λ k l. omega (arith, at-shared-slice-known .shared-slice-known .given k))
+    (at-fetch4 .fetch4 .ensures)
+    (c .before .before .store4 .ensures))
 
 same-length-2 : tie.Need-same-length-2
 same-length-2 c = search needs
@@ -48,16 +48,16 @@ returns-2 c =
     let at-shared-slice-known = at-if1 .before .before in
     let at-args = at-shared-slice-known .before in
     rw
-      (at-if1 .if1 .left)
-      (moved 2
-         (now (at-args .args .src))
-         (now (at-args .args .dst)) _
-         (at-args .args .i)
-         (at-args .args .j) _
-         (rw (at-if1 .if1 .left) at (at-args .pre .0))
-         (λ k l. omega (arith, at-shared-slice-known .shared-slice-known .given k))
-         (at-fetch2 .fetch2 .ensures)
-         (c .before .before .store2 .ensures))
+    (at-if1 .if1 .left)
+    (moved 2
+    (now (at-args .args .src))
+    (now (at-args .args .dst)) _
+    (at-args .args .i)
+    (at-args .args .j) _
+    (rw (at-if1 .if1 .left) at (at-args .pre .0))
+    (λ k l. omega (arith, at-shared-slice-known .shared-slice-known .given k))
+    (at-fetch2 .fetch2 .ensures)
+    (c .before .before .store2 .ensures))
 
 pub move-element-spec : {M : Type 1} → statement M
 move-element-spec =

@@ -26,11 +26,11 @@ do-command-requires c κs =
     let at-loop-test = at-next-command .before .before in
     let at-loop = at-loop-test .before in
     let n =
-        next
-          (at-loop .loop .inv)
-          (at-loop-test .loop-test .taken) _ _
-          (at-next-command .next-command .ensures .0)
-          (at-next-command .next-command .ensures .1) in
+    next
+    (at-loop .loop .inv)
+    (at-loop-test .loop-test .taken) _ _
+    (at-next-command .next-command .ensures .0)
+    (at-next-command .next-command .ensures .1) in
     (n .ready, n .store-bytes, n .room)
 
 mul-pointers : tie.Need-mul-pointers Inv-loop μ-loop
@@ -39,11 +39,11 @@ mul-pointers c =
     let at-loop-test = at-next-command .before .before in
     let at-loop = at-loop-test .before in
     let n =
-        next
-          (at-loop .loop .inv)
-          (at-loop-test .loop-test .taken) _ _
-          (at-next-command .next-command .ensures .0)
-          (at-next-command .next-command .ensures .1) in
+    next
+    (at-loop .loop .inv)
+    (at-loop-test .loop-test .taken) _ _
+    (at-next-command .next-command .ensures .0)
+    (at-next-command .next-command .ensures .1) in
     let h = n .slot in let e = at-loop .loop .inv .eight in omega arith
 
 slice-write-pointers : tie.Need-slice-write-pointers Inv-loop μ-loop
@@ -52,10 +52,10 @@ slice-write-pointers c =
     let at-loop-test = at-next-command .before .before in
     let at-loop = at-loop-test .before in
     next
-      (at-loop .loop .inv)
-      (at-loop-test .loop-test .taken) _ _
-      (at-next-command .next-command .ensures .0)
-      (at-next-command .next-command .ensures .1) .slot
+    (at-loop .loop .inv)
+    (at-loop-test .loop-test .taken) _ _
+    (at-next-command .next-command .ensures .0)
+    (at-next-command .next-command .ensures .1) .slot
 
 add-filled : tie.Need-add-filled Inv-loop μ-loop
 add-filled c =
@@ -63,11 +63,11 @@ add-filled c =
     let at-loop-test = at-next-command .before .before in
     let at-loop = at-loop-test .before in
     let h =
-        next
-          (at-loop .loop .inv)
-          (at-loop-test .loop-test .taken) _ _
-          (at-next-command .next-command .ensures .0)
-          (at-next-command .next-command .ensures .1) .answers in
+    next
+    (at-loop .loop .inv)
+    (at-loop-test .loop-test .taken) _ _
+    (at-next-command .next-command .ensures .0)
+    (at-next-command .next-command .ensures .1) .answers in
     omega arith
 
 summed-requires : tie.Need-summed-requires Inv-loop μ-loop
@@ -77,11 +77,11 @@ summed-requires c κs =
     let at-loop = at-loop-test .before in
     let at-good = at-loop .before .before .before .before .before in
     let h =
-        count-small
-          (at-loop .loop .inv)
-          (at-loop-test .loop-test .taken) _ _
-          (at-next-command .next-command .ensures .0)
-          (at-next-command .next-command .ensures .1) in
+    count-small
+    (at-loop .loop .inv)
+    (at-loop-test .loop-test .taken) _ _
+    (at-next-command .next-command .ensures .0)
+    (at-next-command .next-command .ensures .1) in
     omega (arith, at-good .good)
 
 sub-rest : tie.Need-sub-rest Inv-loop μ-loop
@@ -90,10 +90,10 @@ sub-rest c =
     let at-loop-test = at-next-command .before .before in
     let at-loop = at-loop-test .before in
     turn
-      (at-loop .loop .inv)
-      (at-loop-test .loop-test .taken) _ _
-      (at-next-command .next-command .ensures .0)
-      (at-next-command .next-command .ensures .1) .whole
+    (at-loop .loop .inv)
+    (at-loop-test .loop-test .taken) _ _
+    (at-next-command .next-command .ensures .0)
+    (at-next-command .next-command .ensures .1) .whole
 
 part-rest-start : tie.Need-part-rest-start Inv-loop μ-loop
 part-rest-start c =
@@ -101,10 +101,10 @@ part-rest-start c =
     let at-loop-test = at-next-command .before .before in
     let at-loop = at-loop-test .before in
     turn
-      (at-loop .loop .inv)
-      (at-loop-test .loop-test .taken) _ _
-      (at-next-command .next-command .ensures .0)
-      (at-next-command .next-command .ensures .1) .whole
+    (at-loop .loop .inv)
+    (at-loop-test .loop-test .taken) _ _
+    (at-next-command .next-command .ensures .0)
+    (at-next-command .next-command .ensures .1) .whole
 
 part-rest-end : tie.Need-part-rest-end Inv-loop μ-loop
 part-rest-end c = search needs
@@ -115,26 +115,26 @@ loop-less c =
     let at-loop-test = at-next-command .before .before in
     let at-loop = at-loop-test .before in
     let t =
-        turn
-          (at-loop .loop .inv)
-          (at-loop-test .loop-test .taken) _ _
-          (at-next-command .next-command .ensures .0)
-          (at-next-command .next-command .ensures .1) in
+    turn
+    (at-loop .loop .inv)
+    (at-loop-test .loop-test .taken) _ _
+    (at-next-command .next-command .ensures .0)
+    (at-next-command .next-command .ensures .1) in
     simp (length-take, length-drop) (omega (arith, t .some, t .whole))
 
 loop-again : tie.Need-loop-again Inv-loop μ-loop
 loop-again c =
     let d = c .before .before .before .before .before .before .before .do-command .ensures in
     doing-next
-      (c .before .before .before .before .before .before .before .before .before .before .before .before .before .before .before .before .loop .inv)
-      (c .before .before .before .before .before .before .before .before .before .before .before .before .before .before .before .loop-test .taken)
-      _ _
-      (c .before .before .before .before .before .before .before .before .before .before .before .before .before .next-command .ensures .0)
-      (c .before .before .before .before .before .before .before .before .before .before .before .before .before .next-command .ensures .1)
-      _ _
-      (d .0)
-      (d .1) _
-      (c .before .summed .ensures)
+    (c .before .before .before .before .before .before .before .before .before .before .before .before .before .before .before .before .loop .inv)
+    (c .before .before .before .before .before .before .before .before .before .before .before .before .before .before .before .loop-test .taken)
+    _ _
+    (c .before .before .before .before .before .before .before .before .before .before .before .before .before .next-command .ensures .0)
+    (c .before .before .before .before .before .before .before .before .before .before .before .before .before .next-command .ensures .1)
+    _ _
+    (d .0)
+    (d .1) _
+    (c .before .summed .ensures)
 
 same-length : tie.Need-same-length Inv-loop μ-loop
 same-length c = length-store (c .before .loop .inv)

@@ -27,22 +27,22 @@ read-span-requires c κs =
     let b = c .before .before .before .before .before .before .before .before .before .before .before .before in
     let p = b .pre in
     let q =
-        from-area _ _ _
-          (b .args .store .now) _ _
-          (sym (c .before .before .before .before .before .before .is-info .ensures)
-           ∙ c .before .before .before .before .before .if1 .taken)
-          (c .before .before .before .pointer-in .ensures
-           ∙ plain-pointer _ _ _ (c .before .before .before .before .slot-of .ensures))
-          (c .before .before .area-bytes .ensures) in
+    from-area _ _ _
+    (b .args .store .now) _ _
+    (sym (c .before .before .before .before .before .before .is-info .ensures)
+    ∙ c .before .before .before .before .before .if1 .taken)
+    (c .before .before .before .pointer-in .ensures
+    ∙ plain-pointer _ _ _ (c .before .before .before .before .slot-of .ensures))
+    (c .before .before .area-bytes .ensures) in
     let a =
-        read-asked _ _ _
-          (p .0 .passed) _
-          (c .before .before .before .before .before .before .before .span-of .ensures _ _ (p .0 .reach)) _ _
-          (b .args .tail .now)
-          (p .1)
-          (p .2)
-          (p .3)
-          q in
+    read-asked _ _ _
+    (p .0 .passed) _
+    (c .before .before .before .before .before .before .before .span-of .ensures _ _ (p .0 .reach)) _ _
+    (b .args .tail .now)
+    (p .1)
+    (p .2)
+    (p .3)
+    q in
     (a .step, a .width, a .spread, a .lined)
 
 read-span-requires-2 : tie.Need-read-span-requires-2
@@ -61,22 +61,22 @@ returns c =
     let b = c .before .before .before .before .before .before .before .before .before .before .before .before .before .before .before in
     let p = b .pre in
     let q =
-        from-area _ _ _
-          (b .args .store .now) _ _
-          (sym (c .before .before .before .before .before .before .before .before .before .is-info .ensures)
-           ∙ c .before .before .before .before .before .before .before .before .if1 .taken)
-          (c .before .before .before .before .before .before .pointer-in .ensures
-           ∙ plain-pointer _ _ _ (c .before .before .before .before .before .before .before .slot-of .ensures))
-          (c .before .before .before .before .before .area-bytes .ensures) in
+    from-area _ _ _
+    (b .args .store .now) _ _
+    (sym (c .before .before .before .before .before .before .before .before .before .is-info .ensures)
+    ∙ c .before .before .before .before .before .before .before .before .if1 .taken)
+    (c .before .before .before .before .before .before .pointer-in .ensures
+    ∙ plain-pointer _ _ _ (c .before .before .before .before .before .before .before .slot-of .ensures))
+    (c .before .before .before .before .before .area-bytes .ensures) in
     read-done _ _ _
-      (p .0 .passed) _
-      (c .before .before .before .before .before .before .before .before .before .before .span-of .ensures _ _
-         (p .0 .reach)) _ _ _
-      (p .1)
-      (p .2)
-      (p .3)
-      q _
-      (c .before .before .read-span .ensures)
+    (p .0 .passed) _
+    (c .before .before .before .before .before .before .before .before .before .before .span-of .ensures _ _
+    (p .0 .reach)) _ _ _
+    (p .1)
+    (p .2)
+    (p .3)
+    q _
+    (c .before .before .read-span .ensures)
 
 same-length-2 : tie.Need-same-length-2
 same-length-2 c = search needs
@@ -86,18 +86,18 @@ returns-2 c =
     let b = c .before .before .before .before .before .before .before .before .before .before .before in
     let p = b .pre in
     let q =
-        from-store _ _ _
-          (b .args .store .now)
-          (sym (c .before .before .before .before .before .is-info .ensures)
-           ∙ c .before .before .before .before .if1 .left) in
+    from-store _ _ _
+    (b .args .store .now)
+    (sym (c .before .before .before .before .before .is-info .ensures)
+    ∙ c .before .before .before .before .if1 .left) in
     read-done _ _ _
-      (p .0 .passed) _
-      (c .before .before .before .before .before .before .span-of .ensures _ _ (p .0 .reach)) _ _ _
-      (p .1)
-      (p .2)
-      (p .3)
-      q _
-      (c .before .before .read-span2 .ensures)
+    (p .0 .passed) _
+    (c .before .before .before .before .before .before .span-of .ensures _ _ (p .0 .reach)) _ _ _
+    (p .1)
+    (p .2)
+    (p .3)
+    q _
+    (c .before .before .read-span2 .ensures)
 
 pub read-command-spec : {M : Type 1} → statement M
 read-command-spec =

@@ -21,20 +21,20 @@ unfolding headerListed first
 returns c =
     let at-first-of = c .before .before .before in
     sym
-      (header-refused _ _
-         (simp
-            (c .before .first-of2 .ensures, c .before .before .other-command .ensures, at-first-of .first-of .ensures))
-         (c .if1 .taken))
+    (header-refused _ _
+    (simp
+    (c .before .first-of2 .ensures, c .before .before .other-command .ensures, at-first-of .first-of .ensures))
+    (c .if1 .taken))
 
 -- past the test no rule holds
 none : (c : tie.Else1) → first (headerRules (c .before .before .before .before .before .before .args .h)) ≡ 0
 none c =
     let at-first-of = c .before .before .before in
     sym
-      (header-number _ _ _ _
-         (c .before .first-of2 .ensures)
-         (c .before .before .other-command .ensures)
-         (at-first-of .first-of .ensures))
+    (header-number _ _ _ _
+    (c .before .first-of2 .ensures)
+    (c .before .before .other-command .ensures)
+    (at-first-of .first-of .ensures))
     ∙ c .if1 .left
 
 accepted : (c : tie.Else1) → Writable (c .before .before .before .before .before .before .args .h)

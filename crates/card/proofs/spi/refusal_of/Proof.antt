@@ -52,17 +52,18 @@ returns c =
     let at-header-of = at-out-of-place .before .before in
     let at-first-word = at-header-of .before in
     let at-args = at-first-word .before .before .before .before in
-    simp
-      (c .first-of6 .ensures,
-       c .before .first-of5 .ensures,
-       c .before .before .first-of4 .ensures,
-       at-other-command .other-command .ensures,
-       at-first-of3 .first-of3 .ensures,
-       at-first-of2 .first-of2 .ensures,
-       at-first-of .first-of .ensures,
-       at-out-of-place .out-of-place .ensures (now (at-args .args .words)),
-       at-header-of .header-of .ensures,
-       at-first-word .first-word .ensures)
+    simp (
+      c .first-of6 .ensures,
+      c .before .first-of5 .ensures,
+      c .before .before .first-of4 .ensures,
+      at-other-command .other-command .ensures,
+      at-first-of3 .first-of3 .ensures,
+      at-first-of2 .first-of2 .ensures,
+      at-first-of .first-of .ensures,
+      at-out-of-place .out-of-place .ensures (now (at-args .args .words)),
+      at-header-of .header-of .ensures,
+      at-first-word .first-word .ensures,
+    )
 
 pub refusal-of-spec : {M : Type 1} → statement M
 refusal-of-spec =

@@ -29,8 +29,8 @@ plain-word c =
     let at-for-registers = at-if1 .before in
     let at-fields-of = at-for-registers .before in
     registers-word _ _
-      (at-fields-of .fields-of .ensures)
-      (sym (at-for-registers .for-registers .ensures) ∙ at-if1 .if1 .taken)
+    (at-fields-of .fields-of .ensures)
+    (sym (at-for-registers .for-registers .ensures) ∙ at-if1 .if1 .taken)
 
 reach-by-requires : tie.Need-reach-by-requires
 reach-by-requires c κs = let r = plain-word c in (c .row-of .ensures ∙ registers-row _ r, registers-slot _ r)
@@ -38,13 +38,13 @@ reach-by-requires c κs = let r = plain-word c in (c .row-of .ensures ∙ regist
 returns : tie.Need-returns
 returns c =
     next-is _ _ _ _ _
-      (c .before .before .before .before .before .before .before .word-at .ensures)
-      (c .before .before .before .before .before .before .fields-of .ensures)
+    (c .before .before .before .before .before .before .before .word-at .ensures)
+    (c .before .before .before .before .before .before .fields-of .ensures)
     (reach-found _ _ _ _ _ _ _
-       (registers-slot _ (plain-word (c .before)))
-       (c .before .before .before .pointer-in .ensures)
-       (c .before .before .address-by .ensures)
-       (c .reach-by .ensures))
+    (registers-slot _ (plain-word (c .before)))
+    (c .before .before .before .pointer-in .ensures)
+    (c .before .before .address-by .ensures)
+    (c .reach-by .ensures))
 
 is-info-requires : tie.Need-is-info-requires
 is-info-requires c κs = search needs
@@ -70,15 +70,15 @@ reach-by-requires-2 c κs =
 returns-2 : tie.Need-returns-2
 returns-2 c =
     next-is _ _ _ _ _
-      (c .before .before .before .before .before .before .before .before .before .word-at .ensures)
-      (c .before .before .before .before .before .before .before .before .fields-of .ensures)
+    (c .before .before .before .before .before .before .before .before .before .word-at .ensures)
+    (c .before .before .before .before .before .before .before .before .fields-of .ensures)
     (reach-found _ _ _ _ _ _ _
-       (slot-is _ _ _
-          (c .before .before .before .before .before .is-info .ensures)
-          (c .before .before .before .before .slot-of .ensures))
-       (c .before .before .before .pointer-in2 .ensures)
-       (c .before .before .address-by2 .ensures)
-       (c .reach-by2 .ensures))
+    (slot-is _ _ _
+    (c .before .before .before .before .before .is-info .ensures)
+    (c .before .before .before .before .slot-of .ensures))
+    (c .before .before .before .pointer-in2 .ensures)
+    (c .before .before .address-by2 .ensures)
+    (c .reach-by2 .ensures))
 
 pub next-command-spec : {M : Type 1} → statement M
 next-command-spec =

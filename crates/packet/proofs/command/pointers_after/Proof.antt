@@ -20,13 +20,14 @@ with-requires c κs = search needs
 
 returns : tie.Need-returns
 returns c =
-    rw
-      (c .with .ensures,
-       c .before .is-info .ensures,
-       c .before .before .advance .ensures,
-       c .before .before .before .before .new .ensures,
-       c .before .before .before .moved-bytes .ensures .0)
-      refl
+    rw (
+      c .with .ensures,
+      c .before .is-info .ensures,
+      c .before .before .advance .ensures,
+      c .before .before .before .before .new .ensures,
+      c .before .before .before .moved-bytes .ensures .0,
+    )
+    refl
 
 pub pointers-after-spec : {M : Type 1} → statement M
 pointers-after-spec =

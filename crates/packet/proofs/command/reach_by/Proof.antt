@@ -56,19 +56,19 @@ cast-t20 c = search needs
 returns : tie.Need-returns
 returns c =
     reach-is
-      (c .before .before .before .before .before .before .before .before .before .before .before .args .f)
-      (c .before .before .before .before .before .before .before .before .before .before .before .args .row) _ _ _ _ _ _
-      _
-      (c .before .before .before .before .before .before .before .before .before .before .before .pre .0)
-      (c .before .before .before .before .before .before .before .before .before .before .before .pre .1)
-      (c .header-bytes .ensures .0)
+    (c .before .before .before .before .before .before .before .before .before .before .before .args .f)
+    (c .before .before .before .before .before .before .before .before .before .before .before .args .row) _ _ _ _ _ _
+    _
+    (c .before .before .before .before .before .before .before .before .before .before .before .pre .0)
+    (c .before .before .before .before .before .before .before .before .before .before .before .pre .1)
+    (c .header-bytes .ensures .0)
     (c .before .before .before .before .before .before .before .before .bytes-if .ensures)
-      (c .before .before .before .before .before .before .bytes-if2 .ensures)
-      (c .before .before .before .before .before .bytes-if3 .ensures)
-      (c .before .before .before .advance .ensures
-       ∙ ap
-           (λ (n : ℕ). advanced n (c .before .before .before .before .before .bytes-if3 .result))
-           (c .before .before .before .before .new .ensures))
+    (c .before .before .before .before .before .before .bytes-if2 .ensures)
+    (c .before .before .before .before .before .bytes-if3 .ensures)
+    (c .before .before .before .advance .ensures
+    ∙ ap
+    (λ (n : ℕ). advanced n (c .before .before .before .before .before .bytes-if3 .result))
+    (c .before .before .before .before .new .ensures))
 
 pub reach-by-spec : {M : Type 1} → statement M
 reach-by-spec =

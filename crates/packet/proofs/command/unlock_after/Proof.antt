@@ -39,14 +39,15 @@ loop-less : tie.Need-loop-less Inv-loop μ-loop
 loop-less c = omega arith
 
 loop-again : tie.Need-loop-again Inv-loop μ-loop
-loop-again c =
-    (omega arith,
-     omega arith,
-     omega arith,
-     omega arith,
-     c .before .before .loop .inv .4
-     ∙ unlock-again _ _ _ _ _ _ (c .before .loop-test .taken)
-     ∙ rw (sym (c .turned-by .ensures)) refl)
+loop-again c = (
+  omega arith,
+  omega arith,
+  omega arith,
+  omega arith,
+  c .before .before .loop .inv .4
+      ∙ unlock-again _ _ _ _ _ _ (c .before .loop-test .taken)
+      ∙ rw (sym (c .turned-by .ensures)) refl,
+)
 
 returns : tie.Need-returns Inv-loop μ-loop
 unfolding unlocked elements

@@ -30,10 +30,10 @@ returns c =
     let at-header-bytes = c .before .before .before in
     let at-if1 = at-header-bytes .before in
     unlock-next _ _ _ _ _ _ _
-      (at-if1 .if1 .taken)
-      (at-header-bytes .header-bytes .ensures .0)
-      (c .before .before .stride-of .ensures)
-      (c .unlock-after .ensures)
+    (at-if1 .if1 .taken)
+    (at-header-bytes .header-bytes .ensures .0)
+    (c .before .before .stride-of .ensures)
+    (c .unlock-after .ensures)
 
 returns-2 : tie.Need-returns-2
 returns-2 c = sym (unlock-kept _ _ _ _ _ _ _ (not-status _ (c .if1 .left)))

@@ -23,10 +23,10 @@ returns c =
     let at-fields-of = at-header-bytes .before in
     let at-entry = at-fields-of .before .before .before in
     c .judged-by .ensures _ _ _ _
-      (at-fields-of .fields-of .ensures ∙ at-entry .pre .0)
-      (cut-off _ _ _ _ _ _
-         (let h = at-header-bytes .header-bytes .ensures .0 in omega arith)
-         (c .before .cut-off .ensures))
+    (at-fields-of .fields-of .ensures ∙ at-entry .pre .0)
+    (cut-off _ _ _ _ _ _
+    (let h = at-header-bytes .header-bytes .ensures .0 in omega arith)
+    (c .before .cut-off .ensures))
 
 area-ruling-requires : tie.Need-area-ruling-requires
 area-ruling-requires c κs = let h = c .before .header-bytes .ensures .0 in search needs
@@ -39,8 +39,8 @@ returns-2 c =
     let at-fields-of = c .before .before .before .before in
     let at-entry = at-fields-of .before .before .before in
     c .judged-by2 .ensures _ _ _ _
-      (at-fields-of .fields-of .ensures ∙ at-entry .pre .0)
-      (c .before .area-ruling .ensures)
+    (at-fields-of .fields-of .ensures ∙ at-entry .pre .0)
+    (c .before .area-ruling .ensures)
 
 pub area-at-spec : {M : Type 1} → statement M
 area-at-spec =

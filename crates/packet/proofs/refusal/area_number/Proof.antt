@@ -145,15 +145,15 @@ returns-9 : tie.Need-returns-9
 unfolding refusals reachFrom
 returns-9 c p e =
     first-here _ _ _
-      (past-11 (c .before .before) p e)
-      (rw (← ap (λ (t : Reach). t .answered) e) (sym (c .before .passes-limit .ensures) ∙ c .if9 .taken))
+    (past-11 (c .before .before) p e)
+    (rw (← ap (λ (t : Reach). t .answered) e) (sym (c .before .passes-limit .ensures) ∙ c .if9 .taken))
 
 past-12 : (c : tie.Else9) → Past 10 (start-9 c)
 unfolding refusals reachFrom
 past-12 c p e =
     first-past _ _ _
-      (past-11 (c .before .before) p e)
-      (rw (← ap (λ (t : Reach). t .answered) e) (sym (c .before .passes-limit .ensures) ∙ c .if9 .left))
+    (past-11 (c .before .before) p e)
+    (rw (← ap (λ (t : Reach). t .answered) e) (sym (c .before .passes-limit .ensures) ∙ c .if9 .left))
 
 returns-10 : tie.Need-returns-10
 unfolding refusals first

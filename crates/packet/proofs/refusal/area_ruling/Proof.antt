@@ -31,10 +31,10 @@ returns : tie.Need-returns
 returns c =
     ruled _
     (reach-found _ _ _ _ _ _ _
-       (slot-is _ _ _
-          (c .before .before .before .before .before .is-info .ensures)
-          (c .before .before .before .before .slot-of .ensures))
-       (c .before .before .before .pointer-in .ensures)
+    (slot-is _ _ _
+    (c .before .before .before .before .before .is-info .ensures)
+    (c .before .before .before .before .slot-of .ensures))
+    (c .before .before .before .pointer-in .ensures)
     (c .before .before .address-in .ensures) (c .before .reach-by .ensures))
     (c .area-number .ensures _)
 

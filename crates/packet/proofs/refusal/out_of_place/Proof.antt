@@ -21,17 +21,18 @@ add-result c = search needs
 returns : tie.Need-returns
 unfolding outOfPlace
 returns c p rest e =
-    rw
-      (past-quick p (c .before .before .before .before .args .f) rest,
-       ← e,
-       c .span-by .ensures .0,
-       c .before .before .misaligned-by .ensures,
-       misaligned-quick
-         (c .before .before .before .before .args .f) _
-         (c .before .before .before .before .args .used)
-         (c .before .before .before .before .pre),
-       ← c .before .before .before .before .pre)
-      refl
+    rw (
+      past-quick p (c .before .before .before .before .args .f) rest,
+      ← e,
+      c .span-by .ensures .0,
+      c .before .before .misaligned-by .ensures,
+      misaligned-quick
+          (c .before .before .before .before .args .f) _
+          (c .before .before .before .before .args .used)
+          (c .before .before .before .before .pre),
+      ← c .before .before .before .before .pre,
+    )
+    refl
 
 pub out-of-place-spec : {M : Type 1} → statement M
 out-of-place-spec =

@@ -23,18 +23,19 @@ returns c o =
     let at-fields-of = at-header-bytes .before in
     let at-entry = at-fields-of .before .before .before in
     c .judged-by .ensures _ o _ _
-      (at-fields-of .fields-of .ensures ∙ at-entry .pre .0)
-      (cut-off _ _ _ _ _ _
-         (let h = at-header-bytes .header-bytes .ensures .0 in omega arith)
-         (c .before .cut-off .ensures))
+    (at-fields-of .fields-of .ensures ∙ at-entry .pre .0)
+    (cut-off _ _ _ _ _ _
+    (let h = at-header-bytes .header-bytes .ensures .0 in omega arith)
+    (c .before .cut-off .ensures))
 
 register-ruling-requires : tie.Need-register-ruling-requires
 register-ruling-requires c κs =
     let at-entry = c .before .before .before .before .before in
-    let p = at-entry .pre in
-    (p .2,
-     rw (c .before .before .fields-of .ensures) (p .1),
-     let h = c .before .header-bytes .ensures .0 in omega arith)
+    let p = at-entry .pre in (
+      p .2,
+      rw (c .before .before .fields-of .ensures) (p .1),
+      let h = c .before .header-bytes .ensures .0 in omega arith,
+    )
 
 judged-by-requires-2 : tie.Need-judged-by-requires-2
 judged-by-requires-2 c κs = search needs
@@ -44,8 +45,8 @@ returns-2 c o =
     let at-fields-of = c .before .before .before .before in
     let at-entry = at-fields-of .before .before .before in
     c .judged-by2 .ensures _ o _ _
-      (at-fields-of .fields-of .ensures ∙ at-entry .pre .0)
-      (c .before .register-ruling .ensures o)
+    (at-fields-of .fields-of .ensures ∙ at-entry .pre .0)
+    (c .before .register-ruling .ensures o)
 
 pub register-at-spec : {M : Type 1} → statement M
 register-at-spec =

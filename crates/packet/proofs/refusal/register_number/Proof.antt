@@ -43,8 +43,8 @@ returns-2 : tie.Need-returns-2
 unfolding refusals reachFrom
 returns-2 c p o e =
     first-here _ _ _
-      (past-7 (c .before .before) p o e)
-      (sym (c .before .out-of-place .ensures p _ (ap (λ (t : Reach). t .used) e)) ∙ c .if2 .taken)
+    (past-7 (c .before .before) p o e)
+    (sym (c .before .out-of-place .ensures p _ (ap (λ (t : Reach). t .used) e)) ∙ c .if2 .taken)
 
 past-8 : (c : tie.Else2) → Past 2 (c .before .before .before .before .before)
 unfolding refusals reachFrom
@@ -65,15 +65,15 @@ returns-4 : tie.Need-returns-4
 unfolding refusals reachFrom
 returns-4 c p o e =
     first-here _ _ _
-      (past-11 (c .before .before) p o e)
-      (rw (← ap (λ (t : Reach). t .answered) e) (sym (c .before .passes-limit .ensures) ∙ c .if4 .taken))
+    (past-11 (c .before .before) p o e)
+    (rw (← ap (λ (t : Reach). t .answered) e) (sym (c .before .passes-limit .ensures) ∙ c .if4 .taken))
 
 past-12 : (c : tie.Else4) → Past 4 (c .before .before .before .before .before .before .before .before .before)
 unfolding refusals reachFrom
 past-12 c p o e =
     first-past _ _ _
-      (past-11 (c .before .before) p o e)
-      (rw (← ap (λ (t : Reach). t .answered) e) (sym (c .before .passes-limit .ensures) ∙ c .if4 .left))
+    (past-11 (c .before .before) p o e)
+    (rw (← ap (λ (t : Reach). t .answered) e) (sym (c .before .passes-limit .ensures) ∙ c .if4 .left))
 
 returns-5 : tie.Need-returns-5
 unfolding refusals first

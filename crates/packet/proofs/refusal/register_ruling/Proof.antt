@@ -28,10 +28,10 @@ returns : tie.Need-returns
 returns c o =
     ruled _
     (reach-found _ _ _ _ _ _ _
-       (registers-slot _ (c .before .before .before .before .before .before .before .pre .1))
-       (c .before .before .before .pointer-in .ensures)
-       (c .before .before .address-in .ensures)
-       (c .before .reach-by .ensures))
+    (registers-slot _ (c .before .before .before .before .before .before .before .pre .1))
+    (c .before .before .before .pointer-in .ensures)
+    (c .before .before .address-in .ensures)
+    (c .before .reach-by .ensures))
     (c .register-number .ensures _ o)
 
 pub register-ruling-spec : {M : Type 1} → statement M

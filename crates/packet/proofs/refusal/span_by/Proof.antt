@@ -29,9 +29,10 @@ unfolding rowOf kindOf
 returns-2 c =
     let at-entry = c .before .before in
     rw
-      (c .if1 .left)
-      (ap (λ (r : Row). r .element) (at-entry .pre),
-       rw (at-entry .pre) (let h = row-le (at-entry .args .f) in omega arith))
+    (c .if1 .left) (
+      ap (λ (r : Row). r .element) (at-entry .pre),
+      rw (at-entry .pre) (let h = row-le (at-entry .args .f) in omega arith),
+    )
 
 pub span-by-spec : {M : Type 1} → statement M
 span-by-spec = tie.close (tie.spec cast-element cast-result mul-result returns returns-2)

@@ -20,12 +20,12 @@ unfolding freshSpaces
 returns c =
     let at-new = c .before .before .before in
     λ i.
-        record {
-          registers = record { at = at-new .new .ensures i };
-          eeprom = record { at = c .before .before .new2 .ensures i };
-          status = record { at = c .before .new3 .ensures i };
-          information = record { at = c .new4 .ensures i };
-        }
+    record {
+      registers = record { at = at-new .new .ensures i };
+      eeprom = record { at = c .before .before .new2 .ensures i };
+      status = record { at = c .before .new3 .ensures i };
+      information = record { at = c .new4 .ensures i };
+    }
 
 pub fresh-spec : {M : Type 1} → statement M
 fresh-spec = tie.close (tie.spec new-requires new-requires-2 new-requires-3 new-requires-4 returns)

@@ -40,16 +40,12 @@ new-requires-4 c κs = search needs
 returns : tie.Need-returns
 unfolding spacesAt
 returns c =
+    let second = c .before .before .before .before in
+    let first = second .before .before in
     λ i.
     record {
-      registers =
-          record {
-            at =
-                (c .before .before .before .before .before .before .new .ensures ∙ c .before .before .before .before .before .before .before .at-slot .ensures)
-                  i
-                  };
-          }
-      eeprom = record { at = (c .before .before .before .before .new2 .ensures ∙ c .before .before .before .before .before .at-slot2 .ensures) i };
+      registers = record { at = (first .new .ensures ∙ first .before .at-slot .ensures) i };
+      eeprom = record { at = (second .new2 .ensures ∙ second .before .at-slot2 .ensures) i };
       status = record { at = (c .before .before .new3 .ensures ∙ c .before .before .before .at-slot3 .ensures) i };
       information = record { at = (c .new4 .ensures ∙ c .before .at-slot4 .ensures) i };
     }

@@ -24,11 +24,11 @@ unfolding withSpace
 returns-5 c =
     let r = c .match .rest in
     at-absent
-      (λ s. withSpace (c .before .args .self) s (c .before .args .p .at)) _
-      (r .0 .0 .0 .1)
-      (r .0 .0 .1)
-      (r .0 .1)
-      (r .1)
+    (λ s. withSpace (c .before .args .self) s (c .before .args .p .at)) _
+    (r .0 .0 .0 .1)
+    (r .0 .0 .1)
+    (r .0 .1)
+    (r .1)
 
 pub with-spec : {M : Type 1} → statement M
 with-spec = tie.close (tie.spec returns returns-2 returns-3 returns-4 returns-5)
