@@ -1,14 +1,12 @@
 -- What the program writes fits its room: every piece stands there, one behind the other.
-use Prim.Native.Nat.{ℕ, zero, suc, _+_, _*_, _-_, _/_, _%_, _≤_, _<_}
-use mathlib.Core.Path.{_≡_, refl, sym, ap, _∙_}
+use Prim.Native.Nat.{ℕ, zero, suc, _+_, _-_, _≤_, _<_}
+use mathlib.Core.Path.{_≡_, refl}
 use mathlib.Core.List.{List, [], _∷_, _++_}
 use mathlib.Core.Bool.{Bool, true, false, _&&_, cond}
 use native.Mathlib.Omega.{arith}
-use native.Mathlib.Nat.{add-zero, zero-add}
 use borrow.Author.Tests.{le-ltb, ltb-false}
 use lib.Dec.{eqb, ltb}
 use lib.ListN.{length, take, drop, length-append, length-take, length-drop}
-use lib.Seq.{sets, length-sets}
 use Rattle.lbp16.specs.Word.{fieldsOf}
 use Rattle.lbp16.specs.Pointer.{fresh}
 use Rattle.lbp16.specs.declared.word.Fields.{Fields}
@@ -16,57 +14,22 @@ use Rattle.lbp16.specs.declared.pointer.Pointers.{Pointers}
 use Rattle.packet.specs.Command.{limit, fieldsAt, commandBytes}
 use Rattle.packet.specs.Judge.{Verdict, refused, accepted, judge}
 use Rattle.packet.proofs.RefusalLaws.{RefusedAt, refused-in-table}
-use Rattle.card.specs.Run.{checked}
 use Rattle.card.proofs.RunLaws.{checked-cases}
-use Rattle.packet.proofs.StoreLaws.{sets-append}
-use Rattle.report.specs.Text.{ascii, decimal}
-use Rattle.report.specs.Line.{Filled, textPut}
-use Rattle.report.proofs.TextLaws.{decimal-length}
+use Rattle.text.specs.Number.{ascii, hexadecimal}
+use Rattle.text.specs.Room.{putAt, textLeft}
+use Rattle.text.specs.Line.{numbered}
+use Rattle.text.proofs.DecimalLaws.{decimal-length}
+use Rattle.text.proofs.HexLaws.{hex-length, bytes-length}
+use Rattle.text.proofs.RoomLaws.{put-front}
 use Rattle.reason.specs.Reason.{commandsFrom, commandsBefore, unnamed, named, reasonOf, explained}
 use Rattle.reason.specs.declared.Reason.{Reason}
-use Rattle.wording.specs.Piece.{filled, putAll, joined, textLeft, word, hexDigit, hexByte, hexBytes, fourDigits, hexAddress}
 use Rattle.wording.specs.Sentence.{Entry, saysOf, sentences, sentence}
-use Rattle.wording.specs.Wording.{acceptedText, refusedText, elementBytes, kindText, fieldsText, addressText}
-use Rattle.wording.specs.Wording.{describedText, lastPlace, commandShown, commandText, frontText, saidOf, said}
+use Rattle.wording.specs.Wording.{acceptedText, refusedText, elementBytes, kindText, fieldsText, addressDigits, addressText}
+use Rattle.wording.specs.Wording.{describedText, lastPlace, commandShown, spanText, commandText, frontText, saidOf, said}
 use Rattle.wording.specs.declared.given.Given.{Given}
 use Rattle.wording.specs.Given.{pointersIn, wholeText}
 
--- the pieces' bytes
-unfoldable pub sizes : List (List ℕ) → ℕ
-sizes [] = 0
-sizes (t ∷ ts) = length t + sizes ts
-
--- Where there is room for all pieces, the text stands there whole.
-pub put-whole : (ts : List (List ℕ)) (at : ℕ) (room : List ℕ) → at + sizes ts ≤ length room
-    → putAll ts at room ≡ filled (at + sizes ts) (sets room at (joined ts))
-unfolding putAll textPut joined sizes
-put-whole [] at room l = rw (add-zero at) refl
-put-whole (t ∷ ts) at room l =
-    let next : at + length t + sizes ts ≡ at + (length t + sizes ts) = omega arith in
-    rw (le-ltb (length room) (at + length t) (omega arith))
-    (put-whole ts (at + length t) (sets room at t) (rw length-sets (omega arith))
-    ∙ rw (next, sets-append room at t (joined ts)) refl)
-
-length-joined : (ts : List (List ℕ)) → length (joined ts) ≡ sizes ts
-unfolding joined sizes
-length-joined [] = refl
-length-joined (t ∷ ts) = rw (length-append, length-joined ts) refl
-
-sizes-append : (xs ys : List (List ℕ)) → sizes (xs ++ ys) ≡ sizes xs + sizes ys
-unfolding sizes
-sizes-append [] ys = omega arith
-sizes-append (x ∷ xs) ys = rw (sizes-append xs ys) (omega arith)
-
-sizes-hex : (bs : List ℕ) → sizes (hexBytes bs) ≡ 3 * length bs
-unfolding sizes hexBytes hexByte
-sizes-hex [] = refl
-sizes-hex (b ∷ bs) = rw (sizes-hex bs) (omega arith)
-
--- what holds of both of two lists' bytes
-cond-size : (n : ℕ) (b : Bool) (xs ys : List (List ℕ)) → sizes xs ≤ n → sizes ys ≤ n → sizes (cond b xs ys) ≤ n
-cond-size n true xs ys h k = h
-cond-size n false xs ys h k = k
-
+-- what holds of both of two texts' lengths
 cond-length : (n : ℕ) (b : Bool) (xs ys : List ℕ) → length xs ≤ n → length ys ≤ n → length (cond b xs ys) ≤ n
 cond-length n true xs ys h k = h
 cond-length n false xs ys h k = k
@@ -185,13 +148,18 @@ module _ (packet store : List ℕ) (p : Pointers) where
                 short = λ _. short;
               })
 
--- the digits of a number that a reason holds
-digits-few : (n : ℕ) → n ≤ 18446744073709551615 → length (decimal n) ≤ 20
-digits-few n l = decimal-length 19 n (omega arith)
+-- a number that a reason holds, behind its text
+numbered-few : (before : List ℕ) (n : ℕ) → n ≤ 18446744073709551615 → length (numbered before n) ≤ length before + 20
+unfolding numbered
+numbered-few before n l = rw length-append (omega (arith, decimal-length 19 n (omega arith)))
 
-address-few : (n : ℕ) → length (hexAddress n) ≤ 5
-unfolding hexAddress fourDigits
-address-few n = cond-length 5 (ltb n 65536) (fourDigits n) (hexDigit (n / 65536 % 16) ∷ fourDigits n) (omega arith) (omega arith)
+address-few : (n : ℕ) → length (hexadecimal (addressDigits n) n) ≤ 5
+unfolding addressDigits
+address-few n = rw hex-length (go (ltb n 65536))
+  where
+    go : (b : Bool) → cond b 4 5 ≤ 5
+    go true = omega arith
+    go false = omega arith
 
 element-few : (code : ℕ) → elementBytes code ≤ 8
 unfolding elementBytes
@@ -203,22 +171,19 @@ element-few code = go (eqb code 0) (eqb code 1) (eqb code 2)
     go false false true = omega arith
     go false false false = omega arith
 
-accepted-size : (packet : List ℕ) → sizes (acceptedText packet) ≤ 22
-unfolding acceptedText sizes ascii
-accepted-size packet = omega (
-  arith,
-  cond-length 22 (eqb (length packet) 0) (ascii "accepted, no commands\n")
-      (ascii "accepted\n") (omega arith) (omega arith),
-)
+accepted-size : (packet : List ℕ) → length (acceptedText packet) ≤ 22
+unfolding acceptedText ascii
+accepted-size packet =
+    cond-length 22 (eqb (length packet) 0) (ascii "accepted, no commands\n") (ascii "accepted\n") (omega arith) (omega arith)
 
 module _ (packet : List ℕ) (r : Reason) (s : Small packet r) where
-  refused-size : sizes (refusedText r) ≤ 155
-  unfolding refusedText sizes ascii
+  refused-size : length (refusedText r) ≤ 155
+  unfolding refusedText ascii
   refused-size =
-      let a = digits-few (r .number) (omega (arith, s .number)) in
-      let b = digits-few (r .place) (omega (arith, s .place)) in
+      let a = numbered-few (ascii "refused ") (r .number) (omega (arith, s .number)) in
+      let b = numbered-few (ascii " at ") (r .place) (omega (arith, s .place)) in
       let c = sentence-short (r .number) in
-      omega arith
+      simp length-append (omega arith)
 
   kind-size : length (kindText (r .fields)) ≤ 10
   unfolding kindText ascii
@@ -228,96 +193,101 @@ module _ (packet : List ℕ) (r : Reason) (s : Small packet r) where
       (cond-length 10 i (ascii "info write") (ascii "write") (omega arith) (omega arith))
       (cond-length 10 i (ascii "info read") (ascii "read") (omega arith) (omega arith))
 
-  fields-size : sizes (fieldsText (r .fields)) ≤ 118
-  unfolding fieldsText sizes ascii
+  fields-size : length (fieldsText (r .fields)) ≤ 118
+  unfolding fieldsText ascii
   fields-size =
       let a = kind-size in
-      let b = digits-few (r .fields .space) (omega (arith, s .space)) in
-      let c = digits-few (elementBytes (r .fields .size)) (omega (arith, element-few (r .fields .size))) in
+      let b = numbered-few (ascii ", space ") (r .fields .space) (omega (arith, s .space)) in
+      let c = numbered-few (ascii ", ") (elementBytes (r .fields .size)) (omega (arith, element-few (r .fields .size))) in
       let d = cond-length 28 (r .fields .increment) (ascii "-byte elements, increment") (ascii "-byte elements, no increment")
       (omega arith) (omega arith) in
-      let e = digits-few (r .fields .count) (omega (arith, s .count)) in
-      omega arith
+      let e = numbered-few (ascii ", count ") (r .fields .count) (omega (arith, s .count)) in
+      simp length-append (omega arith)
 
-  address-size : (n : ℕ) → sizes (addressText n r) ≤ 35
-  unfolding addressText sizes ascii
+  address-size : (n : ℕ) → length (addressText n r) ≤ 35
+  unfolding addressText ascii
   address-size n =
       let a = address-few (r .address) in
       let b = cond-length 28 (r .fields .address) (ascii ", address ") (ascii ", address from the pointer (") (omega arith)
       (omega arith) in
       let c = cond-length 2 (r .fields .address) (ascii "\n") (ascii ")\n") (omega arith) (omega arith) in
-      cond-size 35 (r .fields .address && ltb n 4) (word ", address cut off\n")
-      ((cond (r .fields .address) (ascii ", address ") (ascii ", address from the pointer (") ∷ [])
-      ++ (hexAddress (r .address) ∷ [])
-      ++ (cond (r .fields .address) (ascii "\n") (ascii ")\n") ∷ []))
-      (omega arith) (omega arith)
+      cond-length 35 (r .fields .address && ltb n 4) (ascii ", address cut off\n")
+      (cond (r .fields .address) (ascii ", address ") (ascii ", address from the pointer (")
+      ++ hexadecimal (addressDigits (r .address)) (r .address)
+      ++ cond (r .fields .address) (ascii "\n") (ascii ")\n"))
+      (omega arith) (simp length-append (omega arith))
 
-  described-size : (n : ℕ) → sizes (describedText n r) ≤ 155
-  unfolding describedText sizes ascii
+  described-size : (n : ℕ) → length (describedText n r) ≤ 155
+  unfolding describedText ascii
   described-size n =
       let a = fields-size in
       let b = address-size n in
-      cond-size 155 (ltb n 2) (word ": word cut off\n") (word ": " ++ fieldsText (r .fields) ++ addressText n r) (omega arith)
-      (rw (sizes-append (fieldsText (r .fields)) (addressText n r)) (omega arith))
+      cond-length 155 (ltb n 2) (ascii ": word cut off\n") (ascii ": " ++ fieldsText (r .fields) ++ addressText n r) (omega arith)
+      (simp length-append (omega arith))
 
-  command-size : 3 ≤ r .number → sizes (commandText packet r) ≤ 4652
-  unfolding commandText sizes ascii lastPlace commandShown
+  span-size : (last : ℕ) → last ≤ 18446744073709551615 → length (spanText r last) ≤ 80
+  unfolding spanText ascii
+  span-size last l =
+      let a = numbered-few (ascii "command ") (r .index) (omega (arith, s .index)) in
+      let b = numbered-few (ascii ", bytes ") (r .place) (omega (arith, s .place)) in
+      let c = numbered-few (ascii " to ") last l in
+      simp length-append (omega arith)
+
+  command-size : 3 ≤ r .number → length (commandText packet r) ≤ 4652
+  unfolding commandText ascii lastPlace commandShown
   command-size three =
-      let a = digits-few (r .index) (omega (arith, s .index)) in
-      let b = digits-few (r .place) (omega (arith, s .place)) in
-      let c = digits-few (lastPlace (r .place) (length (commandShown packet r))) (omega arith) in
+      let a = span-size (lastPlace (r .place) (length (commandShown packet r))) (omega arith) in
       let d = described-size (length (drop (r .place) packet)) in
       let e = shown-few in
-      rw (sizes-append, sizes-hex) (omega arith)
+      let f = bytes-length (commandShown packet r) in
+      simp length-append (omega arith)
     where
       shown-few : length (commandShown packet r) ≤ 1472
       shown-few = rw (length-take, length-drop) (omega (arith, s .short three))
 
-  front-size : 3 ≤ r .number → sizes (frontText packet (r .place)) ≤ 4481
-  unfolding frontText sizes ascii
+  front-size : 3 ≤ r .number → length (frontText packet (r .place)) ≤ 4481
+  unfolding frontText ascii
   front-size three =
-      let a = digits-few (r .place) (omega (arith, s .place)) in
+      let a = numbered-few (ascii "the ") (r .place) (omega (arith, s .place)) in
       let b : length (take (r .place) packet) ≤ 1472 = rw length-take (omega (arith, s .short three)) in
-      rw (sizes-append, sizes-hex) (omega arith)
+      let c = bytes-length (take (r .place) packet) in
+      simp length-append (omega arith)
 
-  said-size : sizes (saidOf packet r) ≤ 16384
+  said-size : length (saidOf packet r) ≤ 16384
   unfolding saidOf
   said-size =
-      cond-size 16384 (eqb (r .number) 0) (acceptedText packet)
+      cond-length 16384 (eqb (r .number) 0) (acceptedText packet)
       (cond (ltb (r .number) 3) (refusedText r) (refusedText r ++ commandText packet r ++ frontText packet (r .place)))
       (omega (arith, accepted-size packet)) (go (ltb (r .number) 3) refl)
     where
       go : (b : Bool) → ltb (r .number) 3 ≡ b
-          → sizes (cond b (refusedText r) (refusedText r ++ commandText packet r ++ frontText packet (r .place))) ≤ 16384
+          → length (cond b (refusedText r) (refusedText r ++ commandText packet r ++ frontText packet (r .place))) ≤ 16384
       go true e = omega (arith, refused-size)
       go false e =
           let three = ltb-false (r .number) 3 e in
-          rw (
-            sizes-append (refusedText r ++ commandText packet r) (frontText packet (r .place)),
-            sizes-append (refusedText r) (commandText packet r),
-          )
-          (omega (arith, refused-size, command-size three, front-size three))
+          let a = command-size three in
+          let b = front-size three in
+          let c = refused-size in
+          simp length-append (omega arith)
 
-said-fits : (packet store : List ℕ) (p : Pointers) → sizes (said packet store p) ≤ 16384
+said-fits : (packet store : List ℕ) (p : Pointers) → length (said packet store p) ≤ 16384
 unfolding said
 said-fits packet store p = said-size packet (explained packet store p) (small packet store p)
 
 -- Whatever the program is given, its room has space for all that it writes.
-pub whole-fits : (given : Given) (file packet store : List ℕ) → sizes (wholeText given file packet store) ≤ 16384
-unfolding wholeText sizes ascii
+pub whole-fits : (given : Given) (file packet store : List ℕ) → length (wholeText given file packet store) ≤ 16384
+unfolding wholeText ascii
 whole-fits Given.Nothing file packet store = said-fits packet store fresh
 whole-fits Given.File file packet store =
-    cond-size 16384 (eqb (length file) 32) (said packet store (pointersIn file))
-    (word "the file of pointers is not 32 bytes long\n")
+    cond-length 16384 (eqb (length file) 32) (said packet store (pointersIn file))
+    (ascii "the file of pointers is not 32 bytes long\n")
     (said-fits packet store (pointersIn file)) (omega arith)
 whole-fits Given.NoFile file packet store = omega arith
 whole-fits Given.Others file packet store = omega arith
 
--- So what is put piece by piece stands there as one text.
+-- So it stands there whole.
 pub whole-left : (given : Given) (file packet store room : List ℕ) → length room ≡ 16384
-    → putAll (wholeText given file packet store) 0 room ≡ textLeft (wholeText given file packet store) room
-unfolding textLeft
+    → putAt (wholeText given file packet store) 0 room ≡ textLeft (wholeText given file packet store) room
 whole-left given file packet store room e =
     let l = whole-fits given file packet store in
-    put-whole (wholeText given file packet store) 0 room (omega arith)
-    ∙ rw (length-joined (wholeText given file packet store), zero-add (sizes (wholeText given file packet store))) refl
+    put-front (wholeText given file packet store) room (omega arith)

@@ -8,7 +8,7 @@ use Rattle.lbp16.specs.Pointer.{pointer, fresh}
 use Rattle.lbp16.specs.declared.pointer.SpacePointers.{SpacePointers}
 use Rattle.lbp16.specs.declared.pointer.Pointers.{Pointers}
 use Rattle.packet.specs.Bytes.{number}
-use Rattle.wording.specs.Piece.{word}
+use Rattle.text.specs.Number.{ascii}
 use Rattle.wording.specs.Wording.{said}
 use Rattle.wording.specs.declared.given.Given.{Given}
 
@@ -35,9 +35,9 @@ unfoldable pub givenBy : ℕ → Bool → Given
 givenBy count found? = cond (eqb count 1) Given.Nothing (cond (eqb count 2) (cond found? Given.File Given.NoFile) Given.Others)
 
 -- what is written
-unfoldable pub wholeText : Given → List ℕ → List ℕ → List ℕ → List (List ℕ)
+unfoldable pub wholeText : Given → List ℕ → List ℕ → List ℕ → List ℕ
 wholeText Given.Nothing file packet store = said packet store fresh
 wholeText Given.File file packet store =
-    cond (eqb (length file) 32) (said packet store (pointersIn file)) (word "the file of pointers is not 32 bytes long\n")
-wholeText Given.NoFile file packet store = word "the file of pointers cannot be opened\n"
-wholeText Given.Others file packet store = word "usage: why [POINTERS] < PACKET\n"
+    cond (eqb (length file) 32) (said packet store (pointersIn file)) (ascii "the file of pointers is not 32 bytes long\n")
+wholeText Given.NoFile file packet store = ascii "the file of pointers cannot be opened\n"
+wholeText Given.Others file packet store = ascii "usage: why [POINTERS] < PACKET\n"

@@ -1,4 +1,3 @@
-pub mod Piece
 pub mod Sentence
 pub mod Wording
 pub mod Given

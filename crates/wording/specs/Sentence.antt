@@ -3,7 +3,7 @@ use Prim.Native.Nat.{ℕ}
 use mathlib.Core.List.{List, [], _∷_}
 use mathlib.Core.Bool.{cond}
 use lib.Dec.{eqb}
-use Rattle.report.specs.Text.{ascii}
+use Rattle.text.specs.Number.{ascii}
 
 pub record Entry : Type 0 where
   pub number : ℕ

@@ -1,13 +1,11 @@
 // What each refusal says, in words.
-use crate::text;
-use crate::text::pick;
+use text::pick;
 ghost use mathlib.Core.Path.{_≡_};
-ghost use mathlib.Core.List.{[], _∷_};
-ghost use Rattle.wording.specs.Piece.{filled, putAll};
+ghost use Rattle.text.specs.Room.{filled, putAt};
 ghost use Rattle.wording.specs.Sentence.{sentence};
 
-pub(crate) fn put(out: &mut [u8], at: usize, number: u32) -> usize
-    ensures { λ r. ⌜ filled r (now (out .exit)) ≡ putAll (sentence number ∷ []) at (now (out .entry)) ⌝ }
+pub(crate) fn put_sentence(out: &mut [u8], at: usize, number: u32) -> usize
+    ensures { λ r. ⌜ filled r (now (out .exit)) ≡ putAt (sentence number) at (now (out .entry)) ⌝ }
 {
     let t = pick(number == 12, b"the reply would pass 1,472 bytes", b"");
     let t = pick(number == 11, b"write data cut off", t);
@@ -41,5 +39,5 @@ pub(crate) fn put(out: &mut [u8], at: usize, number: u32) -> usize
         b"the store is not whole, or a pointer stands above the size of its space or info area",
         t,
     );
-    text::text(out, at, t)
+    text::put(out, at, t)
 }

@@ -1,4 +1,4 @@
-use Rattle.report.specs.Text.{ascii}
+use Rattle.text.specs.Number.{ascii}
 use Rattle.wording.specs.Wording.{acceptedText}
 use borrow.Author.Needs.{needs}
 use Rattle.wording.proofs.accepted.Statement.{statement}
@@ -13,15 +13,15 @@ slice-aggregate-pick-2 c = search needs
 pick-requires : tie.Need-pick-requires
 pick-requires c κs = search needs
 
-text-requires : tie.Need-text-requires
-text-requires c κs = search needs
+put-requires : tie.Need-put-requires
+put-requires c κs = search needs
 
 same-length : tie.Need-same-length
 same-length c = search needs
 
 returns : tie.Need-returns
 unfolding acceptedText ascii
-returns c = rw (c .before .before .before .before .pick .ensures) at (c .before .before .text .ensures)
+returns c = rw (c .before .before .before .before .pick .ensures) at (c .before .before .put .ensures)
 
 pub accepted-spec : {M : Type 1} → statement M
 accepted-spec =
@@ -30,6 +30,6 @@ accepted-spec =
     slice-aggregate-pick
     slice-aggregate-pick-2
     pick-requires
-    text-requires
+    put-requires
     same-length
     returns)

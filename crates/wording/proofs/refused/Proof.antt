@@ -1,6 +1,6 @@
-use Rattle.report.specs.Text.{ascii}
+use Rattle.text.specs.Number.{ascii}
 use Rattle.wording.specs.Wording.{refusedText}
-use Rattle.wording.proofs.PieceLaws.{put-then}
+use Rattle.text.proofs.RoomLaws.{put-then}
 use borrow.Author.Needs.{needs}
 use Rattle.wording.proofs.refused.Statement.{statement}
 use Rattle.wording.proofs.refused.Tie as tie
@@ -20,33 +20,36 @@ slice-aggregate-numbered-2 c = search needs
 numbered-requires-2 : tie.Need-numbered-requires-2
 numbered-requires-2 c κs = search needs
 
-slice-aggregate-text : tie.Need-slice-aggregate-text
-slice-aggregate-text c = search needs
-
-text-requires : tie.Need-text-requires
-text-requires c κs = search needs
+slice-aggregate-put : tie.Need-slice-aggregate-put
+slice-aggregate-put c = search needs
 
 put-requires : tie.Need-put-requires
 put-requires c κs = search needs
 
-slice-aggregate-text-2 : tie.Need-slice-aggregate-text-2
-slice-aggregate-text-2 c = search needs
+put-sentence-requires : tie.Need-put-sentence-requires
+put-sentence-requires c κs = search needs
 
-text-requires-2 : tie.Need-text-requires-2
-text-requires-2 c κs = search needs
+slice-aggregate-put-2 : tie.Need-slice-aggregate-put-2
+slice-aggregate-put-2 c = search needs
+
+put-requires-2 : tie.Need-put-requires-2
+put-requires-2 c κs = search needs
 
 same-length : tie.Need-same-length
 same-length c = search needs
 
 returns : tie.Need-returns
 unfolding refusedText ascii
-returns c = put-then _ _ _ _ _ _ _ _ (put-then _ _ _ _ _ _ _ _ (put-then _ _ _ _ _ _ _ _ (put-then _ _ _ _ _ _ _ _
-    (c .before .before .before .before .before .before .before .before .before .before .before .before .before .before .before
-    .before .before .before .before .before .before .numbered .ensures)
-    (c .before .before .before .before .before .before .before .before .before .before .before .before .before .before .before
-    .before .numbered2 .ensures))
-    (c .before .before .before .before .before .before .before .before .before .before .before .text .ensures))
-    (c .before .before .before .before .before .before .before .put .ensures)) (c .before .before .text2 .ensures)
+returns c =
+    let z = c .before .before in
+    let y = z .before .before .before .before .before in
+    let x = y .before .before .before .before in
+    let w = x .before .before .before .before .before in
+    put-then _ _ _ _
+    (put-then _ _ _ _
+    (put-then _ _ _ _ (put-then _ _ _ _ (w .before .before .before .before .before .numbered .ensures) (w .numbered2 .ensures)) (x .put .ensures))
+    (y .put-sentence .ensures))
+    (z .put2 .ensures)
 
 pub refused-spec : {M : Type 1} → statement M
 refused-spec =
@@ -57,10 +60,10 @@ refused-spec =
     numbered-requires
     slice-aggregate-numbered-2
     numbered-requires-2
-    slice-aggregate-text
-    text-requires
+    slice-aggregate-put
     put-requires
-    slice-aggregate-text-2
-    text-requires-2
+    put-sentence-requires
+    slice-aggregate-put-2
+    put-requires-2
     same-length
     returns)

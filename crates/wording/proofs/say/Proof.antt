@@ -1,6 +1,6 @@
 use borrow.Author.Tests.{lt-ltb, le-ltb, eq-eqb, ne-eqb}
 use Rattle.wording.specs.Wording.{saidOf}
-use Rattle.wording.proofs.PieceLaws.{put-then}
+use Rattle.text.proofs.RoomLaws.{put-then}
 use borrow.Author.Needs.{needs}
 use Rattle.wording.proofs.say.Statement.{statement}
 use Rattle.wording.proofs.say.Tie as tie
@@ -23,8 +23,8 @@ same-length-2 c = search needs
 
 returns-2 : tie.Need-returns-2
 unfolding saidOf
-returns-2 c = rw (ne-eqb _ 0 (c .before .before .before .before .before .before .if1 .left), lt-ltb _ 3 (c .if2 .taken))
-    (c .before .before .before .before .refused .ensures)
+returns-2 c =
+    rw (ne-eqb _ 0 (c .before .before .before .before .before .before .if1 .left), lt-ltb _ 3 (c .if2 .taken)) (c .before .before .before .before .refused .ensures)
 
 command-requires : tie.Need-command-requires
 command-requires c κs = search needs
@@ -37,14 +37,10 @@ same-length-3 c = search needs
 
 returns-3 : tie.Need-returns-3
 unfolding saidOf
-returns-3 c = rw (
-  ne-eqb _ 0
-      (c .before .before .before .before .before .before .before .before .before .before .before .before .before .before .if1
-      .left),
-  le-ltb _ 3 (c .before .before .before .before .before .before .before .before .if2 .left),
-)
-    (put-then _ _ _ _ _ _ _ _ (put-then _ _ _ _ _ _ _ _
-    (c .before .before .before .before .before .before .before .before .before .before .before .before .refused .ensures)
+returns-3 c =
+    let a = c .before .before .before .before .before .before .before .before in
+    let z = a .before .before .before .before .before .before in
+    rw (ne-eqb _ 0 (z .if1 .left), le-ltb _ 3 (a .if2 .left)) (put-then _ _ _ _ (put-then _ _ _ _ (a .before .before .before .before .refused .ensures)
     (c .before .before .before .before .before .before .command .ensures)) (c .before .before .front .ensures))
 
 pub say-spec : {M : Type 1} → statement M

@@ -1,22 +1,22 @@
-use Rattle.report.specs.Text.{ascii}
+use Rattle.text.specs.Number.{ascii}
+use Rattle.text.proofs.RoomLaws.{put-then}
 use Rattle.wording.specs.Wording.{addressText}
-use Rattle.wording.proofs.PieceLaws.{put-then}
 use borrow.Author.Needs.{needs}
 use Rattle.wording.proofs.shown.address.Statement.{statement}
 use Rattle.wording.proofs.shown.address.Tie as tie
 
-slice-aggregate-text : tie.Need-slice-aggregate-text
-slice-aggregate-text c = search needs
+slice-aggregate-put : tie.Need-slice-aggregate-put
+slice-aggregate-put c = search needs
 
-text-requires : tie.Need-text-requires
-text-requires c κs = search needs
+put-requires : tie.Need-put-requires
+put-requires c κs = search needs
 
 same-length : tie.Need-same-length
 same-length c = search needs
 
 returns : tie.Need-returns
 unfolding addressText ascii
-returns c = rw (c .before .before .before .before .before .if1 .taken) (c .before .before .text .ensures)
+returns c = rw (c .before .before .before .before .before .if1 .taken) (c .before .before .put .ensures)
 
 slice-aggregate-pick : tie.Need-slice-aggregate-pick
 slice-aggregate-pick c = search needs
@@ -27,11 +27,17 @@ slice-aggregate-pick-2 c = search needs
 pick-requires : tie.Need-pick-requires
 pick-requires c κs = search needs
 
-text-requires-2 : tie.Need-text-requires-2
-text-requires-2 c κs = search needs
+put-requires-2 : tie.Need-put-requires-2
+put-requires-2 c κs = search needs
 
-address-requires : tie.Need-address-requires
-address-requires c κs = search needs
+address-digits-requires : tie.Need-address-digits-requires
+address-digits-requires c κs = search needs
+
+cast-hex : tie.Need-cast-hex
+cast-hex c = search needs
+
+hex-requires : tie.Need-hex-requires
+hex-requires c κs = search needs
 
 slice-aggregate-pick-3 : tie.Need-slice-aggregate-pick-3
 slice-aggregate-pick-3 c = search needs
@@ -42,37 +48,41 @@ slice-aggregate-pick-4 c = search needs
 pick-requires-2 : tie.Need-pick-requires-2
 pick-requires-2 c κs = search needs
 
-text-requires-3 : tie.Need-text-requires-3
-text-requires-3 c κs = search needs
+put-requires-3 : tie.Need-put-requires-3
+put-requires-3 c κs = search needs
 
 same-length-2 : tie.Need-same-length-2
 same-length-2 c = search needs
 
 returns-2 : tie.Need-returns-2
 unfolding addressText ascii
-returns-2 c = rw (c .before .before .before .before .before .before .before .before .before .before .before .before .before
-    .before .before .before .before .before .if1 .left) (put-then _ _ _ _ _ _ _ _ (put-then _ _ _ _ _ _ _ _ (rw
-    (c .before .before .before .before .before .before .before .before .before .before .before .before .before .before .pick
-    .ensures) at (c .before .before .before .before .before .before .before .before .before .before .before .before .before
-    .text2 .ensures)) (c .before .before .before .before .before .before .before .before .before .address .ensures)) (rw
-    (c .before .before .before .pick2 .ensures) at (c .before .before .text3 .ensures)))
+returns-2 c =
+    let z = c .before .before in
+    let y = z .before .before .before .before .before .before .before in
+    let x = y .before .before .before .before .before .before in
+    rw (x .before .before .before .before .before .if1 .left)
+    (put-then _ _ _ _
+    (put-then _ _ _ _ (rw (x .before .pick .ensures) at (x .put2 .ensures)) (rw (y .before .before .address-digits .ensures) at (y .hex .ensures)))
+    (rw (z .before .pick2 .ensures) at (z .put3 .ensures)))
 
 pub address-spec : {M : Type 1} → statement M
 address-spec =
     tie.close
     (tie.spec
-    slice-aggregate-text
-    text-requires
+    slice-aggregate-put
+    put-requires
     same-length
     returns
     slice-aggregate-pick
     slice-aggregate-pick-2
     pick-requires
-    text-requires-2
-    address-requires
+    put-requires-2
+    address-digits-requires
+    cast-hex
+    hex-requires
     slice-aggregate-pick-3
     slice-aggregate-pick-4
     pick-requires-2
-    text-requires-3
+    put-requires-3
     same-length-2
     returns-2)

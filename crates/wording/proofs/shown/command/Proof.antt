@@ -1,6 +1,6 @@
-use Rattle.report.specs.Text.{ascii}
+use Rattle.text.specs.Number.{ascii}
 use Rattle.wording.specs.Wording.{commandText, commandShown}
-use Rattle.wording.proofs.PieceLaws.{put-then}
+use Rattle.text.proofs.RoomLaws.{put-then}
 use borrow.Author.Needs.{needs}
 use Rattle.wording.proofs.shown.command.Statement.{statement}
 use Rattle.wording.proofs.shown.command.Tie as tie
@@ -20,11 +20,11 @@ last-place-requires c κs = search needs
 span-requires : tie.Need-span-requires
 span-requires c κs = search needs
 
-slice-aggregate-text : tie.Need-slice-aggregate-text
-slice-aggregate-text c = search needs
+slice-aggregate-put : tie.Need-slice-aggregate-put
+slice-aggregate-put c = search needs
 
-text-requires : tie.Need-text-requires
-text-requires c κs = search needs
+put-requires : tie.Need-put-requires
+put-requires c κs = search needs
 
 bytes-requires : tie.Need-bytes-requires
 bytes-requires c κs = search needs
@@ -37,29 +37,20 @@ same-length c = search needs
 
 returns : tie.Need-returns
 unfolding commandText commandShown ascii
-returns c = put-then _ _ _ _ _ _ _ _ (put-then _ _ _ _ _ _ _ _ (put-then _ _ _ _ _ _ _ _ (rw (
-  c .before .before .before .before .before .before .before .before .before .before .before .before .before .before .before
-      .before .last-place .ensures,
-  c .before .before .before .before .before .before .before .before .before .before .before
-      .before .before .before .before .before .before .before .front .ensures,
-  c .before .before .before .before .before .before
-      .before .before .before .before .before .before .before .before .before .before .before .before .before .command-bytes
-      .ensures,
-  c .before .before .before .before .before .before .before .before .before .before .before .before .before .before
-      .before .before .before .before .before .before .rest .ensures,
-) at
-    (c .before .before .before .before .before .before .before .before .before .before .before .before .before .before .before
-    .span .ensures)) (c .before .before .before .before .before .before .before .before .before .before .text .ensures)) (rw (
-      c .before .before .before .before .before .before .before .before .before .before .before .before .before .before .before
-          .before .before .before .front .ensures,
-      c .before .before .before .before .before .before .before .before .before .before
-          .before .before .before .before .before .before .before .before .before .command-bytes .ensures,
-      c .before .before .before
-          .before .before .before .before .before .before .before .before .before .before .before .before .before .before .before
-          .before .before .rest .ensures,
-    ) at (c .before .before .before .before .before .before .bytes .ensures))) (rw
-    (c .before .before .before .before .before .before .before .before .before .before .before .before .before .before .before
-    .before .before .before .before .before .rest .ensures) at (c .before .before .described .ensures))
+returns c =
+    let z = c .before .before in
+    let y = z .before .before .before .before in
+    let x = y .before .before .before .before in
+    let w = x .before .before .before .before .before in
+    let last = w .before .last-place .ensures in
+    let shown = w .before .before .before .front .ensures in
+    let bytes = w .before .before .before .before .command-bytes .ensures in
+    let rest = w .before .before .before .before .before .rest .ensures in
+    put-then _ _ _ _
+    (put-then _ _ _ _
+    (put-then _ _ _ _ (rw (last, shown, bytes, rest) at (w .span .ensures)) (x .put .ensures))
+    (rw (shown, bytes, rest) at (y .bytes .ensures)))
+    (rw rest at (z .described .ensures))
 
 pub command-spec : {M : Type 1} → statement M
 command-spec =
@@ -70,8 +61,8 @@ command-spec =
     front-requires
     last-place-requires
     span-requires
-    slice-aggregate-text
-    text-requires
+    slice-aggregate-put
+    put-requires
     bytes-requires
     described-requires
     same-length

@@ -1,29 +1,29 @@
 use borrow.Author.Tests.{lt-ltb, le-ltb}
-use Rattle.report.specs.Text.{ascii}
+use Rattle.text.specs.Number.{ascii}
 use Rattle.wording.specs.Wording.{describedText}
-use Rattle.wording.proofs.PieceLaws.{put-then}
+use Rattle.text.proofs.RoomLaws.{put-then}
 use borrow.Author.Needs.{needs}
 use Rattle.wording.proofs.shown.described.Statement.{statement}
 use Rattle.wording.proofs.shown.described.Tie as tie
 
-slice-aggregate-text : tie.Need-slice-aggregate-text
-slice-aggregate-text c = search needs
+slice-aggregate-put : tie.Need-slice-aggregate-put
+slice-aggregate-put c = search needs
 
-text-requires : tie.Need-text-requires
-text-requires c κs = search needs
+put-requires : tie.Need-put-requires
+put-requires c κs = search needs
 
 same-length : tie.Need-same-length
 same-length c = search needs
 
 returns : tie.Need-returns
 unfolding describedText ascii
-returns c = rw (lt-ltb _ 2 (c .before .before .before .before .before .if1 .taken)) (c .before .before .text .ensures)
+returns c = rw (lt-ltb _ 2 (c .before .before .before .before .before .if1 .taken)) (c .before .before .put .ensures)
 
-slice-aggregate-text-2 : tie.Need-slice-aggregate-text-2
-slice-aggregate-text-2 c = search needs
+slice-aggregate-put-2 : tie.Need-slice-aggregate-put-2
+slice-aggregate-put-2 c = search needs
 
-text-requires-2 : tie.Need-text-requires-2
-text-requires-2 c κs = search needs
+put-requires-2 : tie.Need-put-requires-2
+put-requires-2 c κs = search needs
 
 fields-requires : tie.Need-fields-requires
 fields-requires c κs = search needs
@@ -36,22 +36,22 @@ same-length-2 c = search needs
 
 returns-2 : tie.Need-returns-2
 unfolding describedText ascii
-returns-2 c = rw (le-ltb _ 2
-    (c .before .before .before .before .before .before .before .before .before .before .before .before .before .if1 .left))
-    (put-then _ _ _ _ _ _ _ _ (put-then _ _ _ _ _ _ _ _
-    (c .before .before .before .before .before .before .before .before .before .before .text2 .ensures)
-    (c .before .before .before .before .before .before .fields .ensures)) (c .before .before .address .ensures))
+returns-2 c =
+    let z = c .before .before in
+    let y = z .before .before .before .before in
+    let x = y .before .before .before .before in
+    rw (le-ltb _ 2 (x .before .before .before .if1 .left)) (put-then _ _ _ _ (put-then _ _ _ _ (x .put2 .ensures) (y .fields .ensures)) (z .address .ensures))
 
 pub described-spec : {M : Type 1} → statement M
 described-spec =
     tie.close
     (tie.spec
-    slice-aggregate-text
-    text-requires
+    slice-aggregate-put
+    put-requires
     same-length
     returns
-    slice-aggregate-text-2
-    text-requires-2
+    slice-aggregate-put-2
+    put-requires-2
     fields-requires
     address-requires
     same-length-2

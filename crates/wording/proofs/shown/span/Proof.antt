@@ -1,5 +1,6 @@
-use Rattle.report.specs.Text.{ascii}
-use Rattle.wording.proofs.PieceLaws.{put-then}
+use Rattle.text.specs.Number.{ascii}
+use Rattle.wording.specs.Wording.{spanText}
+use Rattle.text.proofs.RoomLaws.{put-then}
 use borrow.Author.Needs.{needs}
 use Rattle.wording.proofs.shown.span.Statement.{statement}
 use Rattle.wording.proofs.shown.span.Tie as tie
@@ -26,10 +27,11 @@ same-length : tie.Need-same-length
 same-length c = search needs
 
 returns : tie.Need-returns
-unfolding ascii
-returns c = put-then _ _ _ _ _ _ _ _ (put-then _ _ _ _ _ _ _ _
-    (c .before .before .before .before .before .before .before .before .before .before .before .before .numbered .ensures)
-    (c .before .before .before .before .before .before .before .numbered2 .ensures)) (c .before .before .numbered3 .ensures)
+unfolding spanText ascii
+returns c =
+    let z = c .before .before in
+    let y = z .before .before .before .before .before in
+    put-then _ _ _ _ (put-then _ _ _ _ (y .before .before .before .before .before .numbered .ensures) (y .numbered2 .ensures)) (z .numbered3 .ensures)
 
 pub span-spec : {M : Type 1} → statement M
 span-spec =

@@ -1,8 +1,8 @@
-use Rattle.report.specs.Text.{ascii}
+use Rattle.text.specs.Number.{ascii}
 use Rattle.wording.specs.Sentence.{sentence, saysOf, sentences}
 use borrow.Author.Needs.{needs}
-use Rattle.wording.proofs.sentence.put.Statement.{statement}
-use Rattle.wording.proofs.sentence.put.Tie as tie
+use Rattle.wording.proofs.sentence.put_sentence.Statement.{statement}
+use Rattle.wording.proofs.sentence.put_sentence.Tie as tie
 
 slice-aggregate-pick : tie.Need-slice-aggregate-pick
 slice-aggregate-pick c = search needs
@@ -79,8 +79,8 @@ slice-aggregate-pick-13 c = search needs
 pick-requires-12 : tie.Need-pick-requires-12
 pick-requires-12 c κs = search needs
 
-text-requires : tie.Need-text-requires
-text-requires c κs = search needs
+put-requires : tie.Need-put-requires
+put-requires c κs = search needs
 
 same-length : tie.Need-same-length
 same-length c = search needs
@@ -88,30 +88,35 @@ same-length c = search needs
 returns : tie.Need-returns
 unfolding sentence saysOf sentences ascii
 returns c =
-    let e1 = c .before .before .before .before .before .before .before .before .before .before .before .before .before .before
-    .before .before .before .before .before .before .before .before .before .before .before .before .pick .ensures in
-    let e2 = rw e1 at (c .before .before .before .before .before .before .before .before .before .before .before .before
-    .before .before .before .before .before .before .before .before .before .before .before .before .pick2 .ensures) in
-    let e3 = rw e2 at (c .before .before .before .before .before .before .before .before .before .before .before .before
-    .before .before .before .before .before .before .before .before .before .before .pick3 .ensures) in
-    let e4 = rw e3 at (c .before .before .before .before .before .before .before .before .before .before .before .before
-    .before .before .before .before .before .before .before .before .pick4 .ensures) in
-    let e5 = rw e4 at (c .before .before .before .before .before .before .before .before .before .before .before .before
-    .before .before .before .before .before .before .pick5 .ensures) in
-    let e6 = rw e5 at (c .before .before .before .before .before .before .before .before .before .before .before .before
-    .before .before .before .before .pick6 .ensures) in
-    let e7 = rw e6 at (c .before .before .before .before .before .before .before .before .before .before .before .before
-    .before .before .pick7 .ensures) in
-    let e8 = rw e7 at (c .before .before .before .before .before .before .before .before .before .before .before .before .pick8
-    .ensures) in
-    let e9 = rw e8 at (c .before .before .before .before .before .before .before .before .before .before .pick9 .ensures) in
-    let e10 = rw e9 at (c .before .before .before .before .before .before .before .before .pick10 .ensures) in
-    let e11 = rw e10 at (c .before .before .before .before .before .before .pick11 .ensures) in
-    let e12 = rw e11 at (c .before .before .before .before .pick12 .ensures) in
-    rw e12 at (c .before .before .text .ensures)
+    let z = c .before .before in
+    let p12 = z .before .before in
+    let p11 = p12 .before .before in
+    let p10 = p11 .before .before in
+    let p9 = p10 .before .before in
+    let p8 = p9 .before .before in
+    let p7 = p8 .before .before in
+    let p6 = p7 .before .before in
+    let p5 = p6 .before .before in
+    let p4 = p5 .before .before in
+    let p3 = p4 .before .before in
+    let p2 = p3 .before .before in
+    let p1 = p2 .before .before in
+    let e1 = p1 .pick .ensures in
+    let e2 = rw e1 at (p2 .pick2 .ensures) in
+    let e3 = rw e2 at (p3 .pick3 .ensures) in
+    let e4 = rw e3 at (p4 .pick4 .ensures) in
+    let e5 = rw e4 at (p5 .pick5 .ensures) in
+    let e6 = rw e5 at (p6 .pick6 .ensures) in
+    let e7 = rw e6 at (p7 .pick7 .ensures) in
+    let e8 = rw e7 at (p8 .pick8 .ensures) in
+    let e9 = rw e8 at (p9 .pick9 .ensures) in
+    let e10 = rw e9 at (p10 .pick10 .ensures) in
+    let e11 = rw e10 at (p11 .pick11 .ensures) in
+    let e12 = rw e11 at (p12 .pick12 .ensures) in
+    rw e12 at (z .put .ensures)
 
-pub put-spec : {M : Type 1} → statement M
-put-spec =
+pub put-sentence-spec : {M : Type 1} → statement M
+put-sentence-spec =
     tie.close
     (tie.spec
     slice-aggregate-pick
@@ -139,6 +144,6 @@ put-spec =
     pick-requires-11
     slice-aggregate-pick-13
     pick-requires-12
-    text-requires
+    put-requires
     same-length
     returns)
