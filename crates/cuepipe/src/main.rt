@@ -4,6 +4,7 @@ use lbp16::Refusal;
 use libc::STDIN_FILENO;
 use libc::STDOUT_FILENO;
 use parts::PartAnswer;
+use text::line;
 ghost use Prim.Native.Nat.{_≤_};
 ghost use lib.ListN.{length};
 
@@ -21,9 +22,9 @@ struct Fed {
 }
 
 fn say(r: Refusal) {
-    let mut line = [0u8; 64];
-    let n = report::refusal_line(r, &mut line);
-    io::write_all(STDOUT_FILENO, &line[..n]);
+    let mut room = [0u8; 64];
+    let n = line::refused(&mut room, 0, r.number as u64, r.place);
+    io::write_all(STDOUT_FILENO, &room[..n]);
 }
 
 fn feed(state: &mut [u8], rest: &[u8], last: bool, room: &mut [u8]) -> Fed

@@ -3,14 +3,21 @@ use cue::CompileAnswer;
 use lbp16::Refusal;
 use libc::STDIN_FILENO;
 use libc::STDOUT_FILENO;
+use text::line;
 
 // The most bytes that a list may have.
 const MOST: usize = 16384;
 
 fn say(r: Refusal) {
-    let mut line = [0u8; 64];
-    let n = report::refusal_line(r, &mut line);
-    io::write_all(STDOUT_FILENO, &line[..n]);
+    let mut room = [0u8; 64];
+    let n = line::refused(&mut room, 0, r.number as u64, r.place);
+    io::write_all(STDOUT_FILENO, &room[..n]);
+}
+
+fn say_too_long() {
+    let mut room = [0u8; 16];
+    let n = line::too_long(&mut room, 0);
+    io::write_all(STDOUT_FILENO, &room[..n]);
 }
 
 fn plan(list: &[u8]) {
@@ -29,7 +36,7 @@ fn main() {
     let mut input = [0u8; 16385];
     let taken = io::read_full(STDIN_FILENO, &mut input);
     if MOST < taken {
-        io::write_all(STDOUT_FILENO, b"too long\n");
+        say_too_long();
         return;
     }
     plan(&input[..taken]);

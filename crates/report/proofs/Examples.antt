@@ -12,14 +12,23 @@ use Rattle.cue.specs.Records
 use Rattle.cue.specs.Packing
 use Rattle.cue.specs.Output
 use Rattle.cue.specs.Compile
-use Rattle.report.specs.Text
-use Rattle.report.specs.Text.{ascii, decimal}
+use Rattle.text.specs.Number
+use Rattle.text.specs.Number.{ascii}
+use Rattle.text.specs.Line
 use Rattle.report.specs.Report
 use Rattle.report.specs.Report.{said}
 
 -- opens every definition that the examples compute with
 all : Bool
-unfolding Space.spaceOf Space.spaceNumber Space.isAbsent Space.row Space.areaRow Word.bit Word.wordOf Bytes.number Bytes.bytesOf Step.isInfo Step.rowBy Step.carried Step.answered Step.replyBytes Step.isStatus Step.isWrite Step.namesUnlock Step.turned Step.unlocked Rules.first Rules.misaligned Rules.pastEnd Rules.barred Records.markAt Records.recordKind Records.recordBytes Records.recordSpace Records.valueBytes Records.recordStep Records.reserved Records.badElement Records.upperHalf Records.recordRefusals Records.withRecord Records.recordsFrom Records.recordsOf Packing.commandFields Packing.joinAll Packing.commandBytes Packing.packetBytes Packing.elementSteps Packing.commandSteps Packing.packetSteps Packing.unlockCommand Packing.keepsLimits Packing.commandsOf Packing.sameKind Packing.joined Packing.joins Packing.needsUnlock Packing.started Packing.turnBy Packing.turn Packing.packFrom Packing.packets Output.framed Output.outputOf Compile.packed Compile.output Compile.compiledTo Compile.compiled Text.ascii Text.digit Text.decimalFrom Text.decimal Text.pairLine Report.refusedLine Report.tooLongLine Report.answerBytes Report.compiledBytes Report.said
+unfolding Space.spaceOf Space.spaceNumber Space.isAbsent Space.row Space.areaRow Word.bit Word.wordOf Bytes.number Bytes.bytesOf Step.isInfo
+    Step.rowBy Step.carried Step.answered Step.replyBytes Step.isStatus Step.isWrite Step.namesUnlock Step.turned Step.unlocked Rules.first
+    Rules.misaligned Rules.pastEnd Rules.barred Records.markAt Records.recordKind Records.recordBytes Records.recordSpace Records.valueBytes
+    Records.recordStep Records.reserved Records.badElement Records.upperHalf Records.recordRefusals Records.withRecord Records.recordsFrom
+    Records.recordsOf Packing.commandFields Packing.joinAll Packing.commandBytes Packing.packetBytes Packing.elementSteps Packing.commandSteps
+    Packing.packetSteps Packing.unlockCommand Packing.keepsLimits Packing.commandsOf Packing.sameKind Packing.joined Packing.joins
+    Packing.needsUnlock Packing.started Packing.turnBy Packing.turn Packing.packFrom Packing.packets Output.framed Output.outputOf
+    Compile.packed Compile.output Compile.compiledTo Compile.compiled Number.ascii Number.digit Number.decimalFrom Number.decimal Line.numbered
+    Line.pairLine Line.refusedLine Line.tooLongLine Report.answerBytes Report.compiledBytes Report.said
 all = true
 
 -- the two bytes "RD" alone
@@ -47,7 +56,3 @@ at-limit = refl
 pub past-limit : said (replicate 16385 0) ≡ ascii "too long\n"
 unfolding all
 past-limit = refl
-
-pub most-records : decimal 100000 ≡ ascii "100000"
-unfolding all
-most-records = refl

@@ -1,10 +1,10 @@
 -- Laws of what the program writes.
-use Prim.Native.Nat.{ℕ, _+_, _≤_, _<_}
+use Prim.Native.Nat.{ℕ, _^_, _≤_, _<_}
 use mathlib.Core.Path.{_≡_, refl, sym, ap, _∙_}
 use mathlib.Core.List.{List, [], _∷_, _++_}
 use native.Mathlib.Omega.{arith}
-use lib.ListN.{length, take, drop, length-append, replicate, length-replicate, take-append-drop}
-use lib.Seq.{length-take-le, take-at}
+use lib.ListN.{length, take, drop, replicate, length-replicate, take-append-drop}
+use lib.Seq.{take-at}
 use borrow.Author.Tests.{lt-ltb, le-ltb}
 use Rattle.lbp16.specs.Answer.{Answer}
 use Rattle.lbp16.specs.declared.Refusal.{Refusal}
@@ -15,9 +15,12 @@ use Rattle.cue.specs.declared.CompileAnswer.{CompileAnswer}
 use Rattle.cue.proofs.CompileLaws.{accepted-list, answers-alike, outputs-alike, room-beyond, refusal-changes-nothing}
 use Rattle.cue.proofs.CompileLaws.{accepted-exactly, output-at-front}
 use Rattle.cue.proofs.OutputLaws.{output-bound}
-use Rattle.report.specs.Report.{said, reportLeft, reportOf, lineLeft, compiledBytes, answerBytes, refusedLine, tooLongLine, mostBytes, roomBytes}
-use Rattle.report.specs.Inside.{Put}
-use Rattle.report.proofs.LineLaws.{put-front}
+use Rattle.text.specs.Number.{ascii}
+use Rattle.text.specs.Room.{filled, putAt, textLeft}
+use Rattle.text.specs.Line.{refusedLine, tooLongLine}
+use Rattle.text.proofs.RoomLaws.{put-front}
+use Rattle.text.proofs.LineLaws.{refused-length}
+use Rattle.report.specs.Report.{said, compiledBytes, answerBytes, mostBytes, roomBytes}
 
 pub said-too-long : (list : List ℕ) → mostBytes < length list → said list ≡ tooLongLine
 unfolding said
@@ -30,50 +33,20 @@ said-compiled list h = rw (le-ltb mostBytes (length list) h) refl
 
 -- what is said, at the front of a room that is otherwise as before
 abbrev pub Reported : List ℕ → List ℕ → List ℕ → ℕ → Type 0
-Reported list before after n = reportLeft n after ≡ reportOf list before
+Reported list before after n = filled n after ≡ textLeft (said list) before
 
 front-said : (list before after : List ℕ) (n : ℕ) → n ≡ length (said list) → take n after ≡ said list
     → drop n after ≡ drop n before → Reported list before after n
-unfolding reportOf
+unfolding textLeft
 front-said list before after n count front beyond =
     let whole : after ≡ said list ++ drop n before = sym (take-append-drop n after) ∙ rw (front, beyond) refl in
     rw (whole, count) refl
 
-pub line-left : (text before after : List ℕ) (n : ℕ) → Put text 0 before after n → reportLeft n after ≡ lineLeft text before
-unfolding lineLeft
-line-left text before after n p =
-    let (front, beyond) = put-front p in
-    let count : n ≡ length text = omega (arith, p .behind) in
-    let whole : after ≡ text ++ drop n before = sym (take-append-drop n after) ∙ rw (front, beyond) refl in
-    rw (whole, count) refl
-
--- a text at the front stands in the room
-pub line-fits : (text before after : List ℕ) (n : ℕ) → reportLeft n after ≡ lineLeft text before → n ≤ length after
-unfolding lineLeft
-line-fits text before after n e =
-    let count : n ≡ length text = ap (λ r. r .count) e in
-    let room : length after ≡ length text + length (drop (length text) before) =
-    ap (λ r. length (r .room)) e ∙ length-append text _ in
-    omega arith
-
-pub line-front : (text before after : List ℕ) (n : ℕ) → reportLeft n after ≡ lineLeft text before → n ≡ length (take n after)
-line-front text before after n e = sym (length-take-le n after (line-fits text before after n e))
-
--- what is reported stands in the room
-pub report-fits : (list before after : List ℕ) (n : ℕ) → Reported list before after n → n ≤ length after
-unfolding reportOf lineLeft
-report-fits list before after n e = line-fits (said list) before after n e
-
-pub report-front : (list before after : List ℕ) (n : ℕ) → Reported list before after n → n ≡ length (take n after)
-unfolding reportOf lineLeft
-report-front list before after n e = line-front (said list) before after n e
-
--- a line put at the front of the room
-pub line-reported : (list room after text : List ℕ) (n : ℕ) → said list ≡ text → Put text 0 room after n
-    → Reported list room after n
-line-reported list room after text n e p =
-    let (front, beyond) = put-front p in
-    front-said list room after n (rw e (omega (arith, p .behind))) (front ∙ sym e) beyond
+-- the line that is said for a list that is too long
+pub too-long-reported : (list room after : List ℕ) (n : ℕ) → mostBytes < length list → length room ≡ roomBytes
+    → filled n after ≡ putAt tooLongLine 0 room → Reported list room after n
+unfolding tooLongLine ascii
+too-long-reported list room after n h size p = rw (said-too-long list h) (p ∙ put-front tooLongLine room (omega arith))
 
 -- What is said by the compiler's answer in any room of that size: its former content plays no part.
 module _ (list room : List ℕ) (few : length list ≤ mostBytes) (size : length room ≡ roomBytes) where
@@ -117,13 +90,15 @@ module _ (list room : List ℕ) (few : length list ≤ mostBytes) (size : length
         (rw w (sym s))
         (rw w (room-beyond list room b n f))
 
-    pub refusal-reported : (r : Refusal) (after : List ℕ) (m : ℕ) → a ≡ CompileAnswer.Refused r
-        → Put (refusedLine (r .number) (r .place)) 0 room′ after m → Reported list room after m
+    pub refusal-reported : (r : Refusal) (after : List ℕ) (m : ℕ) → r .number < 2 ^ 64 → r .place < 2 ^ 64
+        → a ≡ CompileAnswer.Refused r → filled m after ≡ putAt (refusedLine (r .number) (r .place)) 0 room′
+        → Reported list room after m
     unfolding compileListed
-    refusal-reported r after m d p =
+    refusal-reported r after m big far d p =
         let f : compiled list room .answer ≡ Answer.refused (r .number) (r .place) = sym e ∙ rw d refl in
         let same : room′ ≡ room = w ∙ refusal-changes-nothing list room _ _ f in
-        line-reported list room after _ m (said-refused _ _ f) (rw same at p)
+        let fits = refused-length (r .number) (r .place) big far in
+        rw (said-refused _ _ f) (rw same at p ∙ put-front (refusedLine (r .number) (r .place)) room (omega arith))
 
 -- What is said by the list alone. A list is one or the other, and a bad record's number is 21 to 24, so 26 is never said.
 module _ (list : List ℕ) (few : length list ≤ mostBytes) where

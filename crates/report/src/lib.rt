@@ -1,31 +1,22 @@
 // What the compiling program writes: a list's packets, or a line that says why there are none.
 use cue::CompileAnswer;
-use lbp16::Refusal;
-
-pub mod line;
-
+use text::line;
 ghost use mathlib.Core.Path.{_≡_};
-ghost use Rattle.report.specs.Report.{reportLeft, reportOf, lineLeft, refusedLine};
+ghost use Rattle.text.specs.Room.{filled, textLeft};
+ghost use Rattle.report.specs.Report.{said};
 
 // The most bytes that a list may have.
 const MOST: usize = 16384;
 
 // The bytes to write stand at the front of the room; how many they are is answered.
 pub fn report(input: &[u8], room: &mut [u8; 32768]) -> usize
-    ensures { λ r. ⌜ reportLeft r (now (room .exit)) ≡ reportOf (now (input .entry)) (now (room .entry)) ⌝ }
+    ensures { λ r. ⌜ filled r (now (room .exit)) ≡ textLeft (said (now (input .entry))) (now (room .entry)) ⌝ }
 {
     if MOST < input.len() {
-        return line::put_too_long(room);
+        return line::too_long(room, 0);
     }
     match cue::compile(input, room) {
         CompileAnswer::Compiled { bytes, packets: _ } => bytes,
-        CompileAnswer::Refused(r) => line::put_refusal(room, r),
+        CompileAnswer::Refused(r) => line::refused(room, 0, r.number as u64, r.place),
     }
-}
-
-// The line that names a refusal, at the front of the room.
-pub fn refusal_line(r: Refusal, room: &mut [u8; 64]) -> usize
-    ensures { λ n. ⌜ reportLeft n (now (room .exit)) ≡ lineLeft (refusedLine (r .number) (r .place)) (now (room .entry)) ⌝ }
-{
-    line::put_refusal(room, r)
 }

@@ -1,7 +1,7 @@
 use borrow.Author.Needs.{needs}
 use Rattle.cuec.proofs.main.Statement.{statement}
 use Rattle.cuec.proofs.main.Tie as tie
-use Rattle.report.proofs.ReportLaws.{report-fits, report-front}
+use Rattle.text.proofs.RoomLaws.{left-within, left-taken}
 
 slice-aggregate-read-full : tie.Need-slice-aggregate-read-full
 slice-aggregate-read-full c = search needs
@@ -19,10 +19,10 @@ report-requires : tie.Need-report-requires
 report-requires c κs = search needs
 
 array-share-prefix-room : tie.Need-array-share-prefix-room
-array-share-prefix-room c = let l = report-fits _ _ _ _ (c .report .ensures) in search needs
+array-share-prefix-room c = let l = left-within _ _ (c .report .ensures) in search needs
 
 slice-aggregate-write-all : tie.Need-slice-aggregate-write-all
-slice-aggregate-write-all c = report-front _ _ _ _ (c .before .report .ensures)
+slice-aggregate-write-all c = left-taken _ _ (c .before .report .ensures)
 
 write-all-requires : tie.Need-write-all-requires
 write-all-requires c κs = search needs
