@@ -1,5 +1,5 @@
 /* The machine's part on QEMU's boards mps2-an386 (Cortex-M4) and mps2-an385 (Cortex-M3). The console is QEMU's own, by
- * semihosting; QEMU loads the file to FILE, and clears the memory. */
+ * semihosting; QEMU loads the file to FILE_AT, and clears the memory. */
 #include "machine.h"
 
 #define FILE_AT ((const uint8_t *)0x21000000)
