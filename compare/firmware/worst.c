@@ -2,26 +2,27 @@
  * lists full of one kind of record.
  *
  * From the packets follows a bound of all: prices of a packet's byte and of a reply's, such that each packet here takes no
- * more than its bytes are worth. What a command takes does not depend on the commands before it, so that no packet takes
- * more than 1,472 bytes of both are worth; the prices are those for which that is least. */
+ * more than its bytes are worth, and an empty packet beside. What a command takes does not depend on the commands before it,
+ * so that no packet takes more than 1,472 bytes of both are worth; the prices are those for which that is least. Packets of
+ * random commands are held against them. */
 #include <string.h>
 
 #include "head.h"
 #include "machine.h"
 #include "ticks.h"
 
-enum { RECORDS = 1000, ROOM_BYTES = 20 * RECORDS, MOST_KINDS = 4000, PART = 64 };
+enum { RECORDS = 1000, ROOM_BYTES = 20 * RECORDS, MOST_KINDS = 4000, PART = 64, MIXED = 2000 };
 
 static uint8_t store[HEAD_STORE_BYTES], reply[HEAD_REPLY_BYTES], packet[HEAD_REPLY_BYTES + 600];
 static uint8_t list[10 * RECORDS], out[ROOM_BYTES], state[HEAD_PART_BYTES], room[HEAD_PART_ROOM];
 static uint32_t pointers[HEAD_POINTERS], length, list_length, out_length, refused, commands;
 static uint64_t value, other;
 
-/* The packets that were counted: bytes of packet and reply, and instructions. */
+/* The packets that were counted: bytes of packet and reply, and instructions above those of an empty packet. */
 static struct {
     uint32_t packet, reply, instructions;
 } counted[MOST_KINDS];
-static uint32_t counts;
+static uint32_t counts, empty;
 
 static void run(void)
 {
@@ -117,7 +118,7 @@ static int more(const struct kind *k, uint32_t *most, uint32_t *bytes)
     uint32_t all = length + (uint32_t)value, now = count(run, 2);
     counted[counts].packet = length;
     counted[counts].reply = (uint32_t)value;
-    counted[counts++].instructions = now;
+    counted[counts++].instructions = now - empty;
     if ((uint64_t)now * *bytes <= (uint64_t)*most * all)
         return 0;
     *most = now;
@@ -160,24 +161,84 @@ static uint32_t price(uint32_t packets)
     return replies;
 }
 
+/* The prices of a packet's and a reply's byte, in parts of an instruction. */
+static uint32_t of_packet, of_reply;
+
 static void bound(void)
 {
-    uint32_t best = 0, least = UINT32_MAX;
+    uint32_t least = UINT32_MAX;
     for (uint32_t packets = 1; packets < 400 * PART; packets++) {
         uint32_t replies = price(packets);
         if (replies && packets + replies < least) {
             least = packets + replies;
-            best = packets;
+            of_packet = packets;
+            of_reply = replies;
         }
     }
     say_number(counts);
     say(" packets; no packet takes more than ");
-    say_number((uint32_t)(((uint64_t)least * HEAD_REPLY_BYTES + PART - 1) / PART));
-    say(": prices of ");
-    say_number(best);
-    say(" and ");
-    say_number(least - best);
-    say(" parts of 64 for a byte of packet and of reply\n");
+    say_number(empty + (uint32_t)(((uint64_t)least * HEAD_REPLY_BYTES + PART - 1) / PART));
+    say(": a byte of packet is worth ");
+    say_number(of_packet);
+    say("/64 instructions, a byte of reply ");
+    say_number(of_reply);
+    say("/64, an empty packet takes ");
+    say_number(empty);
+    say("\n");
+}
+
+static uint32_t drawn(uint32_t end)
+{
+    static uint32_t seed;
+    seed = seed * 1664525 + 1013904223;
+    return (seed >> 8) % end;
+}
+
+/* Fills the packet with random commands of all kinds, most of them good. */
+static void mix(void)
+{
+    static const uint32_t spaces[] = {0, 2, 6, 7}, elements[] = {1, 1, 1, 2, 8, 127};
+    uint32_t most = 1 + drawn(HEAD_REPLY_BYTES), high = drawn(2) ? 6 : 3;
+    length = 0;
+    put(0xD901);
+    put(0x1A);
+    put(0x5A02);
+    for (;;) {
+        uint32_t class = drawn(3), space = spaces[drawn(class == 1 ? 3 : 4)], n = elements[drawn(high)];
+        uint32_t addressed = space == 2 && class == 1 ? 1 : drawn(2), increment = addressed && n <= 2 ? drawn(2) : 0;
+        uint32_t size = space == 0 && class < 2 ? 4 : 2, data = class == 1 ? size * n : 0;
+        if (length + 4 + data > most)
+            return;
+        put((class == 1 ? 0x8000 : 0) | addressed << 14 | (class == 2 ? 0x2000 : 0) | space << 10 |
+            (size == 4 ? 0x200 : 0x100) | increment << 7 | n);
+        if (addressed)
+            put(space == 2 && class == 1 ? 0x20 : 4 * drawn(3));
+        memset(packet + length, 0, data);
+        length += data;
+    }
+}
+
+/* Holds packets of random commands against the prices; whether all that are accepted keep to them. */
+static int mixed(void)
+{
+    uint32_t accepted = 0, above = 0;
+    for (uint32_t k = 0; k < MIXED; k++) {
+        mix();
+        run();
+        if (refused)
+            continue;
+        uint64_t worth = (uint64_t)of_packet * length + (uint64_t)of_reply * value;
+        uint32_t now = count(run, 2);
+        if (refused)
+            continue;
+        accepted++;
+        above += (uint64_t)PART * (now - empty) > worth;
+    }
+    say_number(accepted);
+    say(" packets of random commands, ");
+    say_number(above);
+    say(" take more than their bytes are worth\n");
+    return accepted > MIXED / 4 && above == 0;
 }
 
 static void compile(void)
@@ -273,14 +334,14 @@ static void records(const char *name, void (*call)(void))
         }
     }
     list_length = out_length = 0;
-    uint32_t empty = count(call, 10);
+    uint32_t none = count(call, 10);
     say(name);
     say(": a record takes at most ");
     say_number(most_added);
     say(" (list ");
     say_number(which_most);
     say("), an empty list ");
-    say_number(empty);
+    say_number(none);
     say("\n");
 }
 
@@ -288,15 +349,17 @@ int program(const uint8_t *file)
 {
     (void)file;
     start_ticks();
+    empty = count(run, 100);
     for (uint32_t class = 0; class < 3; class++)
         for (uint32_t mode = 0; mode < 4; mode++)
             kinds(class, mode);
     bound();
+    int well = mixed();
     records("head_compile", compile);
     records("head_tighten", tighten);
     records("head_tight_check", tight_check);
     records("head_independent", independent);
     records("head_part, in one part", whole_parts);
     records("head_part, byte by byte", byte_parts);
-    return 1;
+    return well;
 }
