@@ -118,6 +118,10 @@ static void bursts(void)
     report("burstread", burst, 100);
     words[0] = 0xB << 12 | 1 << 11 | 127 << 4;
     report("burstwrite", burst, 100);
+    words[0] = 0xA << 12 | 127 << 4;
+    report("burstreadstill", burst, 100);
+    words[0] = 0xB << 12 | 127 << 4;
+    report("burstwritestill", burst, 100);
 }
 
 int program(const uint8_t *file)
