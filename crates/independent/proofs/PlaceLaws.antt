@@ -144,7 +144,7 @@ unfolding at misaligned pastEnd placeOf cellOf
 placed x h i w =
     let g = good-element x h in
     let e = row-plain (x .kind) (x .space) i in
-    let aligned = eqb-true _ _ (not-false _ (g .1)) in
+    let aligned : x .address % row (x .space) .element ≡ 0 = eqb-true _ _ (not-false _ (g .1)) in
     let inside : x .address + width x ≤ row (x .space) .bytes =
     rw e at (ltb-false (rowBy (x .kind) (x .space) .bytes) (x .address + rowBy (x .kind) (x .space) .element) (g .2)) in
     record {

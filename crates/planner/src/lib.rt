@@ -63,7 +63,8 @@ fn improved(list: &[u8], out: &mut [u8], most: usize) -> CompileAnswer
 pub fn tighten(list: &[u8], out: &mut [u8]) -> CompileAnswer
     ensures tightened { λ r. ⌜ Tightened (now (list .entry)) (now (out .entry)) (left r (now (out .exit))) ⌝ }
     ensures eight { λ r. ⌜ EightBytes (now (list .entry)) (now (out .entry)) (compileListed r) ⌝ }
-    ensures demand3 { λ r. ⌜ ((bytes count : ℕ) → compileListed r ≡ Answer.accepted (bytes ∷ count ∷ []) → TightDemand3 (now (list .entry)) (take bytes (now (out .exit))) count) ⌝ }
+    ensures demand3 { λ r. ⌜ ((bytes count : ℕ) → compileListed r ≡ Answer.accepted (bytes ∷ count ∷ [])
+        → TightDemand3 (now (list .entry)) (take bytes (now (out .exit))) count) ⌝ }
 {
     let answer = plan::plan(list);
     let CompileAnswer::Compiled { bytes, packets: _ } = answer else {

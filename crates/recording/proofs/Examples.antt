@@ -9,9 +9,18 @@ use Rattle.cue.proofs.Examples.{all}
 use Rattle.recording.specs.Recording
 use Rattle.recording.specs.Recording.{Verdict}
 
+-- opens every definition that a judgment computes with
+unfoldable pairs : ℕ
+unfolding Recording.firstWrong Recording.foundPair Recording.replyPair Recording.answeredPair Recording.ranPair Recording.frontPair
+pairs = 0
+
+unfoldable every : ℕ
+unfolding all Play.replyLength pairs Recording.pairAt Recording.judgedFrom Recording.judgedParts Recording.judgedIn Recording.said
+every = 0
+
 -- what is said of a recording that starts on a fresh card
 pub heard : List ℕ → Verdict
-unfolding all Play.replyLength Recording.firstWrong Recording.foundPair Recording.replyPair Recording.answeredPair Recording.ranPair Recording.frontPair Recording.pairAt Recording.judgedFrom Recording.judgedParts Recording.judgedIn Recording.said Recording.judged
+unfolding every Recording.judged
 heard recording = Recording.judged recording (replicate 65728 0) Pointer.fresh .verdict
 
 -- a read of one word, its reply, and a packet that is refused with 7

@@ -127,7 +127,9 @@ unfolding play replyIn
 play-alike [] rooms others store p l m = refl
 play-alike (packet ∷ rest) rooms others store p l m =
     let a = rooms-alike packet store p (rooms 0) (others 0) (l 0) (m 0) in
-    let e = play-alike rest (λ i. rooms (suc i)) (λ i. others (suc i)) (runPacket packet store p (others 0) .store) (runPacket packet store p (others 0) .pointers) (λ i. l (suc i)) (λ i. m (suc i)) in
+    let o = runPacket packet store p (others 0) in
+    let e =
+    play-alike rest (λ i. rooms (suc i)) (λ i. others (suc i)) (o .store) (o .pointers) (λ i. l (suc i)) (λ i. m (suc i)) in
     rw (a .reply, a .answer, a .store, a .pointers, e) refl
 
 pub zero-rooms : (i : ℕ) → length (zeroRooms i) ≡ limit

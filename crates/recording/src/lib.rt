@@ -8,7 +8,6 @@ mod pair;
 use pair::Pair;
 ghost use mathlib.Core.Path.{_≡_};
 ghost use Prim.Native.Nat.{_+_, _*_, _^_, _<_};
-ghost use lib.ListN.{length};
 ghost use Rattle.recording.specs.Recording.{verdictListed, verdictOf, partNumber, left, judgedParts, judgedIn, saidBy, judged};
 
 // Packets and parts are counted from 0.

@@ -7,7 +7,7 @@ use packet::judge::Verdict;
 ghost use mathlib.Core.Path.{_≡_};
 ghost use Prim.Native.Nat.{_+_, _^_, _<_, _≤_};
 ghost use lib.ListN.{length};
-ghost use Rattle.cue.specs.Output.{frontOf, framedBytes, behindFrame};
+ghost use Rattle.cue.specs.Output.{frontOf, framedBytes};
 ghost use Rattle.packet.specs.Command.{limit};
 ghost use Rattle.card.specs.Run.{runPacket};
 ghost use Rattle.recording.specs.Recording.{firstWrong, goodBytes, replyPair, turned, ranPair, pairAt};
@@ -74,7 +74,9 @@ fn reply_at(expected: &[u8], behind: &[u8], n: usize) -> Pair
 // Runs the packet of `n` bytes at the front and judges its reply. Afterwards the packet's own reply stands in the room.
 fn whole_at(rest: &[u8], n: usize, store: &mut [u8], p: Pointers, room: &mut [u8]) -> Turn
     requires { ⌜ (4 + n ≤ length (now rest)) × (length (now room) ≡ limit) ⌝ }
-    ensures { λ r. ⌜ turned (r .pair) (now (store .exit)) (r .pointers) (now (room .exit)) ≡ ranPair n (now (rest .entry)) (runPacket (framedBytes n (now (rest .entry))) (now (store .entry)) p (now (room .entry))) ⌝ }
+    ensures { λ r. ⌜ turned (r .pair) (now (store .exit)) (r .pointers) (now (room .exit))
+        ≡ ranPair n (now (rest .entry))
+        (runPacket (framedBytes n (now (rest .entry))) (now (store .entry)) p (now (room .entry))) ⌝ }
 {
     let end = 4 + n;
     let ran = run::run(&rest[4..end], store, p, room);
@@ -94,7 +96,8 @@ fn whole_at(rest: &[u8], n: usize, store: &mut [u8], p: Pointers, room: &mut [u8
 // What is found at the front, and what the packet leaves if there is a whole one.
 pub(crate) fn pair_at(rest: &[u8], store: &mut [u8], p: Pointers, room: &mut [u8]) -> Turn
     requires { ⌜ length (now room) ≡ limit ⌝ }
-    ensures { λ r. ⌜ turned (r .pair) (now (store .exit)) (r .pointers) (now (room .exit)) ≡ pairAt (now (rest .entry)) (now (store .entry)) p (now (room .entry)) ⌝ }
+    ensures { λ r. ⌜ turned (r .pair) (now (store .exit)) (r .pointers) (now (room .exit))
+        ≡ pairAt (now (rest .entry)) (now (store .entry)) p (now (room .entry)) ⌝ }
 {
     let frame = frame::frame_at(rest);
     match frame {

@@ -13,7 +13,7 @@ use Rattle.cue.specs.Records
 use Rattle.cue.specs.Output.{apart}
 use Rattle.cue.specs.Compile.{output, compileListed, needed}
 use Rattle.cue.specs.declared.CompileAnswer.{CompileAnswer}
-use Rattle.tight.specs.Tight.{accepted, rejected, refused, partsChecked, proposalChecked, checked, checkListed}
+use Rattle.tight.specs.Tight.{rejected, refused, partsChecked, proposalChecked, checked, checkListed}
 use Rattle.tight.specs.declared.TightAnswer.{TightAnswer}
 
 -- a refused list

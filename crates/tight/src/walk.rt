@@ -111,7 +111,8 @@ fn element_takes(list: &[u8], write: bool, space: u8, address: u32, bytes: &[u8]
 
 // The elements of a plain command, from address `used` on; `data` are the bytes behind its header.
 fn elements_take(list: &[u8], f: Fields, used: u32, data: &[u8]) -> Taken
-    requires { ⌜ (isAbsent (spaceOf (f .space)) ≡ false) × (isInfo (kindOf f) ≡ false) × (used ≤ 65536) × (f .count * carried (kindOf f) (spaceOf (f .space)) ≤ length (now «data»)) ⌝ }
+    requires { ⌜ (isAbsent (spaceOf (f .space)) ≡ false) × (isInfo (kindOf f) ≡ false) × (used ≤ 65536)
+        × (f .count * carried (kindOf f) (spaceOf (f .space)) ≤ length (now «data»)) ⌝ }
     ensures { λ r. ⌜ r ≡ stepsTake (elements (kindOf f) (spaceOf (f .space)) (f .count) used (stride f) (now («data» .entry))) (now (list .entry)) ⌝ }
 {
     let step = command::stride_of(f);

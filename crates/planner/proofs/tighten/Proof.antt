@@ -19,7 +19,9 @@ returns-2 : tie.Need-returns-2
 returns-2 c = too-small-all _ _ _ (c .before .before .before .before .plan .ensures) _ _ (c .before .before .answer .given .1) (c .if1 .taken)
 
 improved-requires : tie.Need-improved-requires
-improved-requires c κs = (packs-of _ _ (c .before .before .before .before .before .plan .ensures) _ _ (c .before .before .before .answer .given .1), c .before .if1 .left)
+improved-requires c κs =
+    let a = c .before .before .before in
+    (packs-of _ _ (a .before .before .plan .ensures) _ _ (a .answer .given .1), c .before .if1 .left)
 
 same-length : tie.Need-same-length
 same-length c = search needs

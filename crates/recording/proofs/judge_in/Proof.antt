@@ -22,7 +22,9 @@ same-length-2 c = search needs
 
 returns-2 : tie.Need-returns-2
 unfolding judgedIn
-returns-2 c = rw (sym (c .before .before .before .before .before .before .bad-state .ensures) ∙ c .before .before .before .before .before .if1 .left) (c .before .before .judge-parts .ensures)
+returns-2 c =
+    let f = c .before .before .before .before .before in
+    rw (sym (f .before .bad-state .ensures) ∙ f .if1 .left) (c .before .before .judge-parts .ensures)
 
 pub judge-in-spec : {M : Type 1} → statement M
 judge-in-spec =

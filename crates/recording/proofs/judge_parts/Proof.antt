@@ -26,31 +26,53 @@ judgment-of-requires : tie.Need-judgment-of-requires Inv-loop μ-loop
 judgment-of-requires c κs = let s = c .before .before .before .before .before .before .before .before .loop .inv in omega (arith, s .few, s .end)
 
 same-length : tie.Need-same-length Inv-loop μ-loop
-same-length c = c .before .before .before .before .before .before .pair-at .kept .1 .0 ∙ c .before .before .before .before .before .before .before .before .before .loop .inv .store-bytes
+same-length c =
+    let p = c .before .before .before .before .before .before in
+    p .pair-at .kept .1 .0 ∙ p .before .before .before .loop .inv .store-bytes
 
 returns : tie.Need-returns Inv-loop μ-loop
-returns c = judging-stop (c .before .before .before .before .before .before .before .before .before .loop .inv) _ _ _ _ (c .before .before .before .before .before .before .pair-at .ensures) _ (c .before .before .good-bytes .ensures) (c .before .if1 .taken) _ (c .judgment-of .ensures)
+returns c =
+    let p = c .before .before .before .before .before .before in
+    judging-stop (p .before .before .before .loop .inv) _ _ _ _ (p .pair-at .ensures) _ (c .before .before .good-bytes .ensures)
+    (c .before .if1 .taken)
+    _
+    (c .judgment-of .ensures)
 
 add-packets : tie.Need-add-packets Inv-loop μ-loop
 add-packets c = let s = c .before .before .before .before .before .before .before .before .loop .inv in omega (arith, s .few, s .end)
 
 add-at : tie.Need-add-at Inv-loop μ-loop
-add-at c = let w = judging-within (c .before .before .before .before .before .before .before .before .loop .inv) _ _ _ _ (c .before .before .before .before .before .pair-at .ensures) _ (c .before .good-bytes .ensures) (c .if1 .left) in let s = c .before .before .before .before .before .before .before .before .loop .inv in omega (arith, w .whole, s .end)
+add-at c =
+    let p = c .before .before .before .before .before in
+    let s = p .before .before .before .loop .inv in
+    let w = judging-within s _ _ _ _ (p .pair-at .ensures) _ (c .before .good-bytes .ensures) (c .if1 .left) in
+    omega (arith, w .whole, s .end)
 
 sub-rest : tie.Need-sub-rest Inv-loop μ-loop
-sub-rest c = judging-within (c .before .before .before .before .before .before .before .before .loop .inv) _ _ _ _ (c .before .before .before .before .before .pair-at .ensures) _ (c .before .good-bytes .ensures) (c .if1 .left) .whole
+sub-rest c =
+    let p = c .before .before .before .before .before in
+    let s = p .before .before .before .loop .inv in
+    judging-within s _ _ _ _ (p .pair-at .ensures) _ (c .before .good-bytes .ensures) (c .if1 .left) .whole
 
 part-rest-start : tie.Need-part-rest-start Inv-loop μ-loop
-part-rest-start c = judging-within (c .before .before .before .before .before .before .before .before .loop .inv) _ _ _ _ (c .before .before .before .before .before .pair-at .ensures) _ (c .before .good-bytes .ensures) (c .if1 .left) .whole
+part-rest-start c = sub-rest c
 
 part-rest-end : tie.Need-part-rest-end Inv-loop μ-loop
 part-rest-end c = search needs
 
 loop-less : tie.Need-loop-less Inv-loop μ-loop
-loop-less c = let w = judging-within (c .before .before .before .before .before .before .before .before .before .loop .inv) _ _ _ _ (c .before .before .before .before .before .before .pair-at .ensures) _ (c .before .before .good-bytes .ensures) (c .before .if1 .left) in simp (length-take, length-drop) (omega (arith, w .some, w .whole))
+loop-less c =
+    let p = c .before .before .before .before .before .before in
+    let s = p .before .before .before .loop .inv in
+    let w = judging-within s _ _ _ _ (p .pair-at .ensures) _ (c .before .before .good-bytes .ensures) (c .before .if1 .left) in
+    simp (length-take, length-drop) (omega (arith, w .some, w .whole))
 
 loop-again : tie.Need-loop-again Inv-loop μ-loop
-loop-again c = judging-next (c .before .before .before .before .before .before .before .before .before .loop .inv) _ _ _ _ (c .before .before .before .before .before .before .pair-at .ensures) _ (c .before .before .good-bytes .ensures) (c .before .if1 .left) (c .before .before .before .before .before .before .pair-at .kept .1 .0)
+loop-again c =
+    let p = c .before .before .before .before .before .before in
+    let s = p .before .before .before .loop .inv in
+    judging-next s _ _ _ _ (p .pair-at .ensures) _ (c .before .before .good-bytes .ensures) (c .before .if1 .left)
+    (p .pair-at .kept .1 .0)
 
 pub judge-parts-spec : {M : Type 1} → statement M
 judge-parts-spec =

@@ -10,7 +10,9 @@ returns : tie.Need-returns
 returns c = (nothing _, still-none _ _ (c .before .reads-of-one-cell .ensures .0) (c .before .reads-of-one-cell .ensures .1) _ (c .if1 .taken))
 
 returns-2 : tie.Need-returns-2
-returns-2 c = (nothing _, still-small _ _ (c .before .before .reads-of-one-cell .ensures .0) (c .before .before .reads-of-one-cell .ensures .1) _ (c .if2 .taken))
+returns-2 c =
+    let n = c .before .before .reads-of-one-cell .ensures in
+    (nothing _, still-small _ _ (n .0) (n .1) _ (c .if2 .taken))
 
 record-at-requires : tie.Need-record-at-requires
 record-at-requires c κs = search needs
@@ -25,7 +27,16 @@ same-length : tie.Need-same-length
 same-length c = search needs
 
 returns-3 : tie.Need-returns-3
-returns-3 c = (still-proposed _ _ (c .before .before .before .before .before .before .before .before .reads-of-one-cell .ensures .0) (c .before .before .before .before .before .before .before .before .reads-of-one-cell .ensures .1) _ _ _ _ (c .before .before .before .before .before .record-at .ensures) (c .before .before .before .before .before .before .if2 .left) (c .before .before .before .word-of .ensures) (c .before .before .put-command .ensures), still-put _ _ (c .before .before .before .before .before .before .before .before .reads-of-one-cell .ensures .0) (c .before .before .before .before .before .before .before .before .reads-of-one-cell .ensures .1) _ _ (c .before .before .before .before .before .before .before .before .before .before .before .args .out .now) _ (c .before .before .before .before .before .record-at .ensures) (c .before .before .before .before .before .before .if2 .left) (c .before .before .before .word-of .ensures) (c .before .before .put-command .ensures))
+returns-3 c =
+    let r = c .before .before .before .before .before in
+    let f = r .before in
+    let n = f .before .before .reads-of-one-cell .ensures in
+    let e = f .before .before .before .before .before in
+    let w = c .before .before .before .word-of .ensures in
+    let p = c .before .before .put-command .ensures in (
+      still-proposed _ _ (n .0) (n .1) _ _ _ _ (r .record-at .ensures) (f .if2 .left) w p,
+      still-put _ _ (n .0) (n .1) _ _ (e .args .out .now) _ (r .record-at .ensures) (f .if2 .left) w p,
+    )
 
 pub one-cell-spec : {M : Type 1} → statement M
 one-cell-spec =

@@ -24,13 +24,21 @@ reads-requires : tie.Need-reads-requires Inv-loop μ-loop
 reads-requires c κs = search needs
 
 returns : tie.Need-returns Inv-loop μ-loop
-returns c = no-read _ (c .before .before .before .before .loop .rest .now) _ (c .before .before .before .before .loop .inv) (c .before .before .before .loop-test .taken) _ _ _ (c .before .before .record-at2 .ensures) (c .before .before .before .before .before .record-at .ensures) (c .before .reads .ensures) (c .if1 .taken)
+returns c =
+    let r = c .before .before in
+    let l = r .before .before in
+    no-read _ (l .loop .rest .now) _ (l .loop .inv) (r .before .loop-test .taken) _ _ _ (r .record-at2 .ensures)
+    (l .before .record-at .ensures)
+    (c .before .reads .ensures)
+    (c .if1 .taken)
 
 returns-2 : tie.Need-returns-2 Inv-loop μ-loop
 returns-2 c = too-many _ _ _ (c .before .before .before .before .before .loop .inv) (c .before .before .before .before .loop-test .taken) (c .if2 .taken)
 
 returns-3 : tie.Need-returns-3 Inv-loop μ-loop
-returns-3 c = cut-short _ _ _ (c .before .before .before .before .before .before .loop .inv) (c .before .before .before .before .before .loop-test .taken) (c .if3 .taken)
+returns-3 c =
+    let t = c .before .before .before .before .before in
+    cut-short _ _ _ (t .before .loop .inv) (t .loop-test .taken) (c .if3 .taken)
 
 add-count : tie.Need-add-count Inv-loop μ-loop
 add-count c = omega (arith, c .before .before .before .before .before .before .loop .inv .few)
@@ -48,7 +56,9 @@ loop-less : tie.Need-loop-less Inv-loop μ-loop
 loop-less c = rw (length-take, length-drop) (omega arith)
 
 loop-again : tie.Need-loop-again Inv-loop μ-loop
-loop-again c = counting-again _ _ _ (c .before .before .before .before .before .before .before .loop .inv) (c .before .before .before .before .before .before .loop-test .taken) (c .before .before .if2 .left) (c .before .if3 .left)
+loop-again c =
+    let t = c .before .before .before .before .before .before in
+    counting-again _ _ _ (t .before .loop .inv) (t .loop-test .taken) (c .before .before .if2 .left) (c .before .if3 .left)
 
 returns-4 : tie.Need-returns-4 Inv-loop μ-loop
 returns-4 c = too-few _ _ _ (c .before .before .loop .inv) (c .before .loop-test .left) (c .if4 .taken)

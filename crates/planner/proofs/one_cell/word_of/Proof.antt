@@ -16,7 +16,9 @@ enum-told : tie.Need-enum-told
 enum-told c = search needs
 
 returns : tie.Need-returns
-returns c = λ h k. still-word _ _ _ _ (c .before .before .before .before .row-of .ensures) (c .before .before .before .word-of .ensures) h k _ (c .before .w .given .1)
+returns c = λ h k.
+    let w = c .before .before .before in
+    still-word _ _ _ _ (w .before .row-of .ensures) (w .word-of .ensures) h k _ (c .before .w .given .1)
 
 returns-2 : tie.Need-returns-2
 returns-2 c = λ h k. still-no-word _ _ _ _ (c .before .before .before .row-of .ensures) (c .before .before .word-of .ensures) h k _ (c .enum-told .given .1)

@@ -45,7 +45,9 @@ returns-2 : tie.Need-returns-2 Inv-loop μ-loop
 returns-2 c = draft-last (c .before .before .before .before .before .before .before .before .loop .inv)
 
 put-record-requires : tie.Need-put-record-requires Inv-loop μ-loop
-put-record-requires c κs = (c .before .before .before .loose .ensures (c .before .before .if1 .left), c .before .before .before .before .before .cost-of .ensures .carried)
+put-record-requires c κs =
+    let l = c .before .before .before in
+    (l .loose .ensures (c .before .before .if1 .left), l .before .before .cost-of .ensures .carried)
 
 sub-rest : tie.Need-sub-rest Inv-loop μ-loop
 sub-rest c = omega arith
@@ -58,12 +60,18 @@ part-rest-end c = search needs
 
 loop-less : tie.Need-loop-less Inv-loop μ-loop
 loop-less c =
-    shorter (c .before .before .before .before .before .before .before .before .before .before .before .before .before .loop .rest .now) _ _ (c .before .before .before .before .before .before .before .before .before .before .record-bytes .ensures .0) (c .before .before .before .before .before .before .before .before .before .before .before .before .loop-test .taken)
+    let r = c .before .before .before .before .before .before .before .before .before .before in
+    let t = r .before .before in
+    shorter (t .before .loop .rest .now) _ _ (r .record-bytes .ensures .0) (t .loop-test .taken)
 
 loop-again : tie.Need-loop-again Inv-loop μ-loop
 loop-again c =
-    draft-again (c .before .before .before .before .before .before .before .before .before .before .before .before .before .loop .inv) (c .before .before .before .before .before .before .before .before .turned .ensures) (c .before .before .before .before .before .before .before .loose .ensures (c .before .before .before .before .before .before .if1 .left))
-    (c .before .before .before .put-record .kept .0) (c .before .before .before .put-record .ensures)
+    let p = c .before .before .before in
+    let f = p .before .before .before in
+    let t = f .before .before in
+    draft-again (t .before .before .before .before .before .loop .inv) (t .turned .ensures) (f .before .loose .ensures (f .if1 .left))
+    (p .put-record .kept .0)
+    (p .put-record .ensures)
 
 same-length-3 : tie.Need-same-length-3 Inv-loop μ-loop
 same-length-3 c = c .before .loop .inv .size

@@ -19,7 +19,12 @@ same-length-2 : tie.Need-same-length-2
 same-length-2 c = search needs
 
 returns-2 : tie.Need-returns-2
-returns-2 c = proposed-after _ (c .before .before .before .before .before .before .before .before .before .before .before .args .out .now) _ _ _ _ (c .before .before .before .before .before .before .before .one-cell .ensures .0) (c .before .before .before .before .before .before .before .one-cell .ensures .1) (c .before .before .before .before .if1 .left) (c .before .before .drafted .ensures)
+returns-2 c =
+    let f = c .before .before .before .before in
+    let o = f .before .before .before in
+    let e = o .before .before .before .before in
+    proposed-after _ (e .args .out .now) _ _ _ _ (o .one-cell .ensures .0) (o .one-cell .ensures .1) (f .if1 .left)
+    (c .before .before .drafted .ensures)
 
 pub propose-spec : {M : Type 1} → statement M
 propose-spec =

@@ -18,7 +18,15 @@ same-length : tie.Need-same-length
 same-length c = search needs
 
 returns : tie.Need-returns
-returns c = (lent-proposed (c .before .before .before .before .before .before .args .list .now) (c .before .before .before .before .before .before .args .out .now) (c .before .before .propose .last .1 .0) _ _ (c .before .before .before .before .before .before .pre) (c .before .before .propose .kept .1 .0) (c .before .before .propose .ensures .0), lent-still _ (c .before .before .before .before .before .before .args .out .now) (c .before .before .propose .last .1 .0) _ _ (c .before .before .before .before .before .before .pre) (c .before .before .propose .kept .1 .0) (c .before .before .propose .ensures .0) (c .before .before .propose .ensures .1))
+returns c =
+    let p = c .before .before in
+    let e = p .before .before .before .before in
+    let out = p .propose .last .1 .0 in
+    let k = p .propose .kept .1 .0 in
+    let q = p .propose .ensures in (
+      lent-proposed (e .args .list .now) (e .args .out .now) out _ _ (e .pre) k (q .0),
+      lent-still _ (e .args .out .now) out _ _ (e .pre) k (q .0) (q .1),
+    )
 
 pub propose-within-spec : {M : Type 1} → statement M
 propose-within-spec =

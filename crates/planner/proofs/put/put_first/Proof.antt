@@ -20,9 +20,11 @@ same-length c = search needs
 
 returns : tie.Need-returns
 returns c =
-    kept-both
-    (kept-both (kept-both (c .before .before .before .before .before .before .before .before .before .before .before .before .before .before .put2 .ensures) (c .before .before .before .before .before .before .before .before .before .before .put-unlock .ensures)) (c .before .before .before .before .before .before .put-still .ensures))
-    (c .before .before .put-head .ensures)
+    let h = c .before .before in
+    let s = h .before .before .before .before in
+    let u = s .before .before .before .before in
+    let first = u .before .before .before .before .put2 .ensures in
+    kept-both (kept-both (kept-both first (u .put-unlock .ensures)) (s .put-still .ensures)) (h .put-head .ensures)
 
 pub put-first-spec : {M : Type 1} → statement M
 put-first-spec =

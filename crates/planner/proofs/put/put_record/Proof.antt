@@ -23,7 +23,11 @@ same-length c = search needs
 
 returns : tie.Need-returns
 returns c =
-    kept-both (kept-both (c .before .before .before .before .before .before .before .before .before .before .put2 .ensures) (c .before .before .before .before .before .before .put-command .ensures)) (c .before .before .put-element .ensures)
+    let b = c .before .before in
+    let p = b .before .before .before .before in
+    kept-both
+    (kept-both (p .before .before .before .before .put2 .ensures) (p .put-command .ensures))
+    (b .put-element .ensures)
 
 pub put-record-spec : {M : Type 1} → statement M
 put-record-spec =

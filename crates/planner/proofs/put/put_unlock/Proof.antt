@@ -28,7 +28,10 @@ same-length : tie.Need-same-length
 same-length c = search needs
 
 returns-3 : tie.Need-returns-3
-returns-3 c = kept-both (kept-both (c .before .before .before .before .before .before .before .before .before .before .put2 .ensures) (c .before .before .before .before .before .before .put22 .ensures)) (c .before .before .put23 .ensures)
+returns-3 c =
+    let b = c .before .before in
+    let p = b .before .before .before .before in
+    kept-both (kept-both (p .before .before .before .before .put2 .ensures) (p .put22 .ensures)) (b .put23 .ensures)
 
 pub put-unlock-spec : {M : Type 1} → statement M
 put-unlock-spec =

@@ -25,7 +25,11 @@ shared-slice-read-if1-2 : tie.Need-shared-slice-read-if1-2 Inv-loop μ-loop
 shared-slice-read-if1-2 c = omega arith
 
 returns : tie.Need-returns Inv-loop μ-loop
-returns c = let e = wrong-here (c .before .before .before .before .before .args .expected .now) (c .before .before .before .before .before .args .found .now) (c .before .before .before .before .loop .i) (search needs) (search needs) (c .if1 .taken) in omega (arith, c .before .before .before .before .loop .inv .1)
+returns c =
+    let l = c .before .before .before .before in
+    let a = l .before .args in
+    let e = wrong-here (a .expected .now) (a .found .now) (l .loop .i) (search needs) (search needs) (c .if1 .taken) in
+    omega (arith, l .loop .inv .1)
 
 add-i : tie.Need-add-i Inv-loop μ-loop
 add-i c = omega arith
@@ -34,10 +38,18 @@ loop-less : tie.Need-loop-less Inv-loop μ-loop
 loop-less c = omega arith
 
 loop-again : tie.Need-loop-again Inv-loop μ-loop
-loop-again c = let e = wrong-past (c .before .before .before .before .before .args .expected .now) (c .before .before .before .before .before .args .found .now) (c .before .before .before .before .loop .i) (search needs) (search needs) (c .if1 .left) in (omega arith, omega (arith, c .before .before .before .before .loop .inv .1))
+loop-again c =
+    let l = c .before .before .before .before in
+    let a = l .before .args in
+    let e = wrong-past (a .expected .now) (a .found .now) (l .loop .i) (search needs) (search needs) (c .if1 .left) in
+    (omega arith, omega (arith, l .loop .inv .1))
 
 returns-2 : tie.Need-returns-2 Inv-loop μ-loop
-returns-2 c = let e = wrong-none (c .before .before .args .expected .now) (c .before .before .args .found .now) (c .before .loop .i) (omega arith) in omega (arith, c .before .loop .inv .1)
+returns-2 c =
+    let l = c .before in
+    let a = l .before .args in
+    let e = wrong-none (a .expected .now) (a .found .now) (l .loop .i) (omega arith) in
+    omega (arith, l .loop .inv .1)
 
 pub first-wrong-spec : {M : Type 1} → statement M
 first-wrong-spec =

@@ -20,7 +20,12 @@ enum-known-frame : tie.Need-enum-known-frame
 enum-known-frame c = search needs
 
 whole-at-requires : tie.Need-whole-at-requires
-whole-at-requires c κs = (pair-within (c .before .before .before .before .before .before .before .before .before .args .rest .now) (c .before .before .before .before .before .before .before .before .before .args .store .now) (c .before .before .before .before .before .before .before .before .before .args .p) (c .before .before .before .before .before .before .before .before .before .args .room .now) _ (c .before .before .before .before .before .frame-at .ensures) _ (c .before .before .before .frame .given .1), c .before .before .before .before .before .before .before .before .before .pre)
+whole-at-requires c κs =
+    let w = c .before .before .before in
+    let f = w .before .before in
+    let e = f .before .before .before .before in
+    let a = e .args in
+    (pair-within (a .rest .now) (a .store .now) (a .p) (a .room .now) _ (f .frame-at .ensures) _ (w .frame .given .1), e .pre)
 
 returns : tie.Need-returns
 returns c = pair-end _ _ _ _ _ (c .before .before .frame-at .ensures) (c .enum-told .given .1)
@@ -38,7 +43,10 @@ same-length-2 : tie.Need-same-length-2
 same-length-2 c = search needs
 
 returns-4 : tie.Need-returns-4
-returns-4 c = c .before .before .before .before .whole-at .ensures ∙ pair-whole _ _ _ _ _ (c .before .before .before .before .before .before .before .before .before .before .frame-at .ensures) _ (c .before .before .before .before .before .before .before .before .frame .given .1)
+returns-4 c =
+    let r = c .before .before .before .before in
+    let w = r .before .before .before .before in
+    r .whole-at .ensures ∙ pair-whole _ _ _ _ _ (w .before .before .frame-at .ensures) _ (w .frame .given .1)
 
 pub pair-at-spec : {M : Type 1} → statement M
 pair-at-spec =

@@ -32,19 +32,39 @@ part-first-wrong-start : tie.Need-part-first-wrong-start
 part-first-wrong-start c = search needs
 
 part-first-wrong-end : tie.Need-part-first-wrong-end
-part-first-wrong-end c = reply-within (c .before .before .before .before .before .before .before .args .expected .now) _ (c .before .before .before .before .before .before .before .args .n) _ (c .before .before .before .before .frame-at .ensures) _ (c .before .before .frame .given .1)
+part-first-wrong-end c =
+    let w = c .before .before in
+    let f = w .before .before in
+    let a = f .before .before .before .args in
+    reply-within (a .expected .now) _ (a .n) _ (f .frame-at .ensures) _ (w .frame .given .1)
 
 first-wrong-requires : tie.Need-first-wrong-requires
 first-wrong-requires c κs = search needs
 
 returns-2 : tie.Need-returns-2
-returns-2 c = reply-wrong _ _ _ _ (c .before .before .before .before .before .before .before .frame-at .ensures) _ (c .before .before .before .before .before .frame .given .1) (c .before .before .before .if1 .left) _ (c .before .first-wrong .ensures) (c .if2 .taken)
+returns-2 c =
+    let i = c .before .before .before in
+    let w = i .before .before in
+    reply-wrong _ _ _ _ (w .before .before .frame-at .ensures) _ (w .frame .given .1) (i .if1 .left) _ (c .before .first-wrong .ensures)
+    (c .if2 .taken)
 
 add-t9 : tie.Need-add-t9
-add-t9 c = let w = reply-within (c .before .before .before .before .before .before .before .before .before .before .args .expected .now) _ (c .before .before .before .before .before .before .before .before .before .before .args .n) _ (c .before .before .before .before .before .before .before .frame-at .ensures) _ (c .before .before .before .before .before .frame .given .1) in omega (arith, c .before .before .before .before .before .before .before .before .before .before .pre)
+add-t9 c =
+    let w = c .before .before .before .before .before in
+    let f = w .before .before in
+    let e = f .before .before .before in
+    let a = e .args in
+    let h = reply-within (a .expected .now) _ (a .n) _ (f .frame-at .ensures) _ (w .frame .given .1) in
+    omega (arith, e .pre)
 
 add-t14 : tie.Need-add-t14
-add-t14 c = let w = reply-within (c .before .before .before .before .before .before .before .before .before .before .args .expected .now) _ (c .before .before .before .before .before .before .before .before .before .before .args .n) _ (c .before .before .before .before .before .before .before .frame-at .ensures) _ (c .before .before .before .before .before .frame .given .1) in omega (arith, c .before .before .before .before .before .before .before .before .before .before .pre)
+add-t14 c =
+    let w = c .before .before .before .before .before in
+    let f = w .before .before in
+    let e = f .before .before .before in
+    let a = e .args in
+    let h = reply-within (a .expected .now) _ (a .n) _ (f .frame-at .ensures) _ (w .frame .given .1) in
+    omega (arith, e .pre)
 
 returns-3 : tie.Need-returns-3
 returns-3 c = reply-end _ _ _ _ (c .before .before .frame-at .ensures) (c .enum-told .given .1)
@@ -56,7 +76,11 @@ returns-5 : tie.Need-returns-5
 returns-5 c = reply-unmarked _ _ _ _ (c .before .before .frame-at .ensures) (c .enum-told3 .given .1)
 
 returns-6 : tie.Need-returns-6
-returns-6 c = reply-good _ _ _ _ (c .before .before .before .before .before .before .before .frame-at .ensures) _ (c .before .before .before .before .before .frame .given .1) (c .before .before .before .if1 .left) _ (c .before .first-wrong .ensures) (c .if2 .left)
+returns-6 c =
+    let i = c .before .before .before in
+    let w = i .before .before in
+    reply-good _ _ _ _ (w .before .before .frame-at .ensures) _ (w .frame .given .1) (i .if1 .left) _ (c .before .first-wrong .ensures)
+    (c .if2 .left)
 
 pub reply-at-spec : {M : Type 1} → statement M
 reply-at-spec =

@@ -31,13 +31,25 @@ same-length-2 : tie.Need-same-length-2
 same-length-2 c = search needs
 
 returns : tie.Need-returns
-returns c = ran-refused _ _ _ _ _ _ _ _ (c .before .before .before .before .before .before .before .run .ensures .0) _ (c .enum-told .given .1)
+returns c = ran-refused _ _ _ _ _ _ _ _ (c .before .before .before .before .before .before .before .run .ensures) _ (c .enum-told .given .1)
 
 slice-reshare-prefix-reply-at : tie.Need-slice-reshare-prefix-reply-at
-slice-reshare-prefix-reply-at c = ran-fits (c .before .before .before .before .before .before .before .before .before .before .before .before .before .before .before .args .rest .now) (c .before .before .before .before .before .before .before .before .before .before .before .before .before .before .before .args .n) (c .before .before .before .before .before .before .before .before .before .before .before .before .before .before .before .args .store .now) (c .before .before .before .before .before .before .before .before .before .before .before .before .before .before .before .args .p) (c .before .before .before .before .before .before .before .before .before .before .before .before .before .before .before .args .room .now) _ _ _ (c .before .before .before .before .before .before .before .before .run .ensures .0) _ (c .before .answer .given .1) (c .before .before .before .before .before .before .before .before .before .before .before .before .before .before .before .pre .1) (c .before .before .before .before .before .before .before .before .run .kept .1 .1 .1 .0)
+slice-reshare-prefix-reply-at c =
+    let r = c .before .before .before .before .before .before .before .before in
+    let e = r .before .before .before .before .before .before .before in
+    let a = e .args in
+    ran-fits (a .rest .now) (a .n) (a .store .now) (a .p) (a .room .now) _ _ _ (r .run .ensures) _ (c .before .answer .given .1)
+    (e .pre .1)
+    (r .run .kept .1 .1 .1 .0)
 
 slice-aggregate-reply-at : tie.Need-slice-aggregate-reply-at
-slice-aggregate-reply-at c = ran-lent (c .before .before .before .before .before .before .before .before .before .before .before .before .before .before .before .before .args .rest .now) (c .before .before .before .before .before .before .before .before .before .before .before .before .before .before .before .before .args .n) (c .before .before .before .before .before .before .before .before .before .before .before .before .before .before .before .before .args .store .now) (c .before .before .before .before .before .before .before .before .before .before .before .before .before .before .before .before .args .p) (c .before .before .before .before .before .before .before .before .before .before .before .before .before .before .before .before .args .room .now) _ _ _ (c .before .before .before .before .before .before .before .before .before .run .ensures .0) _ (c .before .before .answer .given .1) (c .before .before .before .before .before .before .before .before .before .before .before .before .before .before .before .before .pre .1) (c .before .before .before .before .before .before .before .before .before .run .kept .1 .1 .1 .0)
+slice-aggregate-reply-at c =
+    let r = c .before .before .before .before .before .before .before .before .before in
+    let e = r .before .before .before .before .before .before .before in
+    let a = e .args in
+    ran-lent (a .rest .now) (a .n) (a .store .now) (a .p) (a .room .now) _ _ _ (r .run .ensures) _ (c .before .before .answer .given .1)
+    (e .pre .1)
+    (r .run .kept .1 .1 .1 .0)
 
 sub-reply-at : tie.Need-sub-reply-at
 sub-reply-at c = search needs
@@ -58,7 +70,10 @@ same-length-4 : tie.Need-same-length-4
 same-length-4 c = search needs
 
 returns-2 : tie.Need-returns-2
-returns-2 c = ran-accepted _ _ _ _ _ _ _ _ (c .before .before .before .before .before .before .before .before .before .before .before .run .ensures .0) _ (c .before .before .before .before .answer .given .1) _ (c .reply-at .ensures)
+returns-2 c =
+    let n = c .before .before .before .before in
+    let r = n .before .before .before .before .before .before .before in
+    ran-accepted _ _ _ _ _ _ _ _ (r .run .ensures) _ (n .answer .given .1) _ (c .reply-at .ensures)
 
 pub whole-at-spec : {M : Type 1} → statement M
 whole-at-spec =
