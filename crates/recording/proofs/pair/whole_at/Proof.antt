@@ -31,14 +31,14 @@ same-length-2 : tie.Need-same-length-2
 same-length-2 c = search needs
 
 returns : tie.Need-returns
-returns c = ran-refused _ _ _ _ _ _ _ _ (c .before .before .before .before .before .before .before .run .ensures) _ (c .enum-told .given .1)
+returns c = ran-refused _ _ _ _ _ _ _ _ (c .before .before .before .before .before .before .before .run .ensures .0) _ (c .enum-told .given .1)
 
 slice-reshare-prefix-reply-at : tie.Need-slice-reshare-prefix-reply-at
 slice-reshare-prefix-reply-at c =
     let r = c .before .before .before .before .before .before .before .before in
     let e = r .before .before .before .before .before .before .before in
     let a = e .args in
-    ran-fits (a .rest .now) (a .n) (a .store .now) (a .p) (a .room .now) _ _ _ (r .run .ensures) _ (c .before .answer .given .1)
+    ran-fits (a .rest .now) (a .n) (a .store .now) (a .p) (a .room .now) _ _ _ (r .run .ensures .0) _ (c .before .answer .given .1)
     (e .pre .1)
     (r .run .kept .1 .1 .1 .0)
 
@@ -47,7 +47,7 @@ slice-aggregate-reply-at c =
     let r = c .before .before .before .before .before .before .before .before .before in
     let e = r .before .before .before .before .before .before .before in
     let a = e .args in
-    ran-lent (a .rest .now) (a .n) (a .store .now) (a .p) (a .room .now) _ _ _ (r .run .ensures) _ (c .before .before .answer .given .1)
+    ran-lent (a .rest .now) (a .n) (a .store .now) (a .p) (a .room .now) _ _ _ (r .run .ensures .0) _ (c .before .before .answer .given .1)
     (e .pre .1)
     (r .run .kept .1 .1 .1 .0)
 
@@ -73,7 +73,7 @@ returns-2 : tie.Need-returns-2
 returns-2 c =
     let n = c .before .before .before .before in
     let r = n .before .before .before .before .before .before .before in
-    ran-accepted _ _ _ _ _ _ _ _ (r .run .ensures) _ (n .answer .given .1) _ (c .reply-at .ensures)
+    ran-accepted _ _ _ _ _ _ _ _ (r .run .ensures .0) _ (n .answer .given .1) _ (c .reply-at .ensures)
 
 pub whole-at-spec : {M : Type 1} → statement M
 whole-at-spec =
