@@ -13,7 +13,7 @@ use Rattle.lbp16.specs.Answer.{Answer}
 use Rattle.lbp16.specs.declared.word.Fields.{Fields}
 use Rattle.lbp16.specs.declared.pointer.Pointers.{Pointers}
 use Rattle.packet.specs.Step.{Kind, read, write, infoRead, isInfo, isWrite, rowBy, carried, answered}
-use Rattle.lbp16.proofs.SpaceLaws.{area-element-le}
+use Rattle.lbp16.proofs.SpaceLaws.{area-bytes-le, area-element-le}
 use Rattle.packet.proofs.StepLaws.{carried-row, carried-none, answered-row}
 use Rattle.packet.specs.Rules.{pastEnd, barred, anyStep}
 use Rattle.packet.specs.Command.{Progress}
@@ -48,6 +48,10 @@ info-kind f = go (f .write) (f .info)
 pub row-le : (f : Fields) → rowOf f .element ≤ 4
 unfolding rowOf rowBy
 row-le f = area-element-le _ _
+
+pub row-bytes-le : (f : Fields) → rowOf f .bytes ≤ 65536
+unfolding rowOf rowBy
+row-bytes-le f = area-bytes-le _ _
 
 -- an element's bytes stand in a write's command, and in the reply of any other
 pub carried-write : (f : Fields) → f .write ≡ true → carried (kindOf f) (spaceOf (f .space)) ≡ rowOf f .element

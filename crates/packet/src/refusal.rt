@@ -38,13 +38,13 @@ pub(crate) struct Judged {
 }
 
 // The bytes from the address used to the end of the furthest element.
-fn span_by(f: Fields, row: Row) -> usize
+fn span_by(f: Fields, row: Row) -> u32
     requires { ⌜ row ≡ rowOf f ⌝ }
     ensures { λ r. ⌜ (r ≡ cond (f .increment) (f .count * rowOf f .element) (rowOf f .element)) × (r ≤ 1020) ⌝ }
 {
-    let element = row.element as usize;
+    let element = row.element;
     if f.increment {
-        f.count as usize * element
+        f.count as u32 * element
     } else {
         element
     }
@@ -61,13 +61,25 @@ fn misaligned_by(used: u32, element: u32) -> bool
     }
 }
 
+// Whether so many bytes from the address used pass the end of a space. An address that stands past it is told first, so that the sum
+// has 32 bits.
+fn passes_end(used: u32, span: u32, bytes: u32) -> bool
+    requires { ⌜ (span ≤ 1020) × (bytes ≤ 65536) ⌝ }
+    ensures { λ r. ⌜ r ≡ ltb bytes (used + span) ⌝ }
+{
+    if bytes < used {
+        return true;
+    }
+    bytes < used + span
+}
+
 // Refusal 8. Elements rise from the address used, so the last is the furthest.
 fn out_of_place(f: Fields, row: Row, used: u32) -> bool
     requires { ⌜ row ≡ rowOf f ⌝ }
     ensures { λ r. ⌜ ((p : Pointers) (rest : List ℕ) → used ≡ addressUsed p f rest → r ≡ outOfPlace p f rest) ⌝ }
 {
-    let bytes = row.bytes as usize;
-    misaligned_by(used, row.element) | ((f.count != 0) & (bytes < used as usize + span_by(f, row)))
+    misaligned_by(used, row.element)
+        | ((f.count != 0) & passes_end(used, span_by(f, row), row.bytes))
 }
 
 // Refusal 9. The first element is the lowest.

@@ -1,13 +1,10 @@
 use borrow.Author.Needs.{needs}
 use mathlib.Core.Path.{refl}
 use Rattle.packet.specs.Command.{outOfPlace}
-use Rattle.packet.proofs.ElementLaws.{past-quick}
+use Rattle.packet.proofs.ElementLaws.{row-bytes-le, past-quick}
 use Rattle.packet.proofs.ReachLaws.{misaligned-quick}
 use Rattle.packet.proofs.refusal.out_of_place.Statement.{statement}
 use Rattle.packet.proofs.refusal.out_of_place.Tie as tie
-
-cast-bytes : tie.Need-cast-bytes
-cast-bytes c = search needs
 
 misaligned-by-requires : tie.Need-misaligned-by-requires
 misaligned-by-requires c κs = search needs
@@ -15,25 +12,27 @@ misaligned-by-requires c κs = search needs
 span-by-requires : tie.Need-span-by-requires
 span-by-requires c κs = search needs
 
-add-result : tie.Need-add-result
-add-result c = search needs
+passes-end-requires : tie.Need-passes-end-requires
+passes-end-requires c κs =
+    let b = c .before .before .before in
+    (c .span-by .ensures .1, rw (b .pre) (row-bytes-le (b .args .f)))
 
 returns : tie.Need-returns
 unfolding outOfPlace
 returns c p rest e =
+    let b = c .before .before .before .before in
+    let f = b .args .f in
     rw (
-      past-quick p (c .before .before .before .before .args .f) rest,
+      past-quick p f rest,
       ← e,
-      c .span-by .ensures .0,
-      c .before .before .misaligned-by .ensures,
-      misaligned-quick
-          (c .before .before .before .before .args .f) _
-          (c .before .before .before .before .args .used)
-          (c .before .before .before .before .pre),
-      ← c .before .before .before .before .pre,
+      c .passes-end .ensures,
+      c .before .span-by .ensures .0,
+      c .before .before .before .misaligned-by .ensures,
+      misaligned-quick f _ (b .args .used) (b .pre),
+      ← b .pre,
     )
     refl
 
 pub out-of-place-spec : {M : Type 1} → statement M
 out-of-place-spec =
-    tie.close (tie.spec cast-bytes misaligned-by-requires span-by-requires add-result returns)
+    tie.close (tie.spec misaligned-by-requires span-by-requires passes-end-requires returns)
