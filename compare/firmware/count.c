@@ -1,4 +1,5 @@
-/* Counts the instructions of some calls of the library. */
+/* Counts the instructions of some calls of the library: those of the benchmark, beside newlib's memcpy of as many bytes as the
+ * call has to move, and those that take most. */
 #include <string.h>
 
 #include "head.h"
@@ -9,8 +10,13 @@ static uint8_t store[HEAD_STORE_BYTES], reply[HEAD_REPLY_BYTES], packet[HEAD_REP
 static uint8_t show[8 + 2 * HEAD_REPLY_BYTES], fields[HEAD_FIELDS];
 static uint32_t pointers[HEAD_POINTERS], words[128], answer[128];
 static uint64_t value, elements;
-static uint32_t length, refused;
+static uint32_t length, refused, expected, moved;
 static int well;
+
+static void copy(void)
+{
+    memcpy(reply, packet, moved);
+}
 
 static void report(const char *name, void (*call)(void), uint32_t times)
 {
@@ -18,8 +24,13 @@ static void report(const char *name, void (*call)(void), uint32_t times)
     say(name);
     say(" ");
     say_number(instructions);
-    say(refused ? " and refused\n" : "\n");
-    well &= refused == 0;
+    if (moved) {
+        say(", memcpy ");
+        say_number(count(copy, 1000));
+    }
+    say(refused == expected ? "\n" : " and refused\n");
+    well &= refused == expected;
+    moved = 0;
 }
 
 static void run(void)
@@ -47,31 +58,42 @@ static void burst(void)
     refused = head_spi(words, 128, store, sizeof store, answer, 128, &value);
 }
 
-static void copy(void)
-{
-    memcpy(reply, packet, sizeof reply);
-    refused = 0;
-}
-
 static void put(uint32_t half)
 {
     packet[length++] = (uint8_t)half;
     packet[length++] = (uint8_t)(half >> 8);
 }
 
-/* Reads or writes of neighbouring registers, by commands of 127 and one for the rest. */
-static void blocks(uint32_t word, uint32_t left, uint32_t data)
+/* So many commands more, each of n elements with so many bytes of data, `step` bytes from one element to the next command's. */
+static void add(uint32_t word, uint32_t at, uint32_t step, uint32_t n, uint32_t data, uint32_t commands)
 {
-    uint32_t at = 0;
-    length = 0;
-    while (left) {
-        uint32_t n = left < 127 ? left : 127;
+    for (; commands; commands--) {
         put(word | n);
         put(at);
         length += data * n;
-        at += 4 * n;
-        left -= n;
+        at += step * n;
     }
+}
+
+/* 127 elements of registers twice, and the rest. */
+static void blocks(uint32_t word, uint32_t rest, uint32_t data)
+{
+    length = 0;
+    add(word, 0, 4, 127, data, 2);
+    add(word, 1016, 4, rest, data, 1);
+}
+
+/* Commands of one register. */
+static void singles(uint32_t word, uint32_t data, uint32_t commands)
+{
+    length = 0;
+    add(word, 0, 4, 1, data, commands);
+}
+
+static void report_run(const char *name, uint32_t bytes)
+{
+    moved = bytes;
+    report(name, run, 40);
 }
 
 /* A recording of the packet and its reply, which is the same at each run. */
@@ -85,19 +107,68 @@ static void record(void)
     memcpy(show + 8 + sizeof packet, reply, sizeof reply);
 }
 
-static void packets(void)
+static void words_of_4(void)
 {
-    blocks(0x4280, 368, 0);
-    report("reads368", run, 100);
-    blocks(0xC280, 365, 4);
-    report("writes365", run, 100);
-    for (length = 0; length < HEAD_REPLY_BYTES;) {
-        put(0x4281);
-        put(length - 2);
-    }
-    report("small368", run, 10);
-    report("check368", check, 10);
-    report("memcpy1472", copy, 1000);
+    blocks(0x4280, 114, 0);
+    report_run("reads368", 1472);
+    blocks(0xC280, 111, 4);
+    report_run("writes365", 1460);
+    blocks(0x4200, 114, 0);
+    report_run("reads368still", 1472);
+    blocks(0xC200, 111, 4);
+    report_run("writes365still", 1460);
+}
+
+static void words_of_2(void)
+{
+    length = 0;
+    add(0x4980, 0, 0, 64, 0, 11);
+    add(0x4980, 0, 0, 32, 0, 1);
+    report_run("reads736of2", 1472);
+    length = 0;
+    add(0xD900, 0x1A, 0, 1, 0, 1);
+    put(0x5A02);
+    add(0xC980, 0x20, 0, 48, 2, 14);
+    add(0xC980, 0x20, 0, 31, 2, 1);
+    report_run("writes703of2", 1406);
+    length = 0;
+    add(0x5900, 0, 0, 127, 0, 5);
+    add(0x5900, 0, 0, 101, 0, 1);
+    report_run("reads736of2still", 1472);
+    length = 0;
+    add(0xD900, 0, 0, 127, 2, 5);
+    add(0xD900, 0, 0, 89, 2, 1);
+    report_run("writes724of2still", 1448);
+    length = 0;
+    add(0x6180, 0, 0, 8, 0, 92);
+    report_run("info92", 1472);
+}
+
+static void small(void)
+{
+    singles(0x4280, 0, 1);
+    report_run("small1", 4);
+    singles(0x4280, 0, 10);
+    report_run("small10", 40);
+    singles(0x4280, 0, 100);
+    report_run("small100", 400);
+    singles(0x4280, 0, 368);
+    report_run("small368", 1472);
+    report("check368", check, 40);
+    singles(0xC280, 4, 184);
+    report_run("small184", 736);
+}
+
+static void refusals(void)
+{
+    blocks(0x4280, 115, 0);
+    expected = 12;
+    report_run("refused3", 12);
+    singles(0xC280, 4, 184);
+    length--;
+    expected = 11;
+    report_run("refused184", 1471);
+    expected = 0;
 }
 
 /* The packet that takes most: info reads of one element without an address. */
@@ -112,16 +183,19 @@ static void longest(void)
     report("judgeinfo736", judge, 10);
 }
 
+static void report_burst(const char *name, uint32_t header)
+{
+    words[0] = 0x10000000 | header << 8 | 0xF0;
+    moved = 508;
+    report(name, burst, 100);
+}
+
 static void bursts(void)
 {
-    words[0] = 0xA << 12 | 1 << 11 | 127 << 4;
-    report("burstread", burst, 100);
-    words[0] = 0xB << 12 | 1 << 11 | 127 << 4;
-    report("burstwrite", burst, 100);
-    words[0] = 0xA << 12 | 127 << 4;
-    report("burstreadstill", burst, 100);
-    words[0] = 0xB << 12 | 127 << 4;
-    report("burstwritestill", burst, 100);
+    report_burst("burstread", 0xAF);
+    report_burst("burstwrite", 0xBF);
+    report_burst("burstreadstill", 0xA7);
+    report_burst("burstwritestill", 0xB7);
 }
 
 int program(const uint8_t *file)
@@ -129,8 +203,11 @@ int program(const uint8_t *file)
     (void)file;
     well = 1;
     start_ticks();
-    packets();
-    longest();
+    words_of_4();
+    words_of_2();
+    small();
+    refusals();
     bursts();
+    longest();
     return well;
 }
