@@ -52,6 +52,19 @@ static uint32_t word(struct call *c)
     return number;
 }
 
+static uint32_t header(struct call *c)
+{
+    return head_header(PLAIN_(0, uint32_t), LENT_(0));
+}
+
+static uint32_t header_word(struct call *c)
+{
+    uint32_t word = (uint32_t)c->answer[0];
+    uint32_t number = head_header_word(LENT_(0), &word);
+    c->answer[0] = word;
+    return number;
+}
+
 static uint32_t compile(struct call *c)
 {
     return head_compile(LENT_(0), LENT_(1), &c->answer[0], &c->answer[1]);
@@ -140,7 +153,8 @@ static const struct {
     uint32_t (*call)(struct call *);
 } exports[] = {
     {"head_check", check}, {"head_run", run}, {"head_why", why}, {"head_spi", spi}, {"head_fields", fields},
-    {"head_word", word}, {"head_compile", compile}, {"head_tighten", tighten}, {"head_tight_check", tight_check},
+    {"head_word", word}, {"head_header", header}, {"head_header_word", header_word}, {"head_compile", compile},
+    {"head_tighten", tighten}, {"head_tight_check", tight_check},
     {"head_salvage", salvage}, {"head_table", table}, {"head_field", field}, {"head_pack", pack},
     {"head_unpack", unpack}, {"head_panel_start", panel_start}, {"head_panel_report", panel_report},
     {"head_panel_reading", panel_reading}, {"head_part", part}, {"head_independent", independent}, {"head_judge", judge},

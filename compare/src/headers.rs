@@ -8,7 +8,7 @@ use head::header::exports;
 use model::spi::Header;
 
 /// The four numbers that hold a header's fields at the library's boundary.
-const FIELDS: usize = 4;
+pub const FIELDS: usize = 4;
 
 /// Values at the ends of each field's range, past them, and such whose lower bits alone are in it.
 const ADDRESSES: [u32; 9] = [
@@ -106,7 +106,7 @@ pub fn compare(seed: u64, count: u64) -> Outcome {
         }
     }
     for _ in 0..count {
-        let fields = part.any_fields();
+        let fields = any_fields(&mut part.rng);
         part.put_together(&fields)?;
     }
     Ok(vec![part.taken, part.put])
@@ -156,32 +156,6 @@ impl Part {
         Ok(())
     }
 
-    /// Fields that are in range, at an end of it, or anywhere.
-    fn any_fields(&mut self) -> [u32; FIELDS] {
-        let rng = &mut self.rng;
-        let good = [
-            rng.word() & 0xFFFF,
-            rng.pick(&[0xA, 0xB]),
-            rng.below(2) as u32,
-            rng.between(1, 127) as u32,
-        ];
-        let ends = [
-            rng.pick(&ADDRESSES),
-            rng.pick(&COMMANDS),
-            rng.pick(&INCREMENTS),
-            rng.pick(&COUNTS),
-        ];
-        let mut fields = good;
-        for (field, end) in fields.iter_mut().zip(ends) {
-            match rng.below(12) {
-                0 => *field = end,
-                1 => *field = rng.word(),
-                _ => {}
-            }
-        }
-        fields
-    }
-
     fn count(&mut self, fields: &[u32], number: u32) {
         self.put.ending(number);
         let &[_, command, _, count] = fields else {
@@ -201,6 +175,31 @@ impl Part {
     }
 }
 
+/// Fields that are in range, at an end of it, or anywhere.
+pub fn any_fields(rng: &mut Rng) -> [u32; FIELDS] {
+    let good = [
+        rng.word() & 0xFFFF,
+        rng.pick(&[0xA, 0xB]),
+        rng.below(2) as u32,
+        rng.between(1, 127) as u32,
+    ];
+    let ends = [
+        rng.pick(&ADDRESSES),
+        rng.pick(&COMMANDS),
+        rng.pick(&INCREMENTS),
+        rng.pick(&COUNTS),
+    ];
+    let mut fields = good;
+    for (field, end) in fields.iter_mut().zip(ends) {
+        match rng.below(12) {
+            0 => *field = end,
+            1 => *field = rng.word(),
+            _ => {}
+        }
+    }
+    fields
+}
+
 fn same(answer: u32, expected: u32) -> Result<(), String> {
     if answer == expected {
         return Ok(());
@@ -209,7 +208,7 @@ fn same(answer: u32, expected: u32) -> Result<(), String> {
 }
 
 /// What the export must do, by the independent implementation.
-fn header(word: u32, room: &mut [u32]) -> u32 {
+pub fn header(word: u32, room: &mut [u32]) -> u32 {
     if room.len() != FIELDS {
         return 13;
     }
@@ -218,7 +217,7 @@ fn header(word: u32, room: &mut [u32]) -> u32 {
 }
 
 /// What the export must do, by the independent implementation.
-fn header_word(fields: &[u32], word: &mut u32) -> u32 {
+pub fn header_word(fields: &[u32], word: &mut u32) -> u32 {
     match from_numbers(fields).and_then(|header| header.to_word().map_err(|r| r.number)) {
         Ok(put) => {
             *word = put;

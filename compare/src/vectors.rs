@@ -28,13 +28,15 @@ pub const EMPTY: u8 = 0xC3;
 pub const UNWRITTEN: u64 = 0xA5A5_A5A5_A5A5_A5A5;
 
 /// The exports, each with all numbers that it can return.
-pub const EXPORTS: [(&str, &[u32]); 20] = [
+pub const EXPORTS: [(&str, &[u32]); 22] = [
     ("head_check", &[0, 1, 2, 3, 4, 5, 6, 7, 8, 9, 10, 11, 12]),
     ("head_run", &[0, 1, 2, 3, 4, 5, 6, 7, 8, 9, 10, 11, 12]),
     ("head_why", &[0, 1, 2, 3, 4, 5, 6, 7, 8, 9, 10, 11, 12, 13]),
     ("head_spi", &[0, 1, 31, 32, 33, 34, 35]),
     ("head_fields", &[0, 13]),
     ("head_word", &[0, 13]),
+    ("head_header", &[0, 13]),
+    ("head_header_word", &[0, 13, 32, 33]),
     ("head_compile", &[0, 21, 22, 23, 24, 26]),
     ("head_tighten", &[0, 21, 22, 23, 24, 26]),
     ("head_tight_check", &[0, 21, 22, 23, 24, 50]),

@@ -1,9 +1,9 @@
-//! Command words, daughter cards and the panel.
+//! Command words, burst headers, daughter cards and the panel.
 
 use super::{File, Lent, Room, UNWRITTEN};
 use crate::sserial::{fill_registers, Call};
 use crate::words::{self, FIELDS};
-use crate::{cards, numbers, panel};
+use crate::{cards, headers, numbers, panel};
 use model::panel::{reading, report, start, Bounds};
 use model::sserial::{field, pack, unpack, Field, Table, Way};
 use model::Refusal;
@@ -11,6 +11,7 @@ use model::Refusal;
 pub fn some(file: &mut File, count: usize) {
     for _ in 0..count {
         command_word(file);
+        burst_header(file);
         masks(file);
         value(file);
     }
@@ -50,6 +51,31 @@ fn command_word(file: &mut File) {
     let number = words::word(bytes, &mut word);
     let lent = vec![Lent::kept(Room::Input, bytes)];
     file.call("head_word", number, &[], &[word.into()], lent);
+}
+
+fn burst_header(file: &mut File) {
+    let word = file.rng.word();
+    let room = if file.rng.one_in(8) {
+        3
+    } else {
+        headers::FIELDS
+    };
+    let before = vec![UNWRITTEN as u32; room];
+    let mut after = before.clone();
+    let number = headers::header(word, &mut after);
+    let lent = vec![Lent::words(Room::Answer, &before, &after)];
+    file.call("head_header", number, &[word.into()], &[], lent);
+
+    let fields = headers::any_fields(&mut file.rng);
+    let fields = &fields[..if file.rng.one_in(8) {
+        3
+    } else {
+        headers::FIELDS
+    }];
+    let mut word = UNWRITTEN as u32;
+    let number = headers::header_word(fields, &mut word);
+    let lent = vec![Lent::words(Room::Words, fields, fields)];
+    file.call("head_header_word", number, &[], &[word.into()], lent);
 }
 
 fn masks(file: &mut File) {
