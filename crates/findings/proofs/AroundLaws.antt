@@ -7,7 +7,7 @@ use native.Mathlib.Nat.{zero-add}
 use native.Mathlib.Decide.{decLe}
 use lib.ListN.{length, take, drop, length-append, length-take, length-drop, drop-of-length-le}
 use lib.Seq.{take-all, length-take-le, take-nil, drop-nil}
-use Rattle.text.specs.Number.{ascii, hexBytes}
+use Rattle.text.specs.Number.{ascii}
 use Rattle.text.proofs.HexLaws.{bytes-length}
 use Rattle.findings.specs.Findings.{hexLine, around}
 

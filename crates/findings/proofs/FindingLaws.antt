@@ -16,7 +16,7 @@ use Rattle.recording.specs.Recording.{left, judgedIn}
 use Rattle.cue.specs.declared.frame.Frame.{Frame}
 use Rattle.recording.specs.declared.Judged.{Judged}
 use Rattle.cue.proofs.FrameLaws.{front-within}
-use Rattle.text.specs.Number.{ascii, decimal}
+use Rattle.text.specs.Number.{ascii}
 use Rattle.text.specs.Room.{filled, putAt, textLeft}
 use Rattle.text.specs.Line.{numbered, tooLongLine}
 use Rattle.text.proofs.DecimalLaws.{decimal-length}

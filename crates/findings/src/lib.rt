@@ -108,7 +108,8 @@ fn put_judged(
     store: &mut [u8; 65728],
     reply: &mut [u8; 1472],
 ) -> usize
-    ensures { λ r. ⌜ filled r (now (room .exit)) ≡ putAt (judgedText (now (recording .entry)) (now (store .entry)) (now (reply .entry))) 0 (now (room .entry)) ⌝ }
+    ensures { λ r. ⌜ filled r (now (room .exit))
+        ≡ putAt (judgedText (now (recording .entry)) (now (store .entry)) (now (reply .entry))) 0 (now (room .entry)) ⌝ }
     ensures { λ r. ⌜ length (judgedText (now (recording .entry)) (now (store .entry)) (now (reply .entry))) ≤ 256 ⌝ }
 {
     let judged = recording::judge_in(recording, store, Pointers::fresh(), reply);

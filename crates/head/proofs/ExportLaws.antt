@@ -25,7 +25,9 @@ use Rattle.card.proofs.SpiLaws.{burst-refused-in-table}
 use Rattle.cue.specs.Compile.{compiled, compileListed, left}
 use Rattle.cue.specs.declared.CompileAnswer.{CompileAnswer}
 use Rattle.cue.proofs.CompileLaws.{RefusedList, refused-numbers}
-use Rattle.head.specs.Exports.{fieldsLeft, numberOf, valueOf, countOf, spiLeft, exportSpi, compileLeft, exportCompile, given, exportCheck, runLeft, exportRun, elementsGiven, fieldBytes, fieldsFrom, exportFields, badFlags, exportWord}
+use Rattle.head.specs.Exports.{fieldsLeft, numberOf, valueOf, countOf, spiLeft, exportSpi, compileLeft}
+use Rattle.head.specs.Exports.{exportCompile, given, exportCheck, runLeft, exportRun, elementsGiven, fieldBytes}
+use Rattle.head.specs.Exports.{fieldsFrom, exportFields, badFlags, exportWord}
 
 -- stores to every place of a list leave the values stored
 pub stored-whole : (vs l : List ℕ) → length l ≡ length vs → sets l 0 vs ≡ vs

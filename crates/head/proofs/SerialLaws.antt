@@ -1,7 +1,6 @@
 -- Laws of what the exports of daughter card fields return and leave.
-use Prim.Native.Nat.{ℕ, _%_, _^_, _≤_, _<_}
-use mathlib.Core.Path.{_≡_, refl, sym, ap, _∙_}
-use mathlib.Core.Bool.{cond}
+use Prim.Native.Nat.{ℕ, _≤_, _<_}
+use mathlib.Core.Path.{_≡_, refl}
 use mathlib.Core.List.{List, [], _∷_}
 use native.Mathlib.Omega.{arith}
 use lib.ListN.{length}
@@ -9,7 +8,7 @@ use borrow.Author.Tests.{eq-eqb, ne-eqb, lt-ltb, le-ltb}
 use Rattle.lbp16.specs.Answer.{Answer, accepted, refused}
 use Rattle.sserial.specs.Table.{Checked, laid}
 use Rattle.sserial.specs.Table as table
-use Rattle.sserial.specs.Calls.{Outcome, counted, indexed, packedTo, unpackedTo}
+use Rattle.sserial.specs.Calls.{counted, indexed, packedTo, unpackedTo}
 use Rattle.sserial.specs.declared.table.Direction.{Direction}
 use Rattle.head.specs.Exports.{numberOf, valueOf, countOf}
 use Rattle.head.specs.Serial.{tableLeft, exportTable, orRefused, callLeft, shownIn, exportField, exported, directionOf, exportPack, exportUnpack}

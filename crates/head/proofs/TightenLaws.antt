@@ -10,9 +10,9 @@ use Rattle.cue.specs.declared.CompileAnswer.{CompileAnswer}
 use Rattle.cue.proofs.CompileLaws.{refused-numbers, refusal-changes-nothing}
 use Rattle.tight.specs.Demand3.{TightDemand3}
 use Rattle.tight.proofs.Demand3Laws.{tight-demand3}
-use Rattle.planner.specs.Planner.{Tighter, TightenedBy, Tightened, EightBytes}
+use Rattle.planner.specs.Planner.{TightenedBy, Tightened, EightBytes}
 use Rattle.head.specs.Exports.{numberOf, valueOf, countOf, CompileExport, compileLeft, exportCompile}
-use Rattle.head.specs.Tighter.{TighterExport, TightenExport, EightExport}
+use Rattle.head.specs.Tighter.{TightenExport, EightExport}
 use Rattle.head.proofs.ExportLaws.{never-zero}
 
 -- what a compilation answers and leaves, as C sees it

@@ -20,7 +20,8 @@ ghost use Prim.Native.Nat.{_≤_};
 ghost use Rattle.card.specs.Run.{mostElements};
 ghost use Rattle.card.specs.Spi.{mostInBurst};
 ghost use Rattle.cue.specs.Demand3.{Demand3};
-ghost use Rattle.head.specs.Exports.{given, exportCheck, runLeft, exportRun, elementsGiven, spiLeft, exportSpi, compileLeft, exportCompile, fieldsLeft, exportFields, exportWord, wordGiven};
+ghost use Rattle.head.specs.Exports.{given, exportCheck, runLeft, exportRun, elementsGiven, spiLeft, exportSpi};
+ghost use Rattle.head.specs.Exports.{compileLeft, exportCompile, fieldsLeft, exportFields, exportWord, wordGiven};
 
 // Checks one packet: what a run of it would answer on this store and these pointers, with a reply room of 1,472 bytes.
 // `value` is the reply length, or the refusal's place.
@@ -43,7 +44,8 @@ pub extern "C" fn head_run(
     value: &mut u64,
     elements: &mut u64,
 ) -> u32
-    ensures ran { λ r. ⌜ runLeft r (now (value .exit)) (now (elements .exit)) (now (store .exit)) (now (pointers .exit)) (now (reply .exit)) ≡ exportRun (now (packet .entry)) (now (store .entry)) (now (pointers .entry)) (now (reply .entry)) ⌝ }
+    ensures ran { λ r. ⌜ runLeft r (now (value .exit)) (now (elements .exit)) (now (store .exit)) (now (pointers .exit)) (now (reply .exit))
+        ≡ exportRun (now (packet .entry)) (now (store .entry)) (now (pointers .entry)) (now (reply .entry)) ⌝ }
     ensures summed { λ r. ⌜ now (elements .exit) ≡ elementsGiven r (now (packet .entry)) ⌝ }
     ensures bounded { λ r. ⌜ now (elements .exit) ≤ mostElements ⌝ }
 {
@@ -62,7 +64,8 @@ pub extern "C" fn head_spi(
     answer: &mut [u32],
     value: &mut u64,
 ) -> u32
-    ensures left { λ r. ⌜ spiLeft r (now (value .exit)) (now (store .exit)) (now (answer .exit)) ≡ exportSpi (now (words .entry)) (now (store .entry)) (now (answer .entry)) ⌝ }
+    ensures left { λ r. ⌜ spiLeft r (now (value .exit)) (now (store .exit)) (now (answer .exit))
+        ≡ exportSpi (now (words .entry)) (now (store .entry)) (now (answer .entry)) ⌝ }
     ensures bounded { λ r. ⌜ now (value .exit) ≤ mostInBurst ⌝ }
 {
     let done = spi::burst(words, store, answer);
@@ -111,7 +114,8 @@ pub extern "C" fn head_compile(
     bytes: &mut u64,
     packets: &mut u64,
 ) -> u32
-    ensures compiled { λ r. ⌜ compileLeft r (now (bytes .exit)) (now (packets .exit)) (now (out .exit)) ≡ exportCompile (now (list .entry)) (now (out .entry)) ⌝ }
+    ensures compiled { λ r. ⌜ compileLeft r (now (bytes .exit)) (now (packets .exit)) (now (out .exit))
+        ≡ exportCompile (now (list .entry)) (now (out .entry)) ⌝ }
     ensures demand3 { λ r. ⌜ (r ≡ 0 → Demand3 (now (list .entry)) (now (out .exit)) (now (bytes .exit)) (now (packets .exit))) ⌝ }
 {
     let answer = cue::compile(list, out);

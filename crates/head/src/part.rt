@@ -35,7 +35,8 @@ pub extern "C" fn head_part(
     taken: &mut u64,
     value: &mut u64,
 ) -> u32
-    ensures compiled { λ r. ⌜ partLeft r (now (taken .exit)) (now (value .exit)) (now (state .exit)) (now (out .exit)) ≡ exportPart (now (state .entry)) (now (part .entry)) last (now (out .entry)) ⌝ }
+    ensures compiled { λ r. ⌜ partLeft r (now (taken .exit)) (now (value .exit)) (now (state .exit)) (now (out .exit))
+        ≡ exportPart (now (state .entry)) (now (part .entry)) last (now (out .entry)) ⌝ }
     ensures promise { λ r. ⌜ Promised (now (state .exit)) ⌝ }
 {
     let done = parts::compile_part(state, part, last != 0, out);

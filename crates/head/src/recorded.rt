@@ -61,7 +61,8 @@ pub extern "C" fn head_judge(
     index: &mut u64,
     place: &mut u64,
 ) -> u32
-    ensures { λ r. ⌜ judgeLeft r (now (index .exit)) (now (place .exit)) (now (store .exit)) (now (pointers .exit)) ≡ exportJudge (now (show .entry)) (now (store .entry)) (now (pointers .entry)) ⌝ }
+    ensures { λ r. ⌜ judgeLeft r (now (index .exit)) (now (place .exit)) (now (store .exit)) (now (pointers .exit))
+        ≡ exportJudge (now (show .entry)) (now (store .entry)) (now (pointers .entry)) ⌝ }
 {
     if pointers.len() != 8 {
         *index = 0;

@@ -44,7 +44,8 @@ pub extern "C" fn head_salvage(
     bytes: &mut u64,
     entries: &mut u64,
 ) -> u32
-    ensures { λ r. ⌜ salvageLeft r (now (bytes .exit)) (now (entries .exit)) (now (out .exit)) (now (log .exit)) ≡ exportSalvage (now (list .entry)) (now (out .entry)) (now (log .entry)) ⌝ }
+    ensures { λ r. ⌜ salvageLeft r (now (bytes .exit)) (now (entries .exit)) (now (out .exit)) (now (log .exit))
+        ≡ exportSalvage (now (list .entry)) (now (out .entry)) (now (log .entry)) ⌝ }
 {
     let answer = salvage::salvage(list, out, log);
     *bytes = kept(answer);

@@ -136,7 +136,8 @@ pub extern "C" fn head_pack(
     values: &[u64],
     registers: &mut [u32],
 ) -> u32
-    ensures { λ r. ⌜ callLeft r (now (registers .exit)) ≡ exportPack (checkedAt (now (memory .entry)) table) direction channel (now (values .entry)) (now (registers .entry)) ⌝ }
+    ensures { λ r. ⌜ callLeft r (now (registers .exit))
+        ≡ exportPack (checkedAt (now (memory .entry)) table) direction channel (now (values .entry)) (now (registers .entry)) ⌝ }
 {
     if 1 < direction {
         return table_or_40(memory, table);
@@ -155,7 +156,8 @@ pub extern "C" fn head_unpack(
     registers: &[u32],
     values: &mut [u64],
 ) -> u32
-    ensures { λ r. ⌜ callLeft r (now (values .exit)) ≡ exportUnpack (checkedAt (now (memory .entry)) table) direction channel (now (registers .entry)) (now (values .entry)) ⌝ }
+    ensures { λ r. ⌜ callLeft r (now (values .exit))
+        ≡ exportUnpack (checkedAt (now (memory .entry)) table) direction channel (now (registers .entry)) (now (values .entry)) ⌝ }
 {
     if 1 < direction {
         return table_or_40(memory, table);

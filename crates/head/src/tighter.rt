@@ -47,7 +47,8 @@ pub extern "C" fn head_tighten(
     bytes: &mut u64,
     packets: &mut u64,
 ) -> u32
-    ensures tightened { λ r. ⌜ TightenExport (now (list .entry)) (now (out .entry)) (compileLeft r (now (bytes .exit)) (now (packets .exit)) (now (out .exit))) ⌝ }
+    ensures tightened { λ r. ⌜ TightenExport (now (list .entry)) (now (out .entry))
+        (compileLeft r (now (bytes .exit)) (now (packets .exit)) (now (out .exit))) ⌝ }
     ensures eight { λ r. ⌜ EightExport (now (list .entry)) (now (out .entry)) (compileLeft r (now (bytes .exit)) (now (packets .exit)) (now (out .exit))) ⌝ }
     ensures demand3 { λ r. ⌜ (r ≡ 0 → TightDemand3 (now (list .entry)) (take (now (bytes .exit)) (now (out .exit))) (now (packets .exit))) ⌝ }
 {

@@ -25,7 +25,8 @@ pub extern "C" fn head_why(
     index: &mut u64,
     fields: &mut [u8],
 ) -> u32
-    ensures why { λ r. ⌜ whyLeft r (now (place .exit)) (now (index .exit)) (now (fields .exit)) ≡ exportWhy (now (packet .entry)) (now (store .entry)) (now (pointers .entry)) (now (fields .entry)) ⌝ }
+    ensures why { λ r. ⌜ whyLeft r (now (place .exit)) (now (index .exit)) (now (fields .exit))
+        ≡ exportWhy (now (packet .entry)) (now (store .entry)) (now (pointers .entry)) (now (fields .entry)) ⌝ }
     ensures front { λ r. ⌜ WhyFront (now (packet .entry)) (now (store .entry)) (now (pointers .entry)) r (now (place .exit)) ⌝ }
 {
     *place = 0;

@@ -10,10 +10,7 @@ use Rattle.lbp16.specs.Word
 use Rattle.packet.specs.Bytes
 use Rattle.packet.specs.Step
 use Rattle.packet.specs.Rules
-use Rattle.packet.specs.Command
 use Rattle.cue.specs.Records
-use Rattle.cue.specs.Packing
-use Rattle.cue.specs.Output
 use Rattle.cue.specs.Summary
 use Rattle.parts.specs.Taking
 use Rattle.parts.specs.State

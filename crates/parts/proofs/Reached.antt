@@ -8,7 +8,6 @@ use lib.Dec.{eqb, ltb}
 use lib.ListN.{length, drop, length-append, drop-of-length-le}
 use lib.Seq.{append-snoc, drop-at}
 use borrow.Author.Tests.{eqb-true, ltb-true, ltb-false}
-use Rattle.lbp16.specs.Answer as answer
 use Rattle.lbp16.proofs.BoolLaws.{and-true}
 use Rattle.packet.specs.Step.{Step}
 use Rattle.packet.specs.Rules.{first}

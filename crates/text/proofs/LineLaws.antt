@@ -3,7 +3,7 @@ use Prim.Native.Nat.{ℕ, suc, _+_, _^_, _≤_, _<_}
 use mathlib.Core.List.{List}
 use native.Mathlib.Omega.{arith}
 use lib.ListN.{length, length-append}
-use Rattle.text.specs.Number.{ascii, decimal}
+use Rattle.text.specs.Number.{ascii}
 use Rattle.text.specs.Line.{numbered, pairLine, refusedLine}
 use Rattle.text.proofs.DecimalLaws.{decimal-length}
 

@@ -53,7 +53,8 @@ fn answer(packet: &[u8], store: &[u8], p: Pointers, room: &mut [u8]) -> usize
 
 // What is written, from what the program is given: `file` is what the file of pointers has.
 fn written(given: Given, file: &[u8], packet: &[u8], store: &[u8], room: &mut [u8]) -> usize
-    ensures { λ k. ⌜ filled k (now (room .exit)) ≡ putAt (wholeText given (now (file .entry)) (now (packet .entry)) (now (store .entry))) 0 (now (room .entry)) ⌝ }
+    ensures { λ k. ⌜ filled k (now (room .exit))
+        ≡ putAt (wholeText given (now (file .entry)) (now (packet .entry)) (now (store .entry))) 0 (now (room .entry)) ⌝ }
 {
     match given {
         Given::Nothing => answer(packet, store, Pointers::fresh(), room),
@@ -76,7 +77,8 @@ pub fn whole(
     store: &[u8],
     room: &mut [u8; 16384],
 ) -> usize
-    ensures { λ k. ⌜ filled k (now (room .exit)) ≡ textLeft (wholeText given (now (file .entry)) (now (packet .entry)) (now (store .entry))) (now (room .entry)) ⌝ }
+    ensures { λ k. ⌜ filled k (now (room .exit))
+        ≡ textLeft (wholeText given (now (file .entry)) (now (packet .entry)) (now (store .entry))) (now (room .entry)) ⌝ }
 {
     written(given, file, packet, store, room)
 }

@@ -10,10 +10,14 @@ enum-known-answer : tie.Need-enum-known-answer
 enum-known-answer c = search needs
 
 slice-reshare-prefix-write-all : tie.Need-slice-reshare-prefix-write-all
-slice-reshare-prefix-write-all c = answer-written _ _ _ _ _ _ _ _ (c .before .before .before .before .before .before .before .compile-part .ensures .0) _ (c .before .answer .given .1)
+slice-reshare-prefix-write-all c =
+    let at-compile-part = c .before .before .before .before .before .before .before in
+    answer-written _ _ _ _ _ _ _ _ (at-compile-part .compile-part .ensures .0) _ (c .before .answer .given .1)
 
 slice-aggregate-write-all : tie.Need-slice-aggregate-write-all
-slice-aggregate-write-all c = answer-front _ _ _ _ _ _ _ _ (c .before .before .before .before .before .before .before .before .compile-part .ensures .0) _ (c .before .before .answer .given .1)
+slice-aggregate-write-all c =
+    let at-compile-part = c .before .before .before .before .before .before .before .before in
+    answer-front _ _ _ _ _ _ _ _ (at-compile-part .compile-part .ensures .0) _ (c .before .before .answer .given .1)
 
 write-all-requires : tie.Need-write-all-requires
 write-all-requires c κs = search needs

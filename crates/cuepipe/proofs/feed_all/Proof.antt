@@ -2,7 +2,6 @@ use Prim.Native.Nat.{_-_, _≤_}
 use mathlib.Core.Path.{_≡_}
 use lib.ListN.{length}
 use borrow.Author.Needs.{needs}
-use native.Mathlib.Omega.{arith}
 use Rattle.cuepipe.proofs.feed_all.Statement.{statement}
 use Rattle.cuepipe.proofs.feed_all.Tie as tie
 

@@ -20,7 +20,23 @@ same-length : tie.Need-same-length
 same-length c = search needs
 
 returns : tie.Need-returns
-returns c = let s = c .before .before .before .before .before .compile .ensures in (compile-left _ _ _ _ _ _ _ (s .0) (c .before .before .compile-bytes .ensures) (c .before .compile-packets .ensures) (c .compile-number .ensures), compile-accepted _ _ _ _ _ _ _ (s .0) (Demand3 _ _) (s .1) (c .before .before .compile-bytes .ensures) (c .before .compile-packets .ensures) (c .compile-number .ensures))
+returns c =
+    let at-compile-bytes = c .before .before in
+    let at-compile = at-compile-bytes .before .before .before in
+    let s = at-compile .compile .ensures in (
+      compile-left _ _ _ _ _ _ _
+          (s .0)
+          (at-compile-bytes .compile-bytes .ensures)
+          (c .before .compile-packets .ensures)
+          (c .compile-number .ensures),
+      compile-accepted _ _ _ _ _ _ _
+          (s .0)
+          (Demand3 _ _)
+          (s .1)
+          (at-compile-bytes .compile-bytes .ensures)
+          (c .before .compile-packets .ensures)
+          (c .compile-number .ensures),
+    )
 
 pub head-compile-spec : {M : Type 1} → statement M
 head-compile-spec =

@@ -17,7 +17,10 @@ same-length : tie.Need-same-length
 same-length c = search needs
 
 returns-2 : tie.Need-returns-2
-returns-2 c = rw (seven _ _ (c .before .before .before .before .before .if1 .left), c .before .before .put-fields .ensures, c .before .before .before .before .fields-of .ensures) refl
+returns-2 c =
+    let at-fields-of = c .before .before .before .before in
+    let at-if1 = at-fields-of .before in
+    rw (seven _ _ (at-if1 .if1 .left), c .before .before .put-fields .ensures, at-fields-of .fields-of .ensures) refl
 
 pub head-fields-spec : {M : Type 1} → statement M
 head-fields-spec =

@@ -31,11 +31,41 @@ enum-known-written-2 c = search needs
 
 returns-3 : tie.Need-returns-3
 unfolding wordGiven numberOf wordLeft listed
-returns-3 c = let s = c .before .before .before in let t = s .before .before in rw (answered _ _ (s .word-of .result) (t .before .before .if1 .left) (sym (t .before .bad-flags .ensures) ∙ t .if2 .left) (s .before .fields-from .ensures) (s .word-of .ensures), c .before .written .given .1) refl
+returns-3 c =
+    let at-word-of = c .before .before .before in
+    let at-fields-from = at-word-of .before in
+    let at-if2 = at-fields-from .before in
+    let at-bad-flags = at-if2 .before in
+    let at-if1 = at-bad-flags .before in
+    rw (
+      answered _ _
+          (at-word-of .word-of .result)
+          (at-if1 .if1 .left)
+          (sym (at-bad-flags .bad-flags .ensures) ∙ at-if2 .if2 .left)
+          (at-fields-from .fields-from .ensures)
+          (at-word-of .word-of .ensures),
+      c .before .written .given .1,
+    )
+    refl
 
 returns-4 : tie.Need-returns-4
 unfolding wordGiven numberOf wordLeft listed
-returns-4 c = let s = c .before .before .before in let t = s .before .before in rw (answered _ _ (s .word-of .result) (t .before .before .if1 .left) (sym (t .before .bad-flags .ensures) ∙ t .if2 .left) (s .before .fields-from .ensures) (s .word-of .ensures), c .before .written2 .given .1) refl
+returns-4 c =
+    let at-word-of = c .before .before .before in
+    let at-fields-from = at-word-of .before in
+    let at-if2 = at-fields-from .before in
+    let at-bad-flags = at-if2 .before in
+    let at-if1 = at-bad-flags .before in
+    rw (
+      answered _ _
+          (at-word-of .word-of .result)
+          (at-if1 .if1 .left)
+          (sym (at-bad-flags .bad-flags .ensures) ∙ at-if2 .if2 .left)
+          (at-fields-from .fields-from .ensures)
+          (at-word-of .word-of .ensures),
+      c .before .written2 .given .1,
+    )
+    refl
 
 pub head-word-spec : {M : Type 1} → statement M
 head-word-spec =

@@ -24,7 +24,9 @@ same-length-2 c = search needs
 returns-2 : tie.Need-returns-2
 unfolding saidOf
 returns-2 c =
-    rw (ne-eqb _ 0 (c .before .before .before .before .before .before .if1 .left), lt-ltb _ 3 (c .if2 .taken)) (c .before .before .before .before .refused .ensures)
+    rw
+    (ne-eqb _ 0 (c .before .before .before .before .before .before .if1 .left), lt-ltb _ 3 (c .if2 .taken))
+    (c .before .before .before .before .refused .ensures)
 
 command-requires : tie.Need-command-requires
 command-requires c κs = search needs

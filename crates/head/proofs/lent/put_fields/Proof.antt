@@ -44,7 +44,12 @@ same-length c = search needs
 
 returns : tie.Need-returns
 unfolding fieldBytes
-returns c = rw (← c .before .before .before .flag .ensures, ← c .before .before .flag2 .ensures, ← c .before .flag3 .ensures, ← c .flag4 .ensures) (stored-whole _ (c .before .before .before .before .before .args .bytes .now) (c .before .before .before .before .before .pre))
+returns c =
+    let at-flag = c .before .before .before in
+    let at-args = at-flag .before .before in
+    rw
+    (← at-flag .flag .ensures, ← c .before .before .flag2 .ensures, ← c .before .flag3 .ensures, ← c .flag4 .ensures)
+    (stored-whole _ (at-args .args .bytes .now) (at-args .pre))
 
 pub put-fields-spec : {M : Type 1} → statement M
 put-fields-spec =

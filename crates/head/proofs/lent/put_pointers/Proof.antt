@@ -15,7 +15,12 @@ same-length c = search needs
 
 returns : tie.Need-returns
 unfolding pointerList spaceList
-returns c = rw (c .before .before .put-spaces2 .ensures, c .before .before .before .before .before .before .put-spaces .ensures) (stored-whole _ (c .before .before .before .before .before .before .before .before .before .args .ps .now) (c .before .before .before .before .before .before .before .before .before .pre))
+returns c =
+    let at-put-spaces = c .before .before .before .before .before .before in
+    let at-args = at-put-spaces .before .before .before in
+    rw
+    (c .before .before .put-spaces2 .ensures, at-put-spaces .put-spaces .ensures)
+    (stored-whole _ (at-args .args .ps .now) (at-args .pre))
 
 pub put-pointers-spec : {M : Type 1} → statement M
 put-pointers-spec =

@@ -22,7 +22,15 @@ same-length-2 c = search needs
 
 returns : tie.Need-returns
 unfolding exportPart
-returns c = let b = c .before .before .before .before .before .before in (part-left _ _ _ _ _ _ _ _ (b .compile-part .ensures .0) refl (c .before .part-value .ensures) (c .part-number .ensures), b .compile-part .ensures .1)
+returns c =
+    let at-compile-part = c .before .before .before .before .before .before in (
+      part-left _ _ _ _ _ _ _ _
+          (at-compile-part .compile-part .ensures .0)
+          refl
+          (c .before .part-value .ensures)
+          (c .part-number .ensures),
+      at-compile-part .compile-part .ensures .1,
+    )
 
 pub head-part-spec : {M : Type 1} → statement M
 head-part-spec =

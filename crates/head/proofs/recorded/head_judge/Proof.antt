@@ -31,7 +31,19 @@ same-length-2 : tie.Need-same-length-2
 same-length-2 c = search needs
 
 returns-2 : tie.Need-returns-2
-returns-2 c = let b = c .before .before .before .before .before .before .before .before .before .before in judge-left _ _ _ _ _ _ _ _ _ _ (b .before .before .before .before .if1 .left) (b .before .before .from-list .ensures) (b .judge .ensures) (c .before .before .before .before .before .put-pointers .ensures) (c .before .before .judged-index .ensures) (c .before .judged-place .ensures) (c .judged-number .ensures)
+returns-2 c =
+    let at-put-pointers = c .before .before .before .before .before in
+    let at-judge = at-put-pointers .before .before .before .before .before in
+    let at-from-list = at-judge .before .before in
+    let at-if1 = at-from-list .before .before in
+    judge-left _ _ _ _ _ _ _ _ _ _
+    (at-if1 .if1 .left)
+    (at-from-list .from-list .ensures)
+    (at-judge .judge .ensures)
+    (at-put-pointers .put-pointers .ensures)
+    (c .before .before .judged-index .ensures)
+    (c .before .judged-place .ensures)
+    (c .judged-number .ensures)
 
 pub head-judge-spec : {M : Type 1} → statement M
 head-judge-spec =

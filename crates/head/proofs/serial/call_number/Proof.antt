@@ -1,7 +1,6 @@
 use borrow.Author.Needs.{needs}
 use Rattle.head.proofs.serial.call_number.Statement.{statement}
 use Rattle.head.proofs.serial.call_number.Tie as tie
-use mathlib.Core.Path.{refl}
 use Rattle.sserial.specs.Calls.{callListed}
 use Rattle.head.specs.Exports.{numberOf}
 

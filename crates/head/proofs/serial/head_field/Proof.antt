@@ -1,9 +1,6 @@
 use borrow.Author.Needs.{needs}
 use Rattle.head.proofs.serial.head_field.Statement.{statement}
 use Rattle.head.proofs.serial.head_field.Tie as tie
-use Rattle.head.proofs.serial.put_field.Reads as put-field-reads
-use Rattle.head.proofs.serial.table_or_40.Reads as table-or-40-reads
-use Rattle.sserial.proofs.field.field.Reads as field-reads
 use mathlib.Core.Path.{refl, ap}
 use mathlib.Core.List.{List}
 use Prim.Native.Nat.{ℕ}
@@ -34,11 +31,20 @@ same-length c = search needs
 
 returns-2 : tie.Need-returns-2
 unfolding shownIn fieldListed shown fieldWords
-returns-2 c = let b = c .before .before .before .before .before in rw (seven-words _ _ _ (b .before .before .before .if1 .left), ← b .before .before .field .ensures, b .answer .given .1) (ap (λ (l : List ℕ). callLeft 0 l) (c .before .before .put-field .ensures))
+returns-2 c =
+    let at-answer = c .before .before .before .before .before in
+    let at-field = at-answer .before .before in
+    let at-if1 = at-field .before in
+    rw
+    (seven-words _ _ _ (at-if1 .if1 .left), ← at-field .field .ensures, at-answer .answer .given .1)
+    (ap (λ (l : List ℕ). callLeft 0 l) (c .before .before .put-field .ensures))
 
 returns-3 : tie.Need-returns-3
 unfolding shownIn fieldListed
-returns-3 c = rw (seven-words _ _ _ (c .before .before .before .before .if1 .left), ← c .before .before .before .field .ensures, c .before .answer2 .given .1) refl
+returns-3 c =
+    let at-field = c .before .before .before in
+    let at-if1 = at-field .before in
+    rw (seven-words _ _ _ (at-if1 .if1 .left), ← at-field .field .ensures, c .before .answer2 .given .1) refl
 
 pub head-field-spec : {M : Type 1} → statement M
 head-field-spec =

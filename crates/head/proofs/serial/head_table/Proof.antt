@@ -16,7 +16,13 @@ table-number-requires : tie.Need-table-number-requires
 table-number-requires c κs = search needs
 
 returns : tie.Need-returns
-returns c = table-exported _ _ _ _ _ (c .before .before .before .count-fields .ensures) (c .table-number .ensures) (c .before .before .table-inputs .ensures) (c .before .table-outputs .ensures)
+returns c =
+    let at-count-fields = c .before .before .before in
+    table-exported _ _ _ _ _
+    (at-count-fields .count-fields .ensures)
+    (c .table-number .ensures)
+    (c .before .before .table-inputs .ensures)
+    (c .before .table-outputs .ensures)
 
 pub head-table-spec : {M : Type 1} → statement M
 head-table-spec =

@@ -1,10 +1,6 @@
 use borrow.Author.Needs.{needs}
 use Rattle.head.proofs.serial.head_unpack.Statement.{statement}
 use Rattle.head.proofs.serial.head_unpack.Tie as tie
-use Rattle.head.proofs.serial.call_number.Reads as call-number-reads
-use Rattle.head.proofs.serial.direction_of.Reads as direction-of-reads
-use Rattle.head.proofs.serial.table_or_40.Reads as table-or-40-reads
-use Rattle.sserial.proofs.call.unpack.Reads as unpack-reads
 use mathlib.Core.Path.{ap, _∙_}
 use Rattle.head.specs.Serial.{exported}
 use Rattle.head.proofs.SerialLaws.{numbered, no-unpack, unpack-by}
@@ -29,7 +25,13 @@ same-length c = search needs
 
 returns-2 : tie.Need-returns-2
 unfolding exported
-returns-2 c = let p = c .before .before .before in rw (unpack-by _ _ _ _ _ (p .before .before .before .if1 .left) _ (p .before .before .direction-of .ensures)) (numbered _ (c .call-number .ensures) ∙ ap exported (p .unpack .ensures))
+returns-2 c =
+    let at-unpack = c .before .before .before in
+    let at-direction-of = at-unpack .before .before in
+    let at-if1 = at-direction-of .before in
+    rw
+    (unpack-by _ _ _ _ _ (at-if1 .if1 .left) _ (at-direction-of .direction-of .ensures))
+    (numbered _ (c .call-number .ensures) ∙ ap exported (at-unpack .unpack .ensures))
 
 pub head-unpack-spec : {M : Type 1} → statement M
 head-unpack-spec =

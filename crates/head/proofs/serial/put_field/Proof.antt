@@ -1,7 +1,6 @@
 use borrow.Author.Needs.{needs}
 use Rattle.head.proofs.serial.put_field.Statement.{statement}
 use Rattle.head.proofs.serial.put_field.Tie as tie
-use Rattle.head.proofs.serial.low_word.Reads as low-word-reads
 use lib.ListN.{length-set}
 use native.Mathlib.Omega.{arith}
 use Rattle.head.specs.Serial.{fieldWords}
@@ -48,7 +47,11 @@ same-length c = search needs
 
 returns : tie.Need-returns
 unfolding fieldWords
-returns c = let b = c .before .before .before .before .before .before in rw (← c .before .low-word .ensures, ← c .low-word2 .ensures) (stored-whole _ (b .args .words .now) (b .pre))
+returns c =
+    let at-args = c .before .before .before .before .before .before in
+    rw
+    (← c .before .low-word .ensures, ← c .low-word2 .ensures)
+    (stored-whole _ (at-args .args .words .now) (at-args .pre))
 
 pub put-field-spec : {M : Type 1} → statement M
 put-field-spec =

@@ -14,7 +14,11 @@ number-of-requires : tie.Need-number-of-requires
 number-of-requires c κs = search needs
 
 returns : tie.Need-returns
-returns c = let s = c .before .before .check .ensures in (tight-given _ _ _ (s .0) _ _ (c .number-of .ensures) (c .before .value-of .ensures), tight-promise _ _ _ (s .0) _ _ (c .number-of .ensures) (c .before .value-of .ensures) (TightDemand3 _ _) (s .1))
+returns c =
+    let s = c .before .before .check .ensures in (
+      tight-given _ _ _ (s .0) _ _ (c .number-of .ensures) (c .before .value-of .ensures),
+      tight-promise _ _ _ (s .0) _ _ (c .number-of .ensures) (c .before .value-of .ensures) (TightDemand3 _ _) (s .1),
+    )
 
 pub head-tight-check-spec : {M : Type 1} → statement M
 head-tight-check-spec =

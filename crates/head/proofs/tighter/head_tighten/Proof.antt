@@ -19,7 +19,15 @@ same-length : tie.Need-same-length
 same-length c = search needs
 
 returns : tie.Need-returns
-returns c = let s = c .before .before .before .before .before .tighten .ensures in let b = c .before .before .compile-bytes .ensures in let p = c .before .compile-packets .ensures in let n = c .compile-number .ensures in (tighten-left _ _ _ _ _ _ _ b p n (s .0), (tighten-eight _ _ _ _ _ _ _ b p n (s .1 .0), tighten-demand3 _ _ _ _ _ _ _ b p n (s .0)))
+returns c =
+    let at-tighten = c .before .before .before .before .before in
+    let s = at-tighten .tighten .ensures in
+    let b = c .before .before .compile-bytes .ensures in
+    let p = c .before .compile-packets .ensures in
+    let n = c .compile-number .ensures in (
+      tighten-left _ _ _ _ _ _ _ b p n (s .0),
+      (tighten-eight _ _ _ _ _ _ _ b p n (s .1 .0), tighten-demand3 _ _ _ _ _ _ _ b p n (s .0)),
+    )
 
 pub head-tighten-spec : {M : Type 1} → statement M
 head-tighten-spec =

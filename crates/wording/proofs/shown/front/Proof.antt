@@ -39,7 +39,9 @@ returns c =
     let y = z .before .before .before .before .before in
     let x = y .before .before .before .before .before in
     put-then _ _ _ _
-    (put-then _ _ _ _ (put-then _ _ _ _ (x .before .before .before .before .before .numbered .ensures) (x .put .ensures)) (rw (y .before .front .ensures) at (y .bytes .ensures)))
+    (put-then _ _ _ _
+    (put-then _ _ _ _ (x .before .before .before .before .before .numbered .ensures) (x .put .ensures))
+    (rw (y .before .front .ensures) at (y .bytes .ensures)))
     (z .put2 .ensures)
 
 pub front-spec : {M : Type 1} → statement M
