@@ -66,9 +66,9 @@ pub fn judge_list(packet: &[u8], list: &[u32]) -> Verdict
             let c = refusal::register_at(rest, word, &pointers, reply, place);
             let found = c.found;
             let which = found.which;
-            match which {
-                Which::Read | Which::Write => {}
-                Which::Refused(number) => return refused(number, found.place),
+            // Neither a read nor a write of space 0 turns the unlock.
+            if let Which::Refused(number) = which {
+                return refused(number, found.place);
             }
             c.reach
         } else {

@@ -144,7 +144,7 @@ step c =
     ⊎-elim
     (λ w.
     let found = w .2 .result .found in
-    let (b, is) = some-bit (found .which) (found .place) (w .4 .keys1) in
+    let (b, is) = some-bit (found .which) (found .place) (w .4 .keys2) in
     rw (w .6, w .7)
     (checking-registers inv more _ (w .2 .ensures _) b is (rw (← word) (registers-word _ _ refl (sym plain ∙ w .0 .taken)))))
     (λ w.
