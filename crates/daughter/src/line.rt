@@ -1,169 +1,191 @@
-// One call of the library, written as a line.
-use crate::text;
+// One call of the library, put as a line. Each function answers the place behind what it put.
 use lbp16::Refusal;
-use sserial::call;
 use sserial::call::CallAnswer;
 use sserial::count;
 use sserial::count::TableAnswer;
 use sserial::field;
 use sserial::field::FieldAnswer;
-use sserial::table::Direction;
 use sserial::table::Field;
+use text::find;
+use text::line;
+use text::number;
 
-fn refusal(r: Refusal) {
-    text::say(b" refused ");
-    text::decimal(r.number as u64);
-    text::say(b" at ");
-    text::decimal(r.place);
+fn refusal(out: &mut [u8], at: usize, r: Refusal) -> usize {
+    let next = line::numbered(out, at, b" refused ", r.number as u64);
+    line::numbered(out, next, b" at ", r.place)
 }
 
-pub(crate) fn counts(memory: &[u8], table: u16) {
-    let answer = count::count_fields(memory, table);
+fn counted(out: &mut [u8], at: usize, answer: TableAnswer) -> usize {
     match answer {
         TableAnswer::Fields { inputs, outputs } => {
-            text::say(b" fields in ");
-            text::decimal(inputs as u64);
-            text::say(b", out ");
-            text::decimal(outputs as u64);
+            let next = line::numbered(out, at, b" fields in ", inputs as u64);
+            line::numbered(out, next, b", out ", outputs as u64)
         }
-        TableAnswer::Refused(r) => refusal(r),
+        TableAnswer::Refused(r) => refusal(out, at, r),
     }
-    text::say(b"\n");
 }
 
-fn direction(d: u8) {
+pub(crate) fn counts(out: &mut [u8], at: usize, memory: &[u8], table: u16) -> usize {
+    let next = counted(out, at, count::count_fields(memory, table));
+    text::put(out, next, b"\n")
+}
+
+fn direction(out: &mut [u8], at: usize, d: u8) -> usize {
     match d {
-        0x00 => text::say(b" in"),
-        0x80 => text::say(b" out"),
-        _ => text::say(b" in and out"),
+        0x00 => text::put(out, at, b" in, "),
+        0x80 => text::put(out, at, b" out, "),
+        _ => text::put(out, at, b" in and out, "),
     }
 }
 
-fn one_field(memory: &[u8], f: Field) {
-    direction(f.direction);
-    text::say(b", ");
-    text::decimal(f.width as u64);
-    text::say(b" bits, type ");
-    text::decimal(f.kind as u64);
-    text::say(b", ");
-    text::word(f.minimum);
-    text::say(b" to ");
-    text::word(f.maximum);
-    text::say(b", unit at ");
-    text::decimal(f.unit as u64);
-    text::say(b" \"");
-    text::string(memory, f.unit);
-    text::say(b"\", name at ");
-    text::decimal(f.name as u64);
-    text::say(b" \"");
-    text::string(memory, f.name);
-    text::say(b"\"\n");
+fn kind(out: &mut [u8], at: usize, f: Field) -> usize {
+    let next = direction(out, at, f.direction);
+    let next = number::decimal(out, next, f.width as u64);
+    line::numbered(out, next, b" bits, type ", f.kind as u64)
 }
 
-// Whether the table has this field.
-fn field(memory: &[u8], table: u16, index: u64) -> bool {
-    text::say(b"field ");
-    text::decimal(index);
-    text::say(b":");
-    let answer = field::field(memory, table, index);
+fn range(out: &mut [u8], at: usize, f: Field) -> usize {
+    let next = text::put(out, at, b", ");
+    let next = number::hex(out, next, 8, f.minimum as u64);
+    let next = text::put(out, next, b" to ");
+    number::hex(out, next, 8, f.maximum as u64)
+}
+
+// A string of the memory, and where it stands.
+fn string(out: &mut [u8], at: usize, label: &[u8], memory: &[u8], place: usize) -> usize {
+    let next = line::numbered(out, at, label, place as u64);
+    let next = text::put(out, next, b" \"");
+    let next = text::put(out, next, find::string(memory, place));
+    text::put(out, next, b"\"")
+}
+
+fn one_field(out: &mut [u8], at: usize, memory: &[u8], f: Field) -> usize {
+    let next = kind(out, at, f);
+    let next = range(out, next, f);
+    let next = string(out, next, b", unit at ", memory, f.unit);
+    string(out, next, b", name at ", memory, f.name)
+}
+
+// The place behind it, and whether the table has this field.
+struct Put {
+    at: usize,
+    more: bool,
+}
+
+fn answered(out: &mut [u8], at: usize, memory: &[u8], answer: FieldAnswer) -> Put {
     match answer {
         FieldAnswer::Field(f) => {
-            one_field(memory, f);
-            true
+            let next = one_field(out, at, memory, f);
+            Put {
+                at: text::put(out, next, b"\n"),
+                more: true,
+            }
         }
         FieldAnswer::Refused(r) => {
-            refusal(r);
-            text::say(b"\n");
-            false
+            let next = refusal(out, at, r);
+            Put {
+                at: text::put(out, next, b"\n"),
+                more: false,
+            }
         }
     }
+}
+
+fn field(out: &mut [u8], at: usize, memory: &[u8], table: u16, index: u64) -> Put {
+    let next = line::numbered(out, at, b"field ", index);
+    let next = text::put(out, next, b":");
+    answered(out, next, memory, field::field(memory, table, index))
 }
 
 // Every field of the table, and where it ends.
-pub(crate) fn fields(memory: &[u8], table: u16) {
+pub(crate) fn fields(out: &mut [u8], at: usize, memory: &[u8], table: u16) -> usize {
+    let mut next = at;
     let mut index: u64 = 0;
     while index < 193 {
-        if !field(memory, table, index) {
-            return;
+        let put = field(out, next, memory, table, index);
+        next = put.at;
+        if !put.more {
+            return next;
         }
         index += 1;
     }
+    next
 }
 
-fn number(n: u64) {
-    text::say(b" ");
-    text::signed(n);
+fn number(out: &mut [u8], at: usize, n: u64) -> usize {
+    let next = text::put(out, at, b" ");
+    number::signed(out, next, n)
 }
 
-fn numbers(values: &[u64]) {
+fn numbers(out: &mut [u8], at: usize, values: &[u64]) -> usize {
+    let mut next = at;
     let mut i: usize = 0;
     while i < values.len() {
-        number(values[i]);
+        next = number(out, next, values[i]);
         i += 1;
     }
+    next
 }
 
-fn answer(a: CallAnswer) {
+fn answer(out: &mut [u8], at: usize, a: CallAnswer) -> usize {
     match a {
-        CallAnswer::Done => text::say(b" done"),
-        CallAnswer::Refused(r) => refusal(r),
+        CallAnswer::Done => text::put(out, at, b" done"),
+        CallAnswer::Refused(r) => refusal(out, at, r),
     }
 }
 
-pub(crate) fn pack(
-    memory: &[u8],
-    table: u16,
-    d: Direction,
-    channel: u32,
-    values: &[u64],
-    registers: &mut [u32],
-) {
-    text::say(b"packed into channel ");
-    text::decimal(channel as u64);
-    text::say(b":");
-    numbers(values);
-    text::say(b":");
-    let a = call::pack(memory, table, d, channel, values, registers);
-    answer(a);
-    text::say(b"\n");
+// A label, a channel's number, and a colon.
+fn labelled(out: &mut [u8], at: usize, label: &[u8], n: u64) -> usize {
+    let next = line::numbered(out, at, label, n);
+    text::put(out, next, b":")
 }
 
-pub(crate) fn unpack(
-    memory: &[u8],
-    table: u16,
-    d: Direction,
+pub(crate) fn packed(
+    out: &mut [u8],
+    at: usize,
     channel: u32,
-    registers: &[u32],
-    values: &mut [u64],
-) {
-    text::say(b"unpacked from channel ");
-    text::decimal(channel as u64);
-    text::say(b":");
-    let a = call::unpack(memory, table, d, channel, registers, values);
-    answer(a);
-    text::say(b":");
-    numbers(values);
-    text::say(b"\n");
+    values: &[u64],
+    a: CallAnswer,
+) -> usize {
+    let next = labelled(out, at, b"packed into channel ", channel as u64);
+    let next = numbers(out, next, values);
+    let next = text::put(out, next, b":");
+    let next = answer(out, next, a);
+    text::put(out, next, b"\n")
+}
+
+pub(crate) fn unpacked(
+    out: &mut [u8],
+    at: usize,
+    channel: u32,
+    values: &[u64],
+    a: CallAnswer,
+) -> usize {
+    let next = labelled(out, at, b"unpacked from channel ", channel as u64);
+    let next = answer(out, next, a);
+    let next = text::put(out, next, b":");
+    let next = numbers(out, next, values);
+    text::put(out, next, b"\n")
+}
+
+fn register(out: &mut [u8], at: usize, w: u32) -> usize {
+    let next = text::put(out, at, b" ");
+    number::hex(out, next, 8, w as u64)
+}
+
+fn registers(out: &mut [u8], at: usize, words: &[u32]) -> usize {
+    let mut next = at;
+    let mut i: usize = 0;
+    while i < words.len() {
+        next = register(out, next, words[i]);
+        i += 1;
+    }
+    next
 }
 
 // A channel's registers, register 0 first.
-pub(crate) fn channel(k: u64, words: &[u32]) {
-    text::say(b"channel ");
-    text::decimal(k);
-    text::say(b":");
-    registers(words);
-    text::say(b"\n");
-}
-
-fn register(w: u32) {
-    text::say(b" ");
-    text::word(w);
-}
-
-fn registers(words: &[u32]) {
-    let mut i: usize = 0;
-    while i < words.len() {
-        register(words[i]);
-        i += 1;
-    }
+pub(crate) fn channel(out: &mut [u8], at: usize, k: u64, words: &[u32]) -> usize {
+    let next = labelled(out, at, b"channel ", k);
+    let next = registers(out, next, words);
+    text::put(out, next, b"\n")
 }

@@ -1,16 +1,17 @@
 // The panel's readings of one card, a line for each field that the card sends. Standard input has the address of the card's table
 // (2 bytes), a channel's three registers (4 bytes each), all low byte first, and then the card's memory.
 mod line;
-mod text;
 
 use lbp16::Refusal;
 use libc::STDIN_FILENO;
+use libc::STDOUT_FILENO;
 use sserial::call;
 use sserial::count;
 use sserial::count::TableAnswer;
 use sserial::field;
 use sserial::field::FieldAnswer;
 use sserial::table::Direction;
+use sserial::table::Field;
 
 fn pair(low: u8, high: u8) -> u16 {
     low as u16 + 256 * high as u16
@@ -20,14 +21,26 @@ fn quad(low: u16, high: u16) -> u32 {
     low as u32 + 65536 * high as u32
 }
 
-fn refused(r: Refusal) {
-    text::say(b"the table is refused with ");
-    text::decimal(r.number as u64);
-    text::say(b"\n");
+fn put(out: &[u8], n: usize) {
+    if n <= out.len() {
+        io::write_all(STDOUT_FILENO, &out[..n]);
+    }
+}
+
+fn refused(out: &mut [u8], r: Refusal) {
+    let next = text::line::numbered(out, 0, b"the table is refused with ", r.number as u64);
+    let n = text::put(out, next, b"\n");
+    put(out, n);
+}
+
+fn told(out: &mut [u8], memory: &[u8], table: u16, index: u64, f: Field, value: u64) {
+    let reading = panel::fields::field_reading(memory, table, index, value);
+    let n = line::reading(out, memory, f, reading);
+    put(out, n);
 }
 
 // How many values have been shown after this field.
-fn shown(memory: &[u8], table: u16, index: u64, values: &[u64], k: usize) -> usize {
+fn shown(out: &mut [u8], memory: &[u8], table: u16, index: u64, values: &[u64], k: usize) -> usize {
     let answer = field::field(memory, table, index);
     match answer {
         FieldAnswer::Refused(_) => k,
@@ -38,59 +51,66 @@ fn shown(memory: &[u8], table: u16, index: u64, values: &[u64], k: usize) -> usi
             if values.len() <= k {
                 return k;
             }
-            let reading = panel::fields::field_reading(memory, table, index, values[k]);
-            line::reading(memory, f, reading);
+            told(out, memory, table, index, f, values[k]);
             k + 1
         }
     }
 }
 
 // A table has at most 96 fields each way.
-fn readings(memory: &[u8], table: u16, values: &[u64]) {
+fn readings(out: &mut [u8], memory: &[u8], table: u16, values: &[u64]) {
     let mut k: usize = 0;
     let mut index: u64 = 0;
     while index < 192 {
-        k = shown(memory, table, index, values, k);
+        k = shown(out, memory, table, index, values, k);
         index += 1;
     }
 }
 
-fn unpacked(memory: &[u8], table: u16, registers: &[u32], values: &mut [u64]) {
+fn unpacked(out: &mut [u8], memory: &[u8], table: u16, registers: &[u32], values: &mut [u64]) {
     call::unpack(memory, table, Direction::Inputs, 0, registers, values);
-    readings(memory, table, values);
+    readings(out, memory, table, values);
 }
 
-fn incoming(memory: &[u8], table: u16, n: usize, registers: &[u32], room: &mut [u64]) {
+fn incoming(
+    out: &mut [u8],
+    memory: &[u8],
+    table: u16,
+    n: usize,
+    registers: &[u32],
+    room: &mut [u64],
+) {
     if n <= room.len() {
-        unpacked(memory, table, registers, &mut room[..n]);
+        unpacked(out, memory, table, registers, &mut room[..n]);
     }
 }
 
-fn card(memory: &[u8], table: u16, registers: &[u32]) {
+fn card(out: &mut [u8], memory: &[u8], table: u16, registers: &[u32]) {
     let answer = count::count_fields(memory, table);
     match answer {
-        TableAnswer::Refused(r) => refused(r),
+        TableAnswer::Refused(r) => refused(out, r),
         TableAnswer::Fields { inputs, outputs: _ } => {
             let mut room = [0u64; 96];
-            incoming(memory, table, inputs, registers, &mut room);
+            incoming(out, memory, table, inputs, registers, &mut room);
         }
     }
 }
 
-fn show(input: &[u8]) {
+fn show(out: &mut [u8], input: &[u8]) {
     if input.len() < 14 {
-        text::say(b"no table address and three registers\n");
+        io::write_all(STDOUT_FILENO, b"no table address and three registers\n");
         return;
     }
     let mut registers = [0u32; 24];
     registers[0] = quad(pair(input[2], input[3]), pair(input[4], input[5]));
     registers[1] = quad(pair(input[6], input[7]), pair(input[8], input[9]));
     registers[2] = quad(pair(input[10], input[11]), pair(input[12], input[13]));
-    card(&input[14..], pair(input[0], input[1]), &registers);
+    card(out, &input[14..], pair(input[0], input[1]), &registers);
 }
 
+// A line has room for a name and a unit that are the whole memory.
 fn main() {
     let mut input = [0u8; 65550];
     let taken = io::read_full(STDIN_FILENO, &mut input);
-    show(&input[..taken]);
+    show(&mut [0u8; 131200], &input[..taken]);
 }

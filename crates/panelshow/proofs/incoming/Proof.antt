@@ -1,6 +1,7 @@
-use borrow.Author.Needs.{needs}
 use mathlib.Core.Path.{sym}
+use native.Mathlib.Omega.{arith}
 use lib.Seq.{length-take-le}
+use borrow.Author.Needs.{needs}
 use Rattle.panelshow.proofs.incoming.Statement.{statement}
 use Rattle.panelshow.proofs.incoming.Tie as tie
 
@@ -8,13 +9,16 @@ slice-relend-prefix-unpacked : tie.Need-slice-relend-prefix-unpacked
 slice-relend-prefix-unpacked c = search needs
 
 slice-aggregate-unpacked : tie.Need-slice-aggregate-unpacked
-slice-aggregate-unpacked c = sym (length-take-le _ _ (c .before .if1 .taken))
+slice-aggregate-unpacked c = sym (length-take-le _ _ (omega arith))
 
 unpacked-requires : tie.Need-unpacked-requires
 unpacked-requires c κs = search needs
 
 same-length : tie.Need-same-length
 same-length c = search needs
+
+same-length-2 : tie.Need-same-length-2
+same-length-2 c = search needs
 
 returns : tie.Need-returns
 returns c = search needs
@@ -30,5 +34,6 @@ incoming-spec =
     slice-aggregate-unpacked
     unpacked-requires
     same-length
+    same-length-2
     returns
     returns-2)

@@ -1,18 +1,19 @@
+use borrow.Author.Needs.{needs}
+use Prim.Native.Nat.{_-_, _≤_}
+use mathlib.Core.Path.{_≡_, refl}
+use native.Mathlib.Omega.{arith}
+use lib.ListN.{length}
 use Rattle.daughter.proofs.line.registers.Statement.{statement}
 use Rattle.daughter.proofs.line.registers.Tie as tie
-use Rattle.daughter.proofs.line.register.Reads as register-reads
-use borrow.Author.Needs.{needs}
-use Prim.Native.Nat.{_≤_, _-_}
-use lib.ListN.{length}
 
 abbrev Inv-loop : tie.InvT-loop
-Inv-loop words i₀ i = i ≤ length words
+Inv-loop out₀ at words next₀ i₀ out next i = (length out ≡ length out₀) × (i ≤ length words)
 
 abbrev μ-loop : tie.MeasureT-loop
-μ-loop words i₀ i = length words - i
+μ-loop out₀ at words next₀ i₀ out next i = length words - i
 
 loop-holds : tie.Need-loop-holds Inv-loop μ-loop
-loop-holds c = search needs
+loop-holds c = (refl, omega arith)
 
 mul-register : tie.Need-mul-register Inv-loop μ-loop
 mul-register c = search needs
@@ -32,6 +33,9 @@ loop-less c = search needs
 loop-again : tie.Need-loop-again Inv-loop μ-loop
 loop-again c = search needs
 
+same-length : tie.Need-same-length Inv-loop μ-loop
+same-length c = search needs
+
 returns : tie.Need-returns Inv-loop μ-loop
 returns c = search needs
 
@@ -48,4 +52,5 @@ registers-spec =
     add-i
     loop-less
     loop-again
+    same-length
     returns)
