@@ -29,7 +29,7 @@
  *
  * A stack is the deepest that the call can need, without that of the functions of libc and libgcc that are named below. No
  * function is reached from itself, none asks for memory, and none keeps anything between calls, so that calls which are lent
- * different memory may run at the same time. On a Cortex-M4 a packet takes at most 265,189 instructions, a burst 1,384, a
+ * different memory may run at the same time. On a Cortex-M4 a packet takes at most 240,165 instructions, a burst 1,394, a
  * record of a list 443 in head_compile.
  * x86_64-linux needs memset (libc). Registers beyond the integer ones: check, compile, field, independent, judge, pack,
  *   panel_reading, part, run, spi, table, tight_check, tighten, unpack, why.
