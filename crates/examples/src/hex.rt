@@ -1,6 +1,5 @@
 // Hexadecimal digits as bytes.
-ghost use Prim.Native.Nat.{_≤_};
-ghost use lib.ListN.{length};
+use text::find;
 
 // The bytes of so many digits.
 pub(crate) struct Data {
@@ -13,20 +12,6 @@ pub(crate) fn none() -> Data {
         bytes: [0; 8192],
         digits: 0,
     }
-}
-
-// The bytes before the first b: all of them where there is none.
-pub(crate) fn before(s: &[u8], b: u8) -> usize
-    ensures { λ r. ⌜ r ≤ length (now (s .entry)) ⌝ }
-{
-    let mut i: usize = 0;
-    while i < s.len() {
-        if s[i] == b {
-            return i;
-        }
-        i += 1;
-    }
-    i
 }
 
 // A byte after the digit v: 16 and 17 are the letters of LL and HH, the bytes of an address.
@@ -50,7 +35,7 @@ fn with_digit(d: Data, v: usize, address: u16) -> Data {
 }
 
 fn with_letter(d: Data, c: u8, address: u16) -> Data {
-    let v = before(b"0123456789ABCDEFLH", c);
+    let v = find::bytes_before(b"0123456789ABCDEFLH", c);
     if v < 18 {
         return with_digit(d, v, address);
     }

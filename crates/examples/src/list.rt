@@ -1,15 +1,15 @@
 // Cue lists compiled, tightened and salvaged, and recordings judged.
 use crate::answer;
+use crate::form;
 use crate::slice;
 use crate::slice::Bytes;
-use crate::text;
 use packet::bytes;
 ghost use Prim.Native.Nat.{_≤_};
 
 // A form with what stands at the front of the room.
 fn told(form: &[u8], values: [u64; 9], list: &[u8], room: [u8; 8192]) {
     let out = slice::part(&room, 0, answer::first(values));
-    text::fill_with(form, values, list, out);
+    form::fill_with(form, values, list, out);
 }
 
 fn output(list: &[u8], values: [u64; 9], room: [u8; 8192]) -> Bytes {
@@ -40,7 +40,7 @@ fn tighter(list: &[u8]) {
 // A list compiled, and what the planner puts out.
 pub(crate) fn tightened(list: &[u8]) {
     compiled(list, 8192);
-    text::say(b"tighter");
+    form::say(b"tighter");
     tighter(list);
 }
 
@@ -55,7 +55,7 @@ fn entry(log: [u64; 8], i: usize)
     requires { ⌜ i ≤ 6 ⌝ }
 {
     let n = log_at(log, i + 1);
-    text::fill(
+    form::fill(
         b"[, skipped # at #|]",
         [n, n, log_at(log, i), 0, 0, 0, 0, 0, 0],
     );
@@ -69,7 +69,7 @@ fn entries(log: [u64; 8]) {
 }
 
 fn kept(damaged: &[u8], values: [u64; 9], log: [u64; 8], room: [u8; 8192]) {
-    text::fill_with(
+    form::fill_with(
         b"*:[ refused # at #| kept # bytes]",
         values,
         damaged,
@@ -92,13 +92,13 @@ fn salvaged_in(damaged: &[u8], k: usize, m: usize)
 pub(crate) fn salvaged(damaged: &[u8], rooms: &[u8]) {
     salvaged_in(
         damaged,
-        slice::at_most(bytes::pair_at(rooms, 0) as usize, 8192),
-        slice::at_most(bytes::pair_at(rooms, 2) as usize, 8),
+        text::least(bytes::pair_at(rooms, 0) as usize, 8192),
+        text::least(bytes::pair_at(rooms, 2) as usize, 8),
     );
 }
 
 fn found(room: [u8; 256], n: usize) {
-    text::say(slice::part(&room, 0, n as u64));
+    form::say(slice::part(&room, 0, n as u64));
 }
 
 // A recorded show judged on a fresh card: packets and replies in turn, each behind "LB" and its length.

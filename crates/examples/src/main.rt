@@ -1,12 +1,12 @@
 // Runs the examples that standard input has as text: the worked examples of the papers, and shows played end to end.
 mod answer;
+mod form;
 mod hex;
 mod list;
 mod pair;
 mod script;
 mod show;
 mod slice;
-mod text;
 mod wire;
 mod word;
 

@@ -1,10 +1,10 @@
 // Two lists: whether they may be run in either order, and if so both orders played.
 use crate::answer;
+use crate::form;
 use crate::list;
 use crate::show;
 use crate::slice;
 use crate::slice::Bytes;
-use crate::text;
 use crate::wire;
 use crate::wire::Card;
 
@@ -25,7 +25,7 @@ fn in_turn(one: Bytes, other: Bytes) -> Turn {
 fn compared(forth: Turn, back: Turn) {
     let a = forth.card;
     let b = back.card;
-    text::fill(
+    form::fill(
         b"all bytes of the stores: [equal|different]; packet count # and #; the first list's values: [equal|different]; the second's: [equal|different]\n",
         [
             wire::same_stores(a, b, false),
@@ -42,16 +42,16 @@ fn compared(forth: Turn, back: Turn) {
 }
 
 fn orders(one: Bytes, other: Bytes) {
-    text::say(b"in this order:\n");
+    form::say(b"in this order:\n");
     let forth = in_turn(one, other);
-    text::say(b"in the other:\n");
+    form::say(b"in the other:\n");
     compared(forth, in_turn(other, one));
 }
 
 // Writes the answer. Whether the lists are independent.
 fn answered(first: &[u8], second: &[u8]) -> bool {
     let values = answer::of_lists(independent::independent(first, second));
-    text::fill(
+    form::fill(
         b"[independent|][list #: refused # at #|][not independent: the second list's record # clashes with the first list|]\n",
         values,
     );
@@ -59,9 +59,9 @@ fn answered(first: &[u8], second: &[u8]) -> bool {
 }
 
 pub(crate) fn pair(first: &[u8], second: &[u8]) {
-    text::say(b"the first, list");
+    form::say(b"the first, list");
     let one = list::compiled(first, 8192);
-    text::say(b"the second, list");
+    form::say(b"the second, list");
     let other = list::compiled(second, 8192);
     if answered(first, second) {
         orders(one, other);

@@ -17,17 +17,18 @@
 //     m NAME=        the list for a packet, told by the elements that it moves
 //
 // A name is written before the answer. A line that begins with = is passed over.
+use crate::form;
 use crate::hex;
 use crate::hex::Data;
 use crate::list;
 use crate::pair;
 use crate::show;
 use crate::slice;
-use crate::text;
 use crate::wire;
 use crate::wire::Card;
 use crate::word;
 use packet::bytes;
+use text::find;
 ghost use Prim.Native.Nat.{_≤_};
 ghost use lib.ListN.{length};
 
@@ -89,7 +90,7 @@ fn next(kind: u8, name: &[u8], text: &[u8], state: State) -> State {
         let list = hex::with_texts(state.list, text, times(name));
         return State { card, list };
     }
-    text::say(name);
+    form::say(name);
     let own = hex::with_text(hex::none(), text, 0);
     let card = example(kind, state.list, own, state.card);
     let list = hex::none();
@@ -98,7 +99,7 @@ fn next(kind: u8, name: &[u8], text: &[u8], state: State) -> State {
 
 fn line(s: &[u8], state: State) -> State {
     let kind = (bytes::pair_at(s, 0) % 256) as u8;
-    let head = hex::before(s, b'=') as u64;
+    let head = find::bytes_before(s, b'=') as u64;
     let name = slice::part(slice::part(s, 0, head), 2, head);
     next(kind, name, slice::part(s, head, 32768), state)
 }
@@ -108,7 +109,7 @@ fn line_bytes(rest: &[u8]) -> usize
     requires { ⌜ 1 ≤ length (now rest) ⌝ }
     ensures { λ r. ⌜ (1 ≤ r) × (r ≤ length (now (rest .entry))) ⌝ }
 {
-    let n = hex::before(rest, b'\n');
+    let n = slice::within(find::bytes_before(rest, b'\n') as u64, rest);
     if n < rest.len() { n + 1 } else { n }
 }
 

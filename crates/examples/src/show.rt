@@ -1,8 +1,8 @@
 // Shows played end to end: a list's packets run on one card, and its records done one by one on another.
+use crate::form;
 use crate::list;
 use crate::slice;
 use crate::slice::Bytes;
-use crate::text;
 use crate::wire;
 use crate::wire::Card;
 use cue::records;
@@ -13,7 +13,7 @@ ghost use lib.ListN.{length};
 
 // A packet behind its mark and length.
 fn played(frame: &[u8], before: Card) -> Card {
-    text::say(b"packet");
+    form::say(b"packet");
     wire::packet(slice::part(frame, 4, 1472), before)
 }
 
@@ -22,7 +22,7 @@ pub(crate) fn play(out: Bytes, before: Card) -> Card {
     let mut left = wire::unread(before);
     let mut rest = slice::part(&out.bytes, 0, out.n);
     while 4 <= rest.len() {
-        let k = text::frame_bytes(rest);
+        let k = form::frame_bytes(rest);
         let next = played(&rest[..k], left);
         left = next;
         rest = &rest[k..];
@@ -71,7 +71,7 @@ fn element_of(rest: &[u8]) -> Element {
 fn record_alone(rest: &[u8], before: Card) -> Card {
     let mut store = before.store;
     let e = element_of(rest);
-    slice::put(&mut store, e.at, slice::part(rest, 6, e.written));
+    text::put(&mut store, e.at as usize, slice::part(rest, 6, e.written));
     let read = slice::with(before.read, slice::part(&store, e.at, e.read));
     let pointers = before.pointers;
     Card {
@@ -96,11 +96,11 @@ fn alone(list: &[u8]) -> Card {
 
 fn values(read: Bytes) {
     let s = slice::part(&read.bytes, 0, read.n);
-    text::fill_with(b"records one by one, values read:&\n", [0; 9], s, s);
+    form::fill_with(b"records one by one, values read:&\n", [0; 9], s, s);
 }
 
 fn compared(packets: Card, records: Card) {
-    text::fill(
+    form::fill(
         b"replies and values read: [equal|different]; stores but for the unlock cell and the packet count: [equal|different]; packet count after the records #, after the packets #\n",
         [
             slice::same_bytes(packets.read, records.read),

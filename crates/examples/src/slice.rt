@@ -1,6 +1,6 @@
 // Bytes cut, joined and compared.
 ghost use mathlib.Core.Path.{_≡_};
-ghost use Prim.Native.Nat.{min, _≤_};
+ghost use Prim.Native.Nat.{min};
 ghost use lib.ListN.{length};
 ghost use Rattle.io.specs.Counts.{Counts};
 
@@ -25,12 +25,6 @@ pub(crate) fn within(n: u64, s: &[u8]) -> usize
     if n < most as u64 { n as usize } else { most }
 }
 
-pub(crate) fn at_most(n: usize, most: usize) -> usize
-    ensures { λ r. ⌜ r ≤ most ⌝ }
-{
-    if n < most { n } else { most }
-}
-
 // Up to n bytes from a place on.
 pub(crate) fn part(s: &[u8], place: u64, n: u64) -> &[u8] {
     let from = within(place, s);
@@ -39,25 +33,10 @@ pub(crate) fn part(s: &[u8], place: u64, n: u64) -> &[u8] {
     &tail[..k]
 }
 
-// Bytes put into a buffer from a place on, as far as there is room. The place behind them.
-pub(crate) fn put(room: &mut [u8], place: u64, s: &[u8]) -> u64 {
-    let mut at = place as usize;
-    let mut i: usize = 0;
-    while i < s.len() {
-        if room.len() <= at {
-            return at as u64;
-        }
-        room[at] = s[i];
-        at += 1;
-        i += 1;
-    }
-    at as u64
-}
-
-// The same with more behind them.
+// The same with more behind them, as far as there is room.
 pub(crate) fn with(front: Bytes, s: &[u8]) -> Bytes {
     let mut bytes = front.bytes;
-    let n = put(&mut bytes, front.n, s);
+    let n = text::put(&mut bytes, front.n as usize, s) as u64;
     Bytes { bytes, n }
 }
 

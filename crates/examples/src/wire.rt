@@ -1,8 +1,8 @@
 // A card, and what is sent to it.
 use crate::answer;
+use crate::form;
 use crate::slice;
 use crate::slice::Bytes;
-use crate::text;
 use card::run;
 use card::spi;
 use packet::bytes;
@@ -11,7 +11,7 @@ ghost use Prim.Native.Nat.{_≤_};
 // Where the packet count and the card's name stand in the store.
 const COUNT: usize = 65674;
 
-const NAME: u64 = 65696;
+const NAME: usize = 65696;
 
 // A card, and the values that were read from it.
 pub(crate) struct Card {
@@ -100,7 +100,7 @@ fn replied(form: &[u8], sent: &[u8], done: Done) -> Card {
     let reply = done.reply;
     let values = done.values;
     let got = slice::part(&reply, 0, answer::first(values));
-    text::fill_with(form, values, sent, got);
+    form::fill_with(form, values, sent, got);
     with_read(done.card, got)
 }
 
@@ -144,7 +144,7 @@ fn words_of(s: &[u8]) -> [u32; 8] {
 }
 
 fn word(w: u32) {
-    text::fill(b" @@", [(w / 65536) as u64, w as u64, 0, 0, 0, 0, 0, 0, 0]);
+    form::fill(b" @@", [(w / 65536) as u64, w as u64, 0, 0, 0, 0, 0, 0, 0]);
 }
 
 fn words(all: [u32; 8], n: usize)
@@ -160,11 +160,11 @@ fn words(all: [u32; 8], n: usize)
 fn burst_answered(values: [u64; 9], room: [u32; 8], n: usize)
     requires { ⌜ n ≤ 8 ⌝ }
 {
-    text::fill(b":[ refused # at #| accepted:]", values);
+    form::fill(b":[ refused # at #| accepted:]", values);
     if !answer::is_set(values) {
         words(room, n);
     }
-    text::say(b"\n");
+    form::say(b"\n");
 }
 
 // A burst of the first n words.
@@ -180,7 +180,7 @@ fn burst_of(sent: [u32; 8], n: usize, before: Card) -> Card
 
 pub(crate) fn burst(sent: &[u8], before: Card) -> Card {
     let all = words_of(sent);
-    let n = slice::at_most(sent.len() / 4, 8);
+    let n = text::least(sent.len() / 4, 8);
     words(all, n);
     burst_of(all, n, before)
 }
@@ -188,6 +188,6 @@ pub(crate) fn burst(sent: &[u8], before: Card) -> Card {
 // The card with a name, which no packet can set.
 pub(crate) fn named(name: &[u8], before: Card) -> Card {
     let mut store = before.store;
-    slice::put(&mut store, NAME, name);
+    text::put(&mut store, NAME, name);
     with_store(store, before)
 }

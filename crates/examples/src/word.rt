@@ -1,6 +1,6 @@
 // Command words and SPI headers: their fields, and what these are written as.
 use crate::answer;
-use crate::text;
+use crate::form;
 use card::spi;
 use card::spi::Header;
 use lbp16::word;
@@ -23,12 +23,12 @@ fn of_fields(f: Fields) -> [u64; 9] {
 
 fn word_back(f: Fields) {
     let written = answer::of_word(word::word_of(f));
-    text::fill(b"[ refused # at #| written back%%]\n", written);
+    form::fill(b"[ refused # at #| written back%%]\n", written);
 }
 
 pub(crate) fn word(sent: &[u8]) {
     let f = word::fields_of(bytes::pair_at(sent, 0));
-    text::fill_with(
+    form::fill_with(
         b"*: [write|read],[| no] address,[ info,|] space #, # bytes,[| no] increment, count #;",
         of_fields(f),
         sent,
@@ -53,12 +53,12 @@ fn of_header(w: u32, h: Header) -> [u64; 9] {
 
 fn header_back(h: Header) {
     let written = answer::of_header(spi::header_word(h));
-    text::fill(b"[ refused # at #| written back @@]\n", written);
+    form::fill(b"[ refused # at #| written back @@]\n", written);
 }
 
 pub(crate) fn header(w: u32) {
     let h = spi::header_of(w);
-    text::fill(
+    form::fill(
         b" @@:[ read|][ write|][ command #|], address @,[| no] increment, count #;",
         of_header(w, h),
     );

@@ -1,33 +1,31 @@
+use borrow.Author.Needs.{needs}
 use Prim.Native.Nat.{_≤_}
+use mathlib.Core.Path.{_≡_, refl}
 use lib.ListN.{length, length-take, length-drop}
 use native.Mathlib.Omega.{arith}
-use borrow.Author.Needs.{needs}
-use Rattle.examples.proofs.text.lengths.Statement.{statement}
-use Rattle.examples.proofs.text.lengths.Tie as tie
+use Rattle.examples.proofs.form.lengths.Statement.{statement}
+use Rattle.examples.proofs.form.lengths.Tie as tie
 
 abbrev Inv-loop : tie.InvT-loop
-Inv-loop out rest₀ t4 rest = length rest ≤ length out
+Inv-loop out₀ at packets next₀ rest₀ t7 out next rest = (length out ≡ length out₀) × (length rest ≤ length packets)
 
 abbrev μ-loop : tie.MeasureT-loop
-μ-loop out rest₀ t4 rest = length rest
+μ-loop out₀ at packets next₀ rest₀ t7 out next rest = length rest
 
 loop-holds : tie.Need-loop-holds Inv-loop μ-loop
-loop-holds c = search needs
+loop-holds c = (refl, omega arith)
 
 frame-bytes-requires : tie.Need-frame-bytes-requires Inv-loop μ-loop
 frame-bytes-requires c κs = search needs
 
-slice-aggregate-say : tie.Need-slice-aggregate-say Inv-loop μ-loop
-slice-aggregate-say c = search needs
+slice-aggregate-numbered : tie.Need-slice-aggregate-numbered Inv-loop μ-loop
+slice-aggregate-numbered c = search needs
 
-say-requires : tie.Need-say-requires Inv-loop μ-loop
-say-requires c κs = search needs
+sub-numbered : tie.Need-sub-numbered Inv-loop μ-loop
+sub-numbered c = search needs
 
-sub-print-decimal : tie.Need-sub-print-decimal Inv-loop μ-loop
-sub-print-decimal c = search needs
-
-print-decimal-requires : tie.Need-print-decimal-requires Inv-loop μ-loop
-print-decimal-requires c κs = search needs
+numbered-requires : tie.Need-numbered-requires Inv-loop μ-loop
+numbered-requires c κs = search needs
 
 sub-rest : tie.Need-sub-rest Inv-loop μ-loop
 sub-rest c = search needs
@@ -42,7 +40,10 @@ loop-less : tie.Need-loop-less Inv-loop μ-loop
 loop-less c = simp (length-take, length-drop) (omega arith)
 
 loop-again : tie.Need-loop-again Inv-loop μ-loop
-loop-again c = simp (length-take, length-drop) (omega arith)
+loop-again c = (search needs, simp (length-take, length-drop) (omega arith))
+
+same-length : tie.Need-same-length Inv-loop μ-loop
+same-length c = search needs
 
 returns : tie.Need-returns Inv-loop μ-loop
 returns c = search needs
@@ -55,13 +56,13 @@ lengths-spec =
     μ-loop
     loop-holds
     frame-bytes-requires
-    slice-aggregate-say
-    say-requires
-    sub-print-decimal
-    print-decimal-requires
+    slice-aggregate-numbered
+    sub-numbered
+    numbered-requires
     sub-rest
     part-rest-start
     part-rest-end
     loop-less
     loop-again
+    same-length
     returns)
