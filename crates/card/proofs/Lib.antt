@@ -8,6 +8,3 @@ pub mod CommandRunLaws
 pub mod PerformLaws
 pub mod AnswerLaws
 pub mod CellLaws
-pub mod SpiLaws
-pub mod ShortBurstLaws
-pub mod Examples

@@ -1,4 +1,3 @@
 pub mod Run
-pub mod Spi
 pub mod Inside
 pub mod Cells

@@ -1,6 +1,6 @@
-// One packet, and one SPI burst, on a card store.
+// One packet on a card store, and cells of the store.
 mod block;
+pub mod cells;
 pub mod check;
 mod element;
 pub mod run;
-pub mod spi;

@@ -16,7 +16,7 @@ use Rattle.packet.specs.Command
 use Rattle.packet.specs.Judge
 use Rattle.packet.specs.Verdict
 use Rattle.card.specs.Run
-use Rattle.card.specs.Spi
+use Rattle.spi.specs.Spi
 use Rattle.cue.specs.Records
 use Rattle.cue.specs.Packing
 use Rattle.cue.specs.Output

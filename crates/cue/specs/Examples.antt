@@ -10,8 +10,8 @@ use Rattle.lbp16.specs.declared.word.Fields.{Fields}
 use Rattle.packet.specs.Bytes.{number}
 use Rattle.packet.specs.Command.{limit}
 use Rattle.card.specs.Run.{runPacket}
-use Rattle.card.specs.Spi.{headerOf}
-use Rattle.card.specs.declared.spi.Header.{Header}
+use Rattle.spi.specs.Spi.{headerOf}
+use Rattle.spi.specs.declared.Header.{Header}
 use Rattle.cue.specs.Compile.{compiled}
 
 pub record Example : Type 0 where

@@ -1,13 +1,12 @@
 // Answers as the values of a form: 1, number and place of a refusal, or 0, two values to pass over, and those of the answer.
 use card::run::RanList;
-use card::spi::BurstAnswer;
-use card::spi::HeaderWritten;
 use cue::CompileAnswer;
 use independent::Independence;
 use lbp16::Refusal;
 use lbp16::word::Written;
 use packet::judge::Verdict;
 use salvage::SalvageAnswer;
+use spi::HeaderWritten;
 
 // The first value of an answer.
 pub(crate) fn first(values: [u64; 9]) -> u64 {
@@ -31,10 +30,10 @@ pub(crate) fn of_packet(ran: RanList) -> [u64; 9] {
     }
 }
 
-pub(crate) fn of_burst(answer: BurstAnswer) -> [u64; 9] {
+pub(crate) fn of_burst(answer: Verdict) -> [u64; 9] {
     match answer {
-        BurstAnswer::Accepted(_) => [0; 9],
-        BurstAnswer::Refused(r) => refused(r),
+        Verdict::Accepted(_) => [0; 9],
+        Verdict::Refused(r) => refused(r),
     }
 }
 

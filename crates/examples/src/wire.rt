@@ -4,7 +4,6 @@ use crate::form;
 use crate::slice;
 use crate::slice::Bytes;
 use card::run;
-use card::spi;
 use packet::bytes;
 ghost use Prim.Native.Nat.{_≤_};
 

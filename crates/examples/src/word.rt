@@ -1,11 +1,10 @@
 // Command words and SPI headers: their fields, and what these are written as.
 use crate::answer;
 use crate::form;
-use card::spi;
-use card::spi::Header;
 use lbp16::word;
 use lbp16::word::Fields;
 use packet::bytes;
+use spi::Header;
 
 fn of_fields(f: Fields) -> [u64; 9] {
     [

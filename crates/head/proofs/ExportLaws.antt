@@ -18,10 +18,9 @@ use Rattle.packet.specs.Counts.{elementsMoved}
 use Rattle.packet.specs.declared.judge.Verdict.{Verdict}
 use Rattle.card.specs.Run.{checkedList, ListOutcome, asList, runList, ranList}
 use Rattle.card.specs.declared.run.RanList.{RanList}
-use Rattle.card.specs.Spi.{runBurst, burstListed, burstLeft, mostInBurst}
-use Rattle.card.specs.declared.spi.BurstAnswer.{BurstAnswer}
+use Rattle.spi.specs.Spi.{runBurst, burstLeft, mostInBurst}
 use Rattle.card.proofs.RunLaws.{CheckRefused, RunRefused, refusals-listed}
-use Rattle.card.proofs.SpiLaws.{burst-refused-in-table}
+use Rattle.spi.proofs.SpiLaws.{burst-refused-in-table}
 use Rattle.cue.specs.Compile.{compiled, compileListed, left}
 use Rattle.cue.specs.declared.CompileAnswer.{CompileAnswer}
 use Rattle.cue.proofs.CompileLaws.{RefusedList, refused-numbers}
@@ -98,24 +97,24 @@ unfolding exportCheck
 check-left packet store pointers r number value e v n = rw (v, n, e) refl
 
 -- what a burst's call leaves, from what the burst answers and leaves
-pub spi-left : (words store room : List ℕ) (a : BurstAnswer) (number value : ℕ) (store′ room′ : List ℕ)
+pub spi-left : (words store room : List ℕ) (a : Verdict) (number value : ℕ) (store′ room′ : List ℕ)
     → burstLeft a store′ room′ ≡ runBurst words store room
-    → value ≡ valueOf (burstListed a)
-    → number ≡ numberOf (burstListed a)
+    → value ≡ valueOf (verdictListed a)
+    → number ≡ numberOf (verdictListed a)
     → spiLeft number value store′ room′ ≡ exportSpi words store room
 unfolding burstLeft exportSpi
 spi-left words store room a number value store′ room′ e v n =
     rw (v, n) (ap (λ b. spiLeft (numberOf (b .answer)) (valueOf (b .answer)) (b .store) (b .room)) e)
 
 -- the value of a burst's call: the elements done, or the place, which is 0
-pub spi-bounded : (words store room : List ℕ) (a : BurstAnswer) (value : ℕ) (store′ room′ : List ℕ)
+pub spi-bounded : (words store room : List ℕ) (a : Verdict) (value : ℕ) (store′ room′ : List ℕ)
     → burstLeft a store′ room′ ≡ runBurst words store room
-    → ((n : ℕ) → burstListed a ≡ Answer.accepted (n ∷ []) → n ≤ mostInBurst)
-    → value ≡ valueOf (burstListed a)
+    → ((n : ℕ) → verdictListed a ≡ Answer.accepted (n ∷ []) → n ≤ mostInBurst)
+    → value ≡ valueOf (verdictListed a)
     → value ≤ mostInBurst
-unfolding burstLeft burstListed valueOf
-spi-bounded words store room (BurstAnswer.Accepted n) value store′ room′ e h v = rw v (h n refl)
-spi-bounded words store room (BurstAnswer.Refused r) value store′ room′ e h v =
+unfolding burstLeft verdictListed valueOf
+spi-bounded words store room (Verdict.Accepted n) value store′ room′ e h v = rw v (h n refl)
+spi-bounded words store room (Verdict.Refused r) value store′ room′ e h v =
     let p = burst-refused-in-table words store room (r .number) (r .place) (sym (ap (λ b. b .answer) e)) .at-start in
     omega (arith, v)
 

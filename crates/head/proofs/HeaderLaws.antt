@@ -9,9 +9,9 @@ use lib.ListN.{length, getD}
 use borrow.Author.Tests.{eq-eqb, ne-eqb, lt-ltb, ltb-false}
 use Rattle.lbp16.specs.Answer.{refused}
 use Rattle.lbp16.proofs.BoolLaws.{or-false}
-use Rattle.card.specs.Spi.{headerOf, headerWritten, headerListed, otherCommand}
-use Rattle.card.specs.declared.spi.Header.{Header}
-use Rattle.card.specs.declared.spi.HeaderWritten.{HeaderWritten}
+use Rattle.spi.specs.Spi.{headerOf, headerWritten, headerListed, otherCommand}
+use Rattle.spi.specs.declared.Header.{Header}
+use Rattle.spi.specs.declared.HeaderWritten.{HeaderWritten}
 use Rattle.packet.specs.Rules.{first}
 use Rattle.head.specs.Exports.{fieldsLeft}
 use Rattle.head.specs.Headers.{headerNumbers, headerFrom, exportHeader, badHeader, exportHeaderWord}

@@ -10,7 +10,7 @@ use Rattle.lbp16.specs.declared.word.Fields.{Fields}
 use Rattle.packet.specs.Verdict.{answerTo}
 use Rattle.packet.specs.Counts.{countsOf, sum}
 use Rattle.card.specs.Run.{checkedList, runList}
-use Rattle.card.specs.Spi.{runBurst}
+use Rattle.spi.specs.Spi.{runBurst}
 use Rattle.cue.specs.Compile.{compiled}
 
 -- the number returned: the refusal's, 0 if accepted

@@ -6,8 +6,8 @@ use lib.ListN.{length, getD}
 use lib.Dec.{eqb, ltb}
 use Rattle.lbp16.specs.Answer.{Answer, refused}
 use Rattle.lbp16.specs.Word.{bit}
-use Rattle.card.specs.Spi.{headerOf, headerWritten}
-use Rattle.card.specs.declared.spi.Header.{Header}
+use Rattle.spi.specs.Spi.{headerOf, headerWritten}
+use Rattle.spi.specs.declared.Header.{Header}
 use Rattle.head.specs.Exports.{FieldsExport, fieldsLeft}
 
 -- A header's fields as four numbers: address, command, increment, count. Increment is 0 or 1.

@@ -1,13 +1,12 @@
 // The header of an SPI burst, for C.
 use crate::lent;
-use card::spi;
-use card::spi::Header;
-use card::spi::HeaderWritten;
+use spi::Header;
+use spi::HeaderWritten;
 ghost use mathlib.Core.Path.{_≡_};
 ghost use mathlib.Core.Bool.{false};
 ghost use Prim.Native.Nat.{min};
 ghost use lib.ListN.{length};
-ghost use Rattle.card.specs.Spi.{headerWritten};
+ghost use Rattle.spi.specs.Spi.{headerWritten};
 ghost use Rattle.head.specs.Exports.{given, fieldsLeft, wordGiven};
 ghost use Rattle.head.specs.Headers.{headerNumbers, headerFrom, exportHeader, badHeader, exportHeaderWord};
 

@@ -1,5 +1,4 @@
 // What C lends as plain numbers: pointers back, fields there and back; and an answer as its number and its value.
-use card::spi::BurstAnswer;
 use cue::CompileAnswer;
 use lbp16::pointer::Pointers;
 use lbp16::pointer::SpacePointers;
@@ -12,7 +11,6 @@ ghost use lib.Seq.{sets};
 ghost use Rattle.lbp16.specs.Pointer.{spaceList, pointerList};
 ghost use Rattle.lbp16.specs.Word.{bit};
 ghost use Rattle.packet.specs.Verdict.{verdictListed};
-ghost use Rattle.card.specs.Spi.{burstListed};
 ghost use Rattle.cue.specs.Compile.{compileListed};
 ghost use Rattle.head.specs.Exports.{numberOf, valueOf, countOf, fieldBytes, fieldsFrom, badFlags};
 
@@ -90,24 +88,6 @@ pub(crate) fn verdict_value(answer: Verdict) -> u64
     match answer {
         Verdict::Accepted(n) => n,
         Verdict::Refused(r) => r.place,
-    }
-}
-
-pub(crate) fn burst_number(answer: BurstAnswer) -> u32
-    ensures { λ r. ⌜ r ≡ numberOf (burstListed answer) ⌝ }
-{
-    match answer {
-        BurstAnswer::Accepted(_) => 0,
-        BurstAnswer::Refused(r) => r.number,
-    }
-}
-
-pub(crate) fn burst_value(answer: BurstAnswer) -> u64
-    ensures { λ r. ⌜ r ≡ valueOf (burstListed answer) ⌝ }
-{
-    match answer {
-        BurstAnswer::Accepted(n) => n,
-        BurstAnswer::Refused(r) => r.place,
     }
 }
 

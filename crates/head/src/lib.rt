@@ -12,13 +12,12 @@ mod why_refused;
 
 use card::check;
 use card::run;
-use card::spi;
 use lbp16::word;
 use lbp16::word::Written;
 ghost use mathlib.Core.Path.{_≡_};
 ghost use Prim.Native.Nat.{_≤_};
 ghost use Rattle.card.specs.Run.{mostElements};
-ghost use Rattle.card.specs.Spi.{mostInBurst};
+ghost use Rattle.spi.specs.Spi.{mostInBurst};
 ghost use Rattle.cue.specs.Demand3.{Demand3};
 ghost use Rattle.head.specs.Exports.{given, exportCheck, runLeft, exportRun, elementsGiven, spiLeft, exportSpi};
 ghost use Rattle.head.specs.Exports.{compileLeft, exportCompile, fieldsLeft, exportFields, exportWord, wordGiven};
@@ -69,8 +68,8 @@ pub extern "C" fn head_spi(
     ensures bounded { λ r. ⌜ now (value .exit) ≤ mostInBurst ⌝ }
 {
     let done = spi::burst(words, store, answer);
-    *value = lent::burst_value(done);
-    lent::burst_number(done)
+    *value = lent::verdict_value(done);
+    lent::verdict_number(done)
 }
 
 // The fields of a command word, as seven bytes.

@@ -6,11 +6,11 @@ use Rattle.head.proofs.ExportLaws.{spi-left, spi-bounded}
 burst-requires : tie.Need-burst-requires
 burst-requires c κs = search needs
 
-burst-value-requires : tie.Need-burst-value-requires
-burst-value-requires c κs = search needs
+verdict-value-requires : tie.Need-verdict-value-requires
+verdict-value-requires c κs = search needs
 
-burst-number-requires : tie.Need-burst-number-requires
-burst-number-requires c κs = search needs
+verdict-number-requires : tie.Need-verdict-number-requires
+verdict-number-requires c κs = search needs
 
 same-length : tie.Need-same-length
 same-length c = search needs
@@ -21,8 +21,8 @@ same-length-2 c = search needs
 returns : tie.Need-returns
 returns c =
     let done = c .before .before .before .before .before .before .burst .ensures in (
-      spi-left _ _ _ _ _ _ _ _ (done .0) (c .before .burst-value .ensures) (c .burst-number .ensures),
-      spi-bounded _ _ _ _ _ _ _ (done .0) (done .1) (c .before .burst-value .ensures),
+      spi-left _ _ _ _ _ _ _ _ (done .0) (c .before .verdict-value .ensures) (c .verdict-number .ensures),
+      spi-bounded _ _ _ _ _ _ _ (done .0) (done .1) (c .before .verdict-value .ensures),
     )
 
 pub head-spi-spec : {M : Type 1} → statement M
@@ -30,8 +30,8 @@ head-spi-spec =
     tie.close
     (tie.spec
     burst-requires
-    burst-value-requires
-    burst-number-requires
+    verdict-value-requires
+    verdict-number-requires
     same-length
     same-length-2
     returns)

@@ -2,7 +2,7 @@ use borrow.Author.Needs.{needs}
 use Rattle.head.proofs.headers.head_header_word.Statement.{statement}
 use Rattle.head.proofs.headers.head_header_word.Tie as tie
 use mathlib.Core.Path.{refl, sym, _∙_}
-use Rattle.card.specs.Spi.{headerListed}
+use Rattle.spi.specs.Spi.{headerListed}
 use Rattle.head.specs.Exports.{numberOf, wordLeft, wordGiven}
 use Rattle.head.proofs.HeaderLaws.{other-length, bad-fields, answered}
 
