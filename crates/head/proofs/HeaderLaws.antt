@@ -5,48 +5,18 @@ use mathlib.Core.Bool.{Bool, true, false, cond}
 use mathlib.Core.List.{List}
 use native.Mathlib.Omega.{arith}
 use native.Mathlib.Decide.{decLe}
-use lib.ListN.{length, getD}
-use borrow.Author.Tests.{eq-eqb, ne-eqb, lt-ltb, ltb-false}
+use lib.ListN.{getD}
+use borrow.Author.Tests.{ne-eqb, lt-ltb, ltb-false}
 use Rattle.lbp16.specs.Answer.{refused}
 use Rattle.lbp16.proofs.BoolLaws.{or-false}
-use Rattle.spi.specs.Spi.{headerOf, headerWritten, headerListed, otherCommand}
+use Rattle.spi.specs.Spi.{headerWritten, otherCommand}
 use Rattle.spi.specs.declared.Header.{Header}
-use Rattle.spi.specs.declared.HeaderWritten.{HeaderWritten}
 use Rattle.packet.specs.Rules.{first}
-use Rattle.head.specs.Exports.{fieldsLeft}
-use Rattle.head.specs.Headers.{headerNumbers, headerFrom, exportHeader, badHeader, exportHeaderWord}
+use Rattle.head.specs.Headers.{badHeader}
 
-module _ (word : ℕ) (fields : List ℕ) where
-  pub four : length fields ≡ 4 → exportHeader word fields ≡ fieldsLeft 0 (headerNumbers (headerOf word))
-  unfolding exportHeader
-  four h = rw (eq-eqb _ _ h)
-
-  pub not-four : (length fields ≡ 4 → ⊥) → exportHeader word fields ≡ fieldsLeft 13 fields
-  unfolding exportHeader
-  not-four h = rw (ne-eqb _ _ h)
-
-module _ (fields : List ℕ) where
-  pub other-length : (length fields ≡ 4 → ⊥) → exportHeaderWord fields ≡ refused 13 0
-  unfolding exportHeaderWord
-  other-length h = rw (ne-eqb _ _ h)
-
-  pub bad-fields : length fields ≡ 4 → badHeader fields ≡ true → exportHeaderWord fields ≡ refused 13 0
-  unfolding exportHeaderWord
-  bad-fields h e = rw (eq-eqb _ _ h, e)
-
-  -- the answer where address and increment are good, from the header written
-  pub answered : (h : Header) (r : HeaderWritten)
-      → length fields ≡ 4
-      → badHeader fields ≡ false
-      → headerWritten h ≡ headerWritten (headerFrom fields)
-      → headerListed r ≡ headerWritten h
-      → exportHeaderWord fields ≡ headerListed r
-  unfolding exportHeaderWord
-  answered h r l e given w = rw (eq-eqb _ _ l, e) (sym (w ∙ given))
-
-  pub address-fits : badHeader fields ≡ false → getD fields 0 0 ≤ 65535
-  unfolding badHeader
-  address-fits e = ltb-false _ _ (or-false _ _ e .0)
+pub address-fits : (fields : List ℕ) → badHeader fields ≡ false → getD fields 0 0 ≤ 65535
+unfolding badHeader
+address-fits fields e = ltb-false _ _ (or-false _ _ e .0)
 
 abbrev pub headerWith : ℕ → ℕ → Bool → ℕ → Header
 headerWith address command increment count =

@@ -5,12 +5,13 @@ use mathlib.Core.List.{List}
 use Rattle.parts.specs.Parts.{PartCall, partListed}
 use Rattle.parts.specs.Parts as parts
 use Rattle.parts.specs.declared.PartAnswer.{PartAnswer}
-use Rattle.head.specs.Exports.{numberOf, valueOf}
+use Rattle.head.specs.Exports.{numbersOf}
 use Rattle.head.specs.Part.{partLeft, ofPart}
+use Rattle.head.specs.declared.numbers.Numbers.{Numbers}
 
 -- a call's answer as numbers
-pub part-left : (c : PartCall) (a : PartAnswer) (number taken value n : ℕ) (state room : List ℕ)
-    → parts.partLeft a n state room ≡ c → taken ≡ n → value ≡ valueOf (partListed a) → number ≡ numberOf (partListed a)
-    → partLeft number taken value state room ≡ ofPart c
-unfolding ofPart parts.partLeft
-part-left c a number taken value n state room e t v m = rw (t, v, m) (ap ofPart e)
+pub part-left : (c : PartCall) (a : PartAnswer) (n : Numbers) (taken : ℕ) (state room : List ℕ)
+    → parts.partLeft a taken state room ≡ c → n ≡ numbersOf (partListed a)
+    → partLeft (n .0) taken (n .1) state room ≡ ofPart c
+unfolding ofPart parts.partLeft numbersOf
+part-left c a n taken state room e g = rw g (ap ofPart e)

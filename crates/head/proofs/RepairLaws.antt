@@ -4,11 +4,11 @@ use mathlib.Core.Path.{_≡_, ap}
 use mathlib.Core.List.{List}
 use Rattle.salvage.specs.Salvage.{Salvaged, salvageListed, left}
 use Rattle.salvage.specs.declared.SalvageAnswer.{SalvageAnswer}
-use Rattle.head.specs.Exports.{numberOf, valueOf, countOf}
+use Rattle.head.specs.Exports.{numbersOf}
 use Rattle.head.specs.Repair.{salvageLeft, ofSalvaged}
+use Rattle.head.specs.declared.numbers.Numbers.{Numbers}
 
-pub salvage-left : (a : SalvageAnswer) (room log : List ℕ) (s : Salvaged) → left a room log ≡ s → (n b e : ℕ)
-    → n ≡ numberOf (salvageListed a) → b ≡ valueOf (salvageListed a) → e ≡ countOf (salvageListed a)
-    → salvageLeft n b e room log ≡ ofSalvaged s
-unfolding ofSalvaged
-salvage-left a room log s q n b e e₁ e₂ e₃ = rw (e₁, e₂, e₃) (ap ofSalvaged q)
+pub salvage-left : (a : SalvageAnswer) (room log : List ℕ) (s : Salvaged) (n : Numbers) → left a room log ≡ s
+    → n ≡ numbersOf (salvageListed a) → salvageLeft (n .0) (n .1) (n .2) room log ≡ ofSalvaged s
+unfolding ofSalvaged numbersOf
+salvage-left a room log s n e g = rw g (ap ofSalvaged e)

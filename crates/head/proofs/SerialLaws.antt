@@ -8,16 +8,17 @@ use borrow.Author.Tests.{eq-eqb, ne-eqb, lt-ltb, le-ltb}
 use Rattle.lbp16.specs.Answer.{Answer, accepted, refused}
 use Rattle.sserial.specs.Table.{Checked, laid}
 use Rattle.sserial.specs.Table as table
-use Rattle.sserial.specs.Calls.{counted, indexed, packedTo, unpackedTo}
+use Rattle.sserial.specs.Calls.{Outcome, counted, indexed}
 use Rattle.sserial.specs.declared.table.Direction.{Direction}
-use Rattle.head.specs.Exports.{numberOf, valueOf, countOf}
-use Rattle.head.specs.Serial.{tableLeft, exportTable, orRefused, callLeft, shownIn, exportField, exported, directionOf, exportPack, exportUnpack}
+use Rattle.head.specs.Exports.{numberOf, valueOf, countOf, numbersOf}
+use Rattle.head.specs.Serial.{tableLeft, exportTable, orRefused, callLeft, shownIn, exportField, exported, directionOf, exportCall}
+use Rattle.head.specs.declared.numbers.Numbers.{Numbers}
 
-pub table-exported : (k : Checked) (a : Answer) (number inputs outputs : ℕ) → a ≡ counted k
-    → number ≡ numberOf a → inputs ≡ valueOf a → outputs ≡ countOf a → tableLeft number inputs outputs ≡ exportTable k
-unfolding counted exportTable numberOf valueOf countOf
-table-exported (table.refused n) a number inputs outputs e p q r = rw (p, q, r, e) refl
-table-exported (laid fs) a number inputs outputs e p q r = rw (p, q, r, e) refl
+pub table-exported : (k : Checked) (a : Answer) (n : Numbers) → a ≡ counted k → n ≡ numbersOf a
+    → tableLeft (n .0) (n .1) (n .2) ≡ exportTable k
+unfolding counted exportTable numbersOf numberOf valueOf countOf
+table-exported (table.refused m) a n e g = rw (g, e) refl
+table-exported (laid fs) a n e g = rw (g, e) refl
 
 -- an export from its parts
 pub numbered : {a b : ℕ} (left : List ℕ) → a ≡ b → callLeft a left ≡ callLeft b left
@@ -55,21 +56,11 @@ module _ (k : Checked) where
     seven-words n = rw (eq-eqb (length room) 7 n) refl
 
   -- another direction than 0 and 1, and these two
-  module _ (direction channel : ℕ) (values registers : List ℕ) where
-    pub no-pack : 1 < direction → exportPack k direction channel values registers ≡ callLeft (numberOf (orRefused k)) registers
-    unfolding exportPack
-    no-pack l = rw (lt-ltb 1 direction l) refl
+  module _ (direction : ℕ) (lent : List ℕ) (call : Direction → Outcome) where
+    pub no-call : 1 < direction → exportCall k direction lent call ≡ callLeft (numberOf (orRefused k)) lent
+    unfolding exportCall
+    no-call l = rw (lt-ltb 1 direction l) refl
 
-    pub pack-by : direction ≤ 1 → (d : Direction) → d ≡ directionOf direction
-        → exportPack k direction channel values registers ≡ exported (packedTo k d channel values registers)
-    unfolding exportPack
-    pack-by l d e = rw (le-ltb 1 direction l, e) refl
-
-    pub no-unpack : 1 < direction → exportUnpack k direction channel registers values ≡ callLeft (numberOf (orRefused k)) values
-    unfolding exportUnpack
-    no-unpack l = rw (lt-ltb 1 direction l) refl
-
-    pub unpack-by : direction ≤ 1 → (d : Direction) → d ≡ directionOf direction
-        → exportUnpack k direction channel registers values ≡ exported (unpackedTo k d channel registers values)
-    unfolding exportUnpack
-    unpack-by l d e = rw (le-ltb 1 direction l, e) refl
+    pub call-by : direction ≤ 1 → (d : Direction) → d ≡ directionOf direction → exportCall k direction lent call ≡ exported (call d)
+    unfolding exportCall
+    call-by l d e = rw (le-ltb 1 direction l, e) refl

@@ -11,8 +11,9 @@ use Rattle.cue.proofs.CompileLaws.{refused-numbers, refusal-changes-nothing}
 use Rattle.tight.specs.Demand3.{TightDemand3}
 use Rattle.tight.proofs.Demand3Laws.{tight-demand3}
 use Rattle.planner.specs.Planner.{TightenedBy, Tightened, EightBytes}
-use Rattle.head.specs.Exports.{numberOf, valueOf, countOf, CompileExport, compileLeft, exportCompile}
+use Rattle.head.specs.Exports.{numberOf, valueOf, countOf, numbersOf, CompileExport, compileLeft, exportCompile}
 use Rattle.head.specs.Tighter.{TightenExport, EightExport}
+use Rattle.head.specs.declared.numbers.Numbers.{Numbers}
 use Rattle.head.proofs.ExportLaws.{never-zero}
 
 -- what a compilation answers and leaves, as C sees it
@@ -58,18 +59,18 @@ tightened-demand3 list room c t z = go (exportCompile list room .number) refl
     go (suc n) e = let same = ap (λ x. x .number) (t .refuses (λ y. omega arith)) in absurd (omega arith)
 
 -- what the code returns and leaves, and its promises
-module _ (list room : List ℕ) (a : CompileAnswer) (number bytes packets : ℕ) (room′ : List ℕ)
-    (b : bytes ≡ valueOf (compileListed a)) (p : packets ≡ countOf (compileListed a)) (n : number ≡ numberOf (compileListed a)) where
-  is-exported : compileLeft number bytes packets room′ ≡ exported (left a room′)
-  unfolding exported left
-  is-exported = rw (b, p, n) refl
+module _ (list room : List ℕ) (a : CompileAnswer) (n : Numbers) (room′ : List ℕ) (g : n ≡ numbersOf (compileListed a)) where
+  is-exported : compileLeft (n .0) (n .1) (n .2) room′ ≡ exported (left a room′)
+  unfolding exported left numbersOf
+  is-exported = rw g refl
 
-  pub tighten-left : Tightened list room (left a room′) → TightenExport list room (compileLeft number bytes packets room′)
+  pub tighten-left : Tightened list room (left a room′) → TightenExport list room (compileLeft (n .0) (n .1) (n .2) room′)
   tighten-left t = rw is-exported (tightened-left list room _ t)
 
-  pub tighten-eight : EightBytes list room (compileListed a) → EightExport list room (compileLeft number bytes packets room′)
-  unfolding EightBytes EightExport numberOf valueOf countOf
-  tighten-eight f k x o h = rw (b, p, n, f k x o h) refl
+  pub tighten-eight : EightBytes list room (compileListed a)
+      → EightExport list room (compileLeft (n .0) (n .1) (n .2) room′)
+  unfolding EightBytes EightExport numbersOf numberOf valueOf countOf
+  tighten-eight f k x o h = rw (g, f k x o h) refl
 
-  pub tighten-demand3 : Tightened list room (left a room′) → number ≡ 0 → TightDemand3 list (take bytes room′) packets
+  pub tighten-demand3 : Tightened list room (left a room′) → n .0 ≡ 0 → TightDemand3 list (take (n .1) room′) (n .2)
   tighten-demand3 t z = tightened-demand3 list room _ (tighten-left t) z

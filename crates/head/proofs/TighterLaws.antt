@@ -1,6 +1,6 @@
 -- Laws of head_tight_check.
 use Prim.Native.Nat.{ℕ}
-use mathlib.Core.Path.{_≡_, refl, sym, _∙_}
+use mathlib.Core.Path.{_≡_, refl, sym, ap, _∙_}
 use mathlib.Core.List.{List}
 use mathlib.Core.Bool.{Bool, true, false, cond}
 use native.Mathlib.Omega.{arith}
@@ -45,15 +45,15 @@ own-refusal list proposal n i = go (recordsOf list)
 
 -- what the code returns and leaves, and its promise
 module _ (list output : List ℕ) (a : TightAnswer) (e : checkListed a ≡ checked list output) (number value : ℕ)
-    (n : number ≡ tightGiven (checkListed a) .number) (v : value ≡ tightGiven (checkListed a) .value) where
+    (g : given number value ≡ tightGiven (checkListed a)) where
   pub tight-given : given number value ≡ exportTightCheck list output
   unfolding exportTightCheck
-  tight-given = rw (n, v, e) refl
+  tight-given = g ∙ ap tightGiven e
 
   -- no refusal has the number 0
   pub tight-promise : (P : ℕ → Type 0) → ((count : ℕ) → checkListed a ≡ accepted count → P count) → number ≡ 0 → P value
   unfolding tightGiven
-  tight-promise P f z = go (checkListed a) refl n v
+  tight-promise P f z = go (checkListed a) refl (ap (λ x. x .number) g) (ap (λ x. x .value) g)
     where
       go : (c : Checked) → checkListed a ≡ c → number ≡ tightGiven c .number → value ≡ tightGiven c .value → P value
       go (accepted count) q n v = rw v (f count q)

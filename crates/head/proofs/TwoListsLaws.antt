@@ -1,6 +1,6 @@
 -- Laws of head_independent.
 use Prim.Native.Nat.{ℕ}
-use mathlib.Core.Path.{_≡_, sym, _∙_}
+use mathlib.Core.Path.{_≡_, sym, ap, _∙_}
 use mathlib.Core.List.{List}
 use Rattle.independent.specs.Independent.{Compared, independence}
 use Rattle.independent.specs.EitherOrder.{EitherOrder}
@@ -8,7 +8,6 @@ use Rattle.head.specs.TwoLists.{twoListsLeft}
 
 -- what the code returns and leaves, and its promise
 pub independent-left : (first second : List ℕ) (a : Compared) → a ≡ independence first second
-    → (a .number ≡ 0 → EitherOrder first second) → (number list place : ℕ) → number ≡ a .number → list ≡ a .list → place ≡ a .place
+    → (a .number ≡ 0 → EitherOrder first second) → (number list place : ℕ) → twoListsLeft number list place ≡ a
     → (twoListsLeft number list place ≡ independence first second) × (number ≡ 0 → EitherOrder first second)
-independent-left first second a e either number list place n l p =
-    ((λ i. record { number = n i; list = l i; place = p i }) ∙ e, λ z. either (sym n ∙ z))
+independent-left first second a e either number list place g = (g ∙ e, λ z. either (sym (ap (λ c. c .number) g) ∙ z))

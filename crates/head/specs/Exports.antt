@@ -12,6 +12,7 @@ use Rattle.packet.specs.Counts.{countsOf, sum}
 use Rattle.card.specs.Run.{checkedList, runList}
 use Rattle.spi.specs.Spi.{runBurst}
 use Rattle.cue.specs.Compile.{compiled}
+use Rattle.head.specs.declared.numbers.Numbers.{Numbers}
 
 -- the number returned: the refusal's, 0 if accepted
 unfoldable pub numberOf : Answer → ℕ
@@ -24,14 +25,18 @@ valueOf (accepted []) = 0
 valueOf (accepted (v ∷ vs)) = v
 valueOf (refused number place) = place
 
--- the second value answered: head_compile's packet count, 0 if refused
+-- the second value answered, 0 if none was or if refused
 unfoldable pub countOf : Answer → ℕ
 countOf (accepted []) = 0
 countOf (accepted (v ∷ [])) = 0
 countOf (accepted (v ∷ w ∷ ws)) = w
 countOf (refused number place) = 0
 
--- All that head_check returns and writes.
+-- all three
+unfoldable pub numbersOf : Answer → Numbers
+numbersOf a = (numberOf a, valueOf a, countOf a)
+
+-- The number returned, and the value written beside it.
 pub record Given : Type 0 where
   pub number : ℕ
   pub value : ℕ
@@ -121,7 +126,7 @@ fieldsFrom bytes =
       count = getD bytes 6 0;
     }
 
--- All that head_fields returns and leaves. Refused with 13 where there is not room for exactly seven bytes.
+-- The number returned, and what stands in the fields lent.
 pub record FieldsExport : Type 0 where
   pub number : ℕ
   pub fields : List ℕ
@@ -129,6 +134,7 @@ pub record FieldsExport : Type 0 where
 abbrev pub fieldsLeft : ℕ → List ℕ → FieldsExport
 fieldsLeft number fields = record { number = number; fields = fields }
 
+-- Refused with 13 where there is not room for exactly seven bytes.
 unfoldable pub exportFields : ℕ → List ℕ → FieldsExport
 exportFields word fields =
     cond (eqb (length fields) 7) (fieldsLeft 0 (fieldBytes (fieldsOf word))) (fieldsLeft 13 fields)
@@ -149,6 +155,6 @@ wordLeft (accepted []) word = word
 wordLeft (accepted (w ∷ ws)) word = w
 wordLeft (refused number place) word = word
 
--- All that head_word returns and leaves: the number, and what stands in the word lent.
+-- The number returned, and what stands in the word lent.
 unfoldable pub wordGiven : Answer → ℕ → Given
 wordGiven a word = given (numberOf a) (wordLeft a word)

@@ -6,35 +6,17 @@ use lib.ListN.{length}
 use lib.Dec.{eqb}
 use Rattle.recording.specs.Recording.{Verdict, yes, refused, badPacket, badLength, badByte, cut, unmarked, Said, judged}
 use Rattle.lbp16.specs.Pointer.{pointersOf, pointerList}
+use Rattle.head.specs.declared.numbers.Numbers.{Numbers}
 
-unfoldable pub judgedNumber : Verdict → ℕ
-judgedNumber (yes n) = 0
-judgedNumber (refused n place) = n
-judgedNumber (badPacket i) = 61
-judgedNumber (badLength i) = 62
-judgedNumber (badByte i k) = 63
-judgedNumber (cut part) = 64
-judgedNumber (unmarked part) = 65
-
--- the packets judged, or the packet or the part at fault
-unfoldable pub judgedIndex : Verdict → ℕ
-judgedIndex (yes n) = n
-judgedIndex (refused n place) = 0
-judgedIndex (badPacket i) = i
-judgedIndex (badLength i) = i
-judgedIndex (badByte i k) = i
-judgedIndex (cut part) = part
-judgedIndex (unmarked part) = part
-
--- a wrong byte's place in its reply
-unfoldable pub judgedPlace : Verdict → ℕ
-judgedPlace (yes n) = 0
-judgedPlace (refused n place) = place
-judgedPlace (badPacket i) = 0
-judgedPlace (badLength i) = 0
-judgedPlace (badByte i k) = k
-judgedPlace (cut part) = 0
-judgedPlace (unmarked part) = 0
+-- The number returned; the packets judged, or the packet or the part at fault; a wrong byte's place in its reply.
+unfoldable pub judgedNumbers : Verdict → Numbers
+judgedNumbers (yes n) = (0, n, 0)
+judgedNumbers (refused n place) = (n, 0, place)
+judgedNumbers (badPacket i) = (61, i, 0)
+judgedNumbers (badLength i) = (62, i, 0)
+judgedNumbers (badByte i k) = (63, i, k)
+judgedNumbers (cut part) = (64, part, 0)
+judgedNumbers (unmarked part) = (65, part, 0)
 
 pub record JudgeExport : Type 0 where
   pub number : ℕ
@@ -49,7 +31,8 @@ judgeLeft number index place store pointers =
 
 unfoldable pub ofSaid : Said → JudgeExport
 ofSaid s =
-    judgeLeft (judgedNumber (s .verdict)) (judgedIndex (s .verdict)) (judgedPlace (s .verdict)) (s .store) (pointerList (s .pointers))
+    let n = judgedNumbers (s .verdict) in
+    judgeLeft (n .0) (n .1) (n .2) (s .store) (pointerList (s .pointers))
 
 -- Refused with 1 where there are not eight pointers.
 unfoldable pub exportJudge : List ℕ → List ℕ → List ℕ → JudgeExport

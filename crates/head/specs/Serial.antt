@@ -60,12 +60,12 @@ unfoldable pub directionOf : ℕ → Direction
 directionOf d = cond (eqb d 0) Inputs Outputs
 
 -- 40 also for a direction other than 0 and 1
+unfoldable pub exportCall : Checked → ℕ → List ℕ → (Direction → Outcome) → CallExport
+exportCall k direction lent call =
+    cond (ltb 1 direction) (callLeft (numberOf (orRefused k)) lent) (exported (call (directionOf direction)))
+
 unfoldable pub exportPack : Checked → ℕ → ℕ → List ℕ → List ℕ → CallExport
-exportPack k direction channel values registers =
-    cond (ltb 1 direction) (callLeft (numberOf (orRefused k)) registers)
-    (exported (packedTo k (directionOf direction) channel values registers))
+exportPack k direction channel values registers = exportCall k direction registers (λ d. packedTo k d channel values registers)
 
 unfoldable pub exportUnpack : Checked → ℕ → ℕ → List ℕ → List ℕ → CallExport
-exportUnpack k direction channel registers values =
-    cond (ltb 1 direction) (callLeft (numberOf (orRefused k)) values)
-    (exported (unpackedTo k (directionOf direction) channel registers values))
+exportUnpack k direction channel registers values = exportCall k direction values (λ d. unpackedTo k d channel registers values)

@@ -3,9 +3,10 @@ use crate::lent;
 use spi::Header;
 use spi::HeaderWritten;
 ghost use mathlib.Core.Path.{_≡_};
-ghost use mathlib.Core.Bool.{false};
+ghost use mathlib.Core.Bool.{false, not, _||_};
 ghost use Prim.Native.Nat.{min};
 ghost use lib.ListN.{length};
+ghost use lib.Dec.{eqb};
 ghost use Rattle.spi.specs.Spi.{headerWritten};
 ghost use Rattle.head.specs.Exports.{given, fieldsLeft, wordGiven};
 ghost use Rattle.head.specs.Headers.{headerNumbers, headerFrom, exportHeader, badHeader, exportHeaderWord};
@@ -20,10 +21,13 @@ fn put_header(h: Header, fields: &mut [u32])
     fields[3] = h.count as u32;
 }
 
+// Another length than four, or a bad address or increment.
 fn bad_header(fields: &[u32]) -> bool
-    requires { ⌜ length (now fields) ≡ 4 ⌝ }
-    ensures { λ r. ⌜ r ≡ badHeader (now (fields .entry)) ⌝ }
+    ensures { λ r. ⌜ r ≡ (not (eqb (length (now (fields .entry))) 4) || badHeader (now (fields .entry))) ⌝ }
 {
+    if fields.len() != 4 {
+        return true;
+    }
     (65535 < fields[0]) | (1 < fields[2])
 }
 
@@ -64,9 +68,6 @@ pub extern "C" fn head_header(word: u32, fields: &mut [u32]) -> u32
 pub extern "C" fn head_header_word(fields: &[u32], word: &mut u32) -> u32
     ensures { λ r. ⌜ given r (now (word .exit)) ≡ wordGiven (exportHeaderWord (now (fields .entry))) (now (word .entry)) ⌝ }
 {
-    if fields.len() != 4 {
-        return 13;
-    }
     if bad_header(fields) {
         return 13;
     }

@@ -1,18 +1,16 @@
-// What C lends as plain numbers: pointers back, fields there and back; and an answer as its number and its value.
-use cue::CompileAnswer;
+// What C lends as plain numbers: pointers back, fields there and back.
 use lbp16::pointer::Pointers;
 use lbp16::pointer::SpacePointers;
 use lbp16::word::Fields;
-use packet::judge::Verdict;
 ghost use mathlib.Core.Path.{_≡_};
+ghost use mathlib.Core.Bool.{not, _||_};
 ghost use Prim.Native.Nat.{_+_, _≤_};
 ghost use lib.ListN.{length};
 ghost use lib.Seq.{sets};
+ghost use lib.Dec.{eqb};
 ghost use Rattle.lbp16.specs.Pointer.{spaceList, pointerList};
 ghost use Rattle.lbp16.specs.Word.{bit};
-ghost use Rattle.packet.specs.Verdict.{verdictListed};
-ghost use Rattle.cue.specs.Compile.{compileListed};
-ghost use Rattle.head.specs.Exports.{numberOf, valueOf, countOf, fieldBytes, fieldsFrom, badFlags};
+ghost use Rattle.head.specs.Exports.{fieldBytes, fieldsFrom, badFlags};
 
 fn put_spaces(p: SpacePointers, ps: &mut [u32], at: usize)
     requires { ⌜ at + 4 ≤ length (now ps) ⌝ }
@@ -51,10 +49,13 @@ pub(crate) fn put_fields(f: Fields, bytes: &mut [u8])
     bytes[6] = f.count;
 }
 
-pub(crate) fn bad_flags(bytes: &[u8]) -> bool
-    requires { ⌜ length (now bytes) ≡ 7 ⌝ }
-    ensures { λ r. ⌜ r ≡ badFlags (now (bytes .entry)) ⌝ }
+// Another length than seven, or a bad flag.
+pub(crate) fn bad_fields(bytes: &[u8]) -> bool
+    ensures { λ r. ⌜ r ≡ (not (eqb (length (now (bytes .entry))) 7) || badFlags (now (bytes .entry))) ⌝ }
 {
+    if bytes.len() != 7 {
+        return true;
+    }
     (1 < bytes[0]) | (1 < bytes[1]) | (1 < bytes[2]) | (1 < bytes[5])
 }
 
@@ -70,53 +71,5 @@ pub(crate) fn fields_from(bytes: &[u8]) -> Fields
         size: bytes[4],
         increment: bytes[5] == 1,
         count: bytes[6],
-    }
-}
-
-pub(crate) fn verdict_number(answer: Verdict) -> u32
-    ensures { λ r. ⌜ r ≡ numberOf (verdictListed answer) ⌝ }
-{
-    match answer {
-        Verdict::Accepted(_) => 0,
-        Verdict::Refused(r) => r.number,
-    }
-}
-
-pub(crate) fn verdict_value(answer: Verdict) -> u64
-    ensures { λ r. ⌜ r ≡ valueOf (verdictListed answer) ⌝ }
-{
-    match answer {
-        Verdict::Accepted(n) => n,
-        Verdict::Refused(r) => r.place,
-    }
-}
-
-pub(crate) fn compile_number(answer: CompileAnswer) -> u32
-    ensures { λ r. ⌜ r ≡ numberOf (compileListed answer) ⌝ }
-{
-    match answer {
-        CompileAnswer::Compiled {
-            bytes: _,
-            packets: _,
-        } => 0,
-        CompileAnswer::Refused(r) => r.number,
-    }
-}
-
-pub(crate) fn compile_bytes(answer: CompileAnswer) -> u64
-    ensures { λ r. ⌜ r ≡ valueOf (compileListed answer) ⌝ }
-{
-    match answer {
-        CompileAnswer::Compiled { bytes, packets: _ } => bytes as u64,
-        CompileAnswer::Refused(r) => r.place,
-    }
-}
-
-pub(crate) fn compile_packets(answer: CompileAnswer) -> u64
-    ensures { λ r. ⌜ r ≡ countOf (compileListed answer) ⌝ }
-{
-    match answer {
-        CompileAnswer::Compiled { bytes: _, packets } => packets as u64,
-        CompileAnswer::Refused(_) => 0,
     }
 }

@@ -1,6 +1,7 @@
 // What C programs call; include/head.h declares it. A function that can refuse returns the refusal's number, 0 if accepted.
 mod headers;
 mod lent;
+mod numbers;
 mod panels;
 pub mod part;
 mod recorded;
@@ -28,9 +29,9 @@ ghost use Rattle.head.specs.Exports.{compileLeft, exportCompile, fieldsL
 pub extern "C" fn head_check(packet: &[u8], store: &[u8], pointers: &[u32], value: &mut u64) -> u32
     ensures { λ r. ⌜ given r (now (value .exit)) ≡ exportCheck (now (packet .entry)) (now (store .entry)) (now (pointers .entry)) ⌝ }
 {
-    let answer = check::check_list(packet, store, pointers);
-    *value = lent::verdict_value(answer);
-    lent::verdict_number(answer)
+    let given = numbers::of_verdict(check::check_list(packet, store, pointers));
+    *value = given.1;
+    given.0
 }
 
 // Runs one packet. `pointers` are those of spaces 0, 2, 6 and 7, then those of their info areas; `value` is the reply length, or the refusal's place.
@@ -51,8 +52,9 @@ pub extern "C" fn head_run(
     let ran = run::run_list(packet, store, pointers, reply);
     *elements = ran.elements;
     let answer = ran.answer;
-    *value = lent::verdict_value(answer);
-    lent::verdict_number(answer)
+    let given = numbers::of_verdict(answer);
+    *value = given.1;
+    given.0
 }
 
 // Runs one SPI burst on space 0. `value` is the number of elements done, or the refusal's place.
@@ -67,9 +69,9 @@ pub extern "C" fn head_spi(
         ≡ exportSpi (now (words .entry)) (now (store .entry)) (now (answer .entry)) ⌝ }
     ensures bounded { λ r. ⌜ now (value .exit) ≤ mostInBurst ⌝ }
 {
-    let done = spi::burst(words, store, answer);
-    *value = lent::verdict_value(done);
-    lent::verdict_number(done)
+    let given = numbers::of_verdict(spi::burst(words, store, answer));
+    *value = given.1;
+    given.0
 }
 
 // The fields of a command word, as seven bytes.
@@ -89,10 +91,7 @@ pub extern "C" fn head_fields(word: u16, fields: &mut [u8]) -> u32
 pub extern "C" fn head_word(fields: &[u8], word: &mut u16) -> u32
     ensures { λ r. ⌜ given r (now (word .exit)) ≡ wordGiven (exportWord (now (fields .entry))) (now (word .entry)) ⌝ }
 {
-    if fields.len() != 7 {
-        return 13;
-    }
-    if lent::bad_flags(fields) {
+    if lent::bad_fields(fields) {
         return 13;
     }
     let written = word::word_of(lent::fields_from(fields));
@@ -117,8 +116,8 @@ pub extern "C" fn head_compile(
         ≡ exportCompile (now (list .entry)) (now (out .entry)) ⌝ }
     ensures demand3 { λ r. ⌜ (r ≡ 0 → Demand3 (now (list .entry)) (now (out .exit)) (now (bytes .exit)) (now (packets .exit))) ⌝ }
 {
-    let answer = cue::compile(list, out);
-    *bytes = lent::compile_bytes(answer);
-    *packets = lent::compile_packets(answer);
-    lent::compile_number(answer)
+    let given = numbers::of_compiled(cue::compile(list, out));
+    *bytes = given.1;
+    *packets = given.2;
+    given.0
 }

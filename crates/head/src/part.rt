@@ -1,26 +1,18 @@
 // A cue list that comes in parts, for C.
+use crate::numbers::Numbers;
 use parts::PartAnswer;
 ghost use mathlib.Core.Path.{_≡_};
 ghost use Rattle.parts.specs.Parts.{partListed};
 ghost use Rattle.parts.specs.Promise.{Promised};
-ghost use Rattle.head.specs.Exports.{numberOf, valueOf};
+ghost use Rattle.head.specs.Exports.{numbersOf};
 ghost use Rattle.head.specs.Part.{partLeft, exportPart};
 
-fn part_number(answer: PartAnswer) -> u32
-    ensures { λ r. ⌜ r ≡ numberOf (partListed answer) ⌝ }
+fn numbers_of(answer: PartAnswer) -> Numbers
+    ensures { λ r. ⌜ r ≡ numbersOf (partListed answer) ⌝ }
 {
     match answer {
-        PartAnswer::Accepted(_) => 0,
-        PartAnswer::Refused(r) => r.number,
-    }
-}
-
-fn part_value(answer: PartAnswer) -> u64
-    ensures { λ r. ⌜ r ≡ valueOf (partListed answer) ⌝ }
-{
-    match answer {
-        PartAnswer::Accepted(n) => n as u64,
-        PartAnswer::Refused(r) => r.place,
+        PartAnswer::Accepted(n) => Numbers(0, n as u64, 0),
+        PartAnswer::Refused(r) => Numbers(r.number, r.place, 0),
     }
 }
 
@@ -40,8 +32,9 @@ pub extern "C" fn head_part(
     ensures promise { λ r. ⌜ Promised (now (state .exit)) ⌝ }
 {
     let done = parts::compile_part(state, part, last != 0, out);
-    let answer = done.answer;
     *taken = done.taken as u64;
-    *value = part_value(answer);
-    part_number(answer)
+    let answer = done.answer;
+    let given = numbers_of(answer);
+    *value = given.1;
+    given.0
 }

@@ -1,53 +1,23 @@
 // A recorded show judged, for C.
 use crate::lent;
+use crate::numbers::Numbers;
 use lbp16::pointer::Pointers;
 use recording::Judgment;
 ghost use mathlib.Core.Path.{_≡_};
 ghost use Rattle.recording.specs.Recording.{verdictListed};
-ghost use Rattle.head.specs.Recorded.{judgedNumber, judgedIndex, judgedPlace, judgeLeft, exportJudge};
+ghost use Rattle.head.specs.Recorded.{judgedNumbers, judgeLeft, exportJudge};
 
-fn judged_number(j: Judgment) -> u32
-    ensures { λ r. ⌜ r ≡ judgedNumber (verdictListed j) ⌝ }
+fn numbers_of(j: Judgment) -> Numbers
+    ensures { λ r. ⌜ r ≡ judgedNumbers (verdictListed j) ⌝ }
 {
     match j {
-        Judgment::Yes(_) => 0,
-        Judgment::Refused(r) => r.number,
-        Judgment::BadPacket(_) => 61,
-        Judgment::BadLength(_) => 62,
-        Judgment::BadByte {
-            packet: _,
-            place: _,
-        } => 63,
-        Judgment::Cut(_) => 64,
-        Judgment::Unmarked(_) => 65,
-    }
-}
-
-fn judged_index(j: Judgment) -> u64
-    ensures { λ r. ⌜ r ≡ judgedIndex (verdictListed j) ⌝ }
-{
-    match j {
-        Judgment::Yes(n) => n,
-        Judgment::Refused(_) => 0,
-        Judgment::BadPacket(i) => i,
-        Judgment::BadLength(i) => i,
-        Judgment::BadByte { packet, place: _ } => packet,
-        Judgment::Cut(part) => part,
-        Judgment::Unmarked(part) => part,
-    }
-}
-
-fn judged_place(j: Judgment) -> u64
-    ensures { λ r. ⌜ r ≡ judgedPlace (verdictListed j) ⌝ }
-{
-    match j {
-        Judgment::Yes(_) => 0,
-        Judgment::Refused(r) => r.place,
-        Judgment::BadPacket(_) => 0,
-        Judgment::BadLength(_) => 0,
-        Judgment::BadByte { packet: _, place } => place,
-        Judgment::Cut(_) => 0,
-        Judgment::Unmarked(_) => 0,
+        Judgment::Yes(n) => Numbers(0, n, 0),
+        Judgment::Refused(r) => Numbers(r.number, 0, r.place),
+        Judgment::BadPacket(i) => Numbers(61, i, 0),
+        Judgment::BadLength(i) => Numbers(62, i, 0),
+        Judgment::BadByte { packet, place } => Numbers(63, packet, place),
+        Judgment::Cut(part) => Numbers(64, part, 0),
+        Judgment::Unmarked(part) => Numbers(65, part, 0),
     }
 }
 
@@ -74,7 +44,8 @@ pub extern "C" fn head_judge(
     let after = judged.pointers;
     lent::put_pointers(after, pointers);
     let judgment = judged.judgment;
-    *index = judged_index(judgment);
-    *place = judged_place(judgment);
-    judged_number(judgment)
+    let given = numbers_of(judgment);
+    *index = given.1;
+    *place = given.2;
+    given.0
 }

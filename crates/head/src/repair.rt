@@ -1,37 +1,17 @@
 // Salvaging a damaged cue list, as C programs call it.
+use crate::numbers::Numbers;
 use salvage::SalvageAnswer;
 ghost use mathlib.Core.Path.{_≡_};
 ghost use Rattle.salvage.specs.Salvage.{salvageListed};
-ghost use Rattle.head.specs.Exports.{numberOf, valueOf, countOf};
+ghost use Rattle.head.specs.Exports.{numbersOf};
 ghost use Rattle.head.specs.Repair.{salvageLeft, exportSalvage};
 
-fn number(answer: SalvageAnswer) -> u32
-    ensures { λ r. ⌜ r ≡ numberOf (salvageListed answer) ⌝ }
+fn numbers_of(answer: SalvageAnswer) -> Numbers
+    ensures { λ r. ⌜ r ≡ numbersOf (salvageListed answer) ⌝ }
 {
     match answer {
-        SalvageAnswer::Salvaged {
-            bytes: _,
-            entries: _,
-        } => 0,
-        SalvageAnswer::Refused(r) => r.number,
-    }
-}
-
-fn kept(answer: SalvageAnswer) -> u64
-    ensures { λ r. ⌜ r ≡ valueOf (salvageListed answer) ⌝ }
-{
-    match answer {
-        SalvageAnswer::Salvaged { bytes, entries: _ } => bytes as u64,
-        SalvageAnswer::Refused(r) => r.place,
-    }
-}
-
-fn skipped(answer: SalvageAnswer) -> u64
-    ensures { λ r. ⌜ r ≡ countOf (salvageListed answer) ⌝ }
-{
-    match answer {
-        SalvageAnswer::Salvaged { bytes: _, entries } => entries as u64,
-        SalvageAnswer::Refused(_) => 0,
+        SalvageAnswer::Salvaged { bytes, entries } => Numbers(0, bytes as u64, entries as u64),
+        SalvageAnswer::Refused(r) => Numbers(r.number, r.place, 0),
     }
 }
 
@@ -47,8 +27,8 @@ pub extern "C" fn head_salvage(
     ensures { λ r. ⌜ salvageLeft r (now (bytes .exit)) (now (entries .exit)) (now (out .exit)) (now (log .exit))
         ≡ exportSalvage (now (list .entry)) (now (out .entry)) (now (log .entry)) ⌝ }
 {
-    let answer = salvage::salvage(list, out, log);
-    *bytes = kept(answer);
-    *entries = skipped(answer);
-    number(answer)
+    let given = numbers_of(salvage::salvage(list, out, log));
+    *bytes = given.1;
+    *entries = given.2;
+    given.0
 }

@@ -1,4 +1,5 @@
 // Daughter card fields. `table` is the table's address in the card's memory; direction 0 are the inputs, 1 the outputs.
+use crate::numbers::Numbers;
 use sserial::call;
 use sserial::call::CallAnswer;
 use sserial::count;
@@ -12,36 +13,15 @@ ghost use Prim.Native.Nat.{_%_, _^_};
 ghost use lib.ListN.{length};
 ghost use Rattle.sserial.specs.Table.{checkedAt};
 ghost use Rattle.sserial.specs.Calls.{tableListed, callListed};
-ghost use Rattle.head.specs.Exports.{numberOf, valueOf, countOf};
+ghost use Rattle.head.specs.Exports.{numberOf, numbersOf};
 ghost use Rattle.head.specs.Serial.{orRefused, directionOf, fieldWords, tableLeft, exportTable, callLeft, exportField, exportPack, exportUnpack};
 
-fn table_number(answer: TableAnswer) -> u32
-    ensures { λ r. ⌜ r ≡ numberOf (tableListed answer) ⌝ }
+fn numbers_of(answer: TableAnswer) -> Numbers
+    ensures { λ r. ⌜ r ≡ numbersOf (tableListed answer) ⌝ }
 {
     match answer {
-        TableAnswer::Fields {
-            inputs: _,
-            outputs: _,
-        } => 0,
-        TableAnswer::Refused(r) => r.number,
-    }
-}
-
-fn table_inputs(answer: TableAnswer) -> u64
-    ensures { λ r. ⌜ r ≡ valueOf (tableListed answer) ⌝ }
-{
-    match answer {
-        TableAnswer::Fields { inputs, outputs: _ } => inputs as u64,
-        TableAnswer::Refused(r) => r.place,
-    }
-}
-
-fn table_outputs(answer: TableAnswer) -> u64
-    ensures { λ r. ⌜ r ≡ countOf (tableListed answer) ⌝ }
-{
-    match answer {
-        TableAnswer::Fields { inputs: _, outputs } => outputs as u64,
-        TableAnswer::Refused(_) => 0,
+        TableAnswer::Fields { inputs, outputs } => Numbers(0, inputs as u64, outputs as u64),
+        TableAnswer::Refused(r) => Numbers(r.number, r.place, 0),
     }
 }
 
@@ -102,10 +82,10 @@ fn put_field(f: Field, words: &mut [u32])
 pub extern "C" fn head_table(memory: &[u8], table: u16, inputs: &mut u64, outputs: &mut u64) -> u32
     ensures { λ r. ⌜ tableLeft r (now (inputs .exit)) (now (outputs .exit)) ≡ exportTable (checkedAt (now (memory .entry)) table) ⌝ }
 {
-    let answer = count::count_fields(memory, table);
-    *inputs = table_inputs(answer);
-    *outputs = table_outputs(answer);
-    table_number(answer)
+    let given = numbers_of(count::count_fields(memory, table));
+    *inputs = given.1;
+    *outputs = given.2;
+    given.0
 }
 
 // The index-th field, as seven words; they are written only if accepted.

@@ -1,5 +1,6 @@
 // Tighter packing: the checker, and the planner.
-use crate::lent;
+use crate::numbers;
+use crate::numbers::Numbers;
 use tight::TightAnswer;
 ghost use mathlib.Core.Path.{_≡_};
 ghost use lib.ListN.{take};
@@ -8,23 +9,13 @@ ghost use Rattle.tight.specs.Demand3.{TightDemand3};
 ghost use Rattle.head.specs.Exports.{given, compileLeft};
 ghost use Rattle.head.specs.Tighter.{tightGiven, exportTightCheck, TightenExport, EightExport};
 
-fn number_of(answer: TightAnswer) -> u32
-    ensures { λ r. ⌜ r ≡ tightGiven (checkListed answer) .number ⌝ }
+fn numbers_of(answer: TightAnswer) -> Numbers
+    ensures { λ r. ⌜ given (r .0) (r .1) ≡ tightGiven (checkListed answer) ⌝ }
 {
     match answer {
-        TightAnswer::Accepted(_) => 0,
-        TightAnswer::Rejected => 50,
-        TightAnswer::Refused(r) => r.number,
-    }
-}
-
-fn value_of(answer: TightAnswer) -> u64
-    ensures { λ r. ⌜ r ≡ tightGiven (checkListed answer) .value ⌝ }
-{
-    match answer {
-        TightAnswer::Accepted(n) => n,
-        TightAnswer::Rejected => 0,
-        TightAnswer::Refused(r) => r.place,
+        TightAnswer::Accepted(n) => Numbers(0, n, 0),
+        TightAnswer::Rejected => Numbers(50, 0, 0),
+        TightAnswer::Refused(r) => Numbers(r.number, r.place, 0),
     }
 }
 
@@ -34,9 +25,9 @@ pub extern "C" fn head_tight_check(list: &[u8], output: &[u8], value: &mut u64) 
     ensures answer { λ r. ⌜ given r (now (value .exit)) ≡ exportTightCheck (now (list .entry)) (now (output .entry)) ⌝ }
     ensures demand3 { λ r. ⌜ (r ≡ 0 → TightDemand3 (now (list .entry)) (now (output .entry)) (now (value .exit))) ⌝ }
 {
-    let answer = tight::check(list, output);
-    *value = value_of(answer);
-    number_of(answer)
+    let given = numbers_of(tight::check(list, output));
+    *value = given.1;
+    given.0
 }
 
 // Compiles a cue list into tighter packets. `bytes` is the output's length, or the refusal's place; `packets` is 0 if refused.
@@ -52,8 +43,8 @@ pub extern "C" fn head_tighten(
     ensures eight { λ r. ⌜ EightExport (now (list .entry)) (now (out .entry)) (compileLeft r (now (bytes .exit)) (now (packets .exit)) (now (out .exit))) ⌝ }
     ensures demand3 { λ r. ⌜ (r ≡ 0 → TightDemand3 (now (list .entry)) (take (now (bytes .exit)) (now (out .exit))) (now (packets .exit))) ⌝ }
 {
-    let answer = planner::tighten(list, out);
-    *bytes = lent::compile_bytes(answer);
-    *packets = lent::compile_packets(answer);
-    lent::compile_number(answer)
+    let given = numbers::of_compiled(planner::tighten(list, out));
+    *bytes = given.1;
+    *packets = given.2;
+    given.0
 }

@@ -1,37 +1,18 @@
 // Two cue lists in either order.
+use crate::numbers::Numbers;
 use independent::Independence;
 ghost use mathlib.Core.Path.{_≡_};
 ghost use Rattle.independent.specs.Independent.{independence, independenceListed};
 ghost use Rattle.independent.specs.EitherOrder.{EitherOrder};
 ghost use Rattle.head.specs.TwoLists.{twoListsLeft};
 
-fn number_of(answer: Independence) -> u32
-    ensures { λ r. ⌜ r ≡ independenceListed answer .number ⌝ }
+fn numbers_of(answer: Independence) -> Numbers
+    ensures { λ r. ⌜ twoListsLeft (r .0) (r .1) (r .2) ≡ independenceListed answer ⌝ }
 {
     match answer {
-        Independence::Independent => 0,
-        Independence::Refused { list: _, refusal } => refusal.number,
-        Independence::Clash(_) => 51,
-    }
-}
-
-fn list_of(answer: Independence) -> u64
-    ensures { λ r. ⌜ r ≡ independenceListed answer .list ⌝ }
-{
-    match answer {
-        Independence::Independent => 0,
-        Independence::Refused { list, refusal: _ } => list,
-        Independence::Clash(_) => 1,
-    }
-}
-
-fn place_of(answer: Independence) -> u64
-    ensures { λ r. ⌜ r ≡ independenceListed answer .place ⌝ }
-{
-    match answer {
-        Independence::Independent => 0,
-        Independence::Refused { list: _, refusal } => refusal.place,
-        Independence::Clash(index) => index,
+        Independence::Independent => Numbers(0, 0, 0),
+        Independence::Refused { list, refusal } => Numbers(refusal.number, list, refusal.place),
+        Independence::Clash(index) => Numbers(51, 1, index),
     }
 }
 
@@ -46,8 +27,8 @@ pub extern "C" fn head_independent(
     ensures answer { λ r. ⌜ twoListsLeft r (now (list .exit)) (now (place .exit)) ≡ independence (now (first .entry)) (now (second .entry)) ⌝ }
     ensures either { λ r. ⌜ (r ≡ 0 → EitherOrder (now (first .entry)) (now (second .entry))) ⌝ }
 {
-    let answer = independent::independent(first, second);
-    *list = list_of(answer);
-    *place = place_of(answer);
-    number_of(answer)
+    let given = numbers_of(independent::independent(first, second));
+    *list = given.1;
+    *place = given.2;
+    given.0
 }

@@ -2,10 +2,12 @@ use borrow.Author.Needs.{needs}
 use Rattle.head.proofs.head_fields.Statement.{statement}
 use Rattle.head.proofs.head_fields.Tie as tie
 use mathlib.Core.Path.{refl}
-use Rattle.head.proofs.ExportLaws.{seven, not-seven}
+use borrow.Author.Tests.{eq-eqb, ne-eqb}
+use Rattle.head.specs.Exports.{exportFields}
 
 returns : tie.Need-returns
-returns c = rw (not-seven _ _ (c .if1 .taken)) refl
+unfolding exportFields
+returns c = rw (ne-eqb _ _ (c .if1 .taken)) refl
 
 fields-of-requires : tie.Need-fields-of-requires
 fields-of-requires c κs = search needs
@@ -17,10 +19,11 @@ same-length : tie.Need-same-length
 same-length c = search needs
 
 returns-2 : tie.Need-returns-2
+unfolding exportFields
 returns-2 c =
     let at-fields-of = c .before .before .before .before in
     let at-if1 = at-fields-of .before in
-    rw (seven _ _ (at-if1 .if1 .left), c .before .before .put-fields .ensures, at-fields-of .fields-of .ensures) refl
+    rw (eq-eqb _ _ (at-if1 .if1 .left), c .before .before .put-fields .ensures, at-fields-of .fields-of .ensures) refl
 
 pub head-fields-spec : {M : Type 1} → statement M
 head-fields-spec =

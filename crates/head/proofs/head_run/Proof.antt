@@ -6,11 +6,8 @@ use Rattle.head.proofs.head_run.Tie as tie
 run-list-requires : tie.Need-run-list-requires
 run-list-requires c κs = search needs
 
-verdict-value-requires : tie.Need-verdict-value-requires
-verdict-value-requires c κs = search needs
-
-verdict-number-requires : tie.Need-verdict-number-requires
-verdict-number-requires c κs = search needs
+of-verdict-requires : tie.Need-of-verdict-requires
+of-verdict-requires c κs = search needs
 
 same-length : tie.Need-same-length
 same-length c = search needs
@@ -23,9 +20,9 @@ same-length-3 c = search needs
 
 returns : tie.Need-returns
 returns c =
-    let ran = c .before .before .before .before .before .before .before .before .run-list .ensures in (
-      ran-left _ _ _ _ _ _ _ _ _ _ (ran .0) (c .before .verdict-value .ensures) (c .verdict-number .ensures),
-      (run-elements _ _ _ _ _ _ _ _ _ (ran .0) (c .verdict-number .ensures) (ran .1 .0), ran .1 .1),
+    let ran = c .before .before .before .before .before .before .before .run-list .ensures in (
+      ran-left _ _ _ _ _ _ _ _ _ (ran .0) (c .of-verdict .ensures),
+      (run-elements _ _ _ _ _ _ _ _ _ (ran .0) (c .of-verdict .ensures) (ran .1 .0), ran .1 .1),
     )
 
 pub head-run-spec : {M : Type 1} → statement M
@@ -33,8 +30,7 @@ head-run-spec =
     tie.close
     (tie.spec
     run-list-requires
-    verdict-value-requires
-    verdict-number-requires
+    of-verdict-requires
     same-length
     same-length-2
     same-length-3

@@ -6,11 +6,8 @@ use Rattle.head.proofs.ExportLaws.{spi-left, spi-bounded}
 burst-requires : tie.Need-burst-requires
 burst-requires c κs = search needs
 
-verdict-value-requires : tie.Need-verdict-value-requires
-verdict-value-requires c κs = search needs
-
-verdict-number-requires : tie.Need-verdict-number-requires
-verdict-number-requires c κs = search needs
+of-verdict-requires : tie.Need-of-verdict-requires
+of-verdict-requires c κs = search needs
 
 same-length : tie.Need-same-length
 same-length c = search needs
@@ -20,9 +17,9 @@ same-length-2 c = search needs
 
 returns : tie.Need-returns
 returns c =
-    let done = c .before .before .before .before .before .before .burst .ensures in (
-      spi-left _ _ _ _ _ _ _ _ (done .0) (c .before .verdict-value .ensures) (c .verdict-number .ensures),
-      spi-bounded _ _ _ _ _ _ _ (done .0) (done .1) (c .before .verdict-value .ensures),
+    let done = c .before .before .before .before .before .burst .ensures in (
+      spi-left _ _ _ _ _ _ _ (done .0) (c .of-verdict .ensures),
+      spi-bounded _ _ _ _ _ _ _ (done .0) (done .1) (c .of-verdict .ensures),
     )
 
 pub head-spi-spec : {M : Type 1} → statement M
@@ -30,8 +27,7 @@ head-spi-spec =
     tie.close
     (tie.spec
     burst-requires
-    verdict-value-requires
-    verdict-number-requires
+    of-verdict-requires
     same-length
     same-length-2
     returns)

@@ -2,10 +2,12 @@ use borrow.Author.Needs.{needs}
 use Rattle.head.proofs.headers.head_header.Statement.{statement}
 use Rattle.head.proofs.headers.head_header.Tie as tie
 use mathlib.Core.Path.{refl}
-use Rattle.head.proofs.HeaderLaws.{four, not-four}
+use borrow.Author.Tests.{eq-eqb, ne-eqb}
+use Rattle.head.specs.Headers.{exportHeader}
 
 returns : tie.Need-returns
-returns c = rw (not-four _ _ (c .if1 .taken)) refl
+unfolding exportHeader
+returns c = rw (ne-eqb _ _ (c .if1 .taken)) refl
 
 header-of-requires : tie.Need-header-of-requires
 header-of-requires c κs = search needs
@@ -17,9 +19,10 @@ same-length : tie.Need-same-length
 same-length c = search needs
 
 returns-2 : tie.Need-returns-2
+unfolding exportHeader
 returns-2 c =
     let b = c .before .before in
-    rw (four _ _ (b .before .before .before .if1 .left), b .put-header .ensures, b .before .before .header-of .ensures) refl
+    rw (eq-eqb _ _ (b .before .before .before .if1 .left), b .put-header .ensures, b .before .before .header-of .ensures) refl
 
 pub head-header-spec : {M : Type 1} → statement M
 head-header-spec =

@@ -15,14 +15,8 @@ judge-requires c κs = search needs
 put-pointers-requires : tie.Need-put-pointers-requires
 put-pointers-requires c κs = search needs
 
-judged-index-requires : tie.Need-judged-index-requires
-judged-index-requires c κs = search needs
-
-judged-place-requires : tie.Need-judged-place-requires
-judged-place-requires c κs = search needs
-
-judged-number-requires : tie.Need-judged-number-requires
-judged-number-requires c κs = search needs
+numbers-of-requires : tie.Need-numbers-of-requires
+numbers-of-requires c κs = search needs
 
 same-length : tie.Need-same-length
 same-length c = search needs
@@ -32,18 +26,16 @@ same-length-2 c = search needs
 
 returns-2 : tie.Need-returns-2
 returns-2 c =
-    let at-put-pointers = c .before .before .before .before .before in
+    let at-put-pointers = c .before .before .before in
     let at-judge = at-put-pointers .before .before .before .before .before in
     let at-from-list = at-judge .before .before in
     let at-if1 = at-from-list .before .before in
-    judge-left _ _ _ _ _ _ _ _ _ _
+    judge-left _ _ _ _ _ _ _ _
     (at-if1 .if1 .left)
     (at-from-list .from-list .ensures)
     (at-judge .judge .ensures)
     (at-put-pointers .put-pointers .ensures)
-    (c .before .before .judged-index .ensures)
-    (c .before .judged-place .ensures)
-    (c .judged-number .ensures)
+    (c .numbers-of .ensures)
 
 pub head-judge-spec : {M : Type 1} → statement M
 head-judge-spec =
@@ -53,9 +45,7 @@ head-judge-spec =
     from-list-requires
     judge-requires
     put-pointers-requires
-    judged-index-requires
-    judged-place-requires
-    judged-number-requires
+    numbers-of-requires
     same-length
     same-length-2
     returns-2)

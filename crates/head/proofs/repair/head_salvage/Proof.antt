@@ -7,14 +7,8 @@ use Rattle.head.proofs.repair.head_salvage.Tie as tie
 salvage-requires : tie.Need-salvage-requires
 salvage-requires c κs = search needs
 
-kept-requires : tie.Need-kept-requires
-kept-requires c κs = search needs
-
-skipped-requires : tie.Need-skipped-requires
-skipped-requires c κs = search needs
-
-number-requires : tie.Need-number-requires
-number-requires c κs = search needs
+numbers-of-requires : tie.Need-numbers-of-requires
+numbers-of-requires c κs = search needs
 
 same-length : tie.Need-same-length
 same-length c = search needs
@@ -24,19 +18,14 @@ same-length-2 c = search needs
 
 returns : tie.Need-returns
 unfolding exportSalvage
-returns c =
-    salvage-left _ _ _ _ (c .before .before .before .before .before .before .before .salvage .ensures) _ _ _ (c .number .ensures)
-    (c .before .before .kept .ensures)
-    (c .before .skipped .ensures)
+returns c = salvage-left _ _ _ _ _ (c .before .before .before .before .before .salvage .ensures) (c .numbers-of .ensures)
 
 pub head-salvage-spec : {M : Type 1} → statement M
 head-salvage-spec =
     tie.close
     (tie.spec
     salvage-requires
-    kept-requires
-    skipped-requires
-    number-requires
+    numbers-of-requires
     same-length
     same-length-2
     returns)

@@ -2,14 +2,15 @@ use borrow.Author.Needs.{needs}
 use Rattle.head.proofs.serial.head_unpack.Statement.{statement}
 use Rattle.head.proofs.serial.head_unpack.Tie as tie
 use mathlib.Core.Path.{ap, _∙_}
-use Rattle.head.specs.Serial.{exported}
-use Rattle.head.proofs.SerialLaws.{numbered, no-unpack, unpack-by}
+use Rattle.head.specs.Serial.{exported, exportUnpack}
+use Rattle.head.proofs.SerialLaws.{numbered, no-call, call-by}
 
 table-or-40-requires : tie.Need-table-or-40-requires
 table-or-40-requires c κs = search needs
 
 returns : tie.Need-returns
-returns c = rw (no-unpack _ _ _ _ _ (c .before .if1 .taken)) (numbered _ (c .table-or-40 .ensures))
+unfolding exportUnpack
+returns c = rw (no-call _ _ _ _ (c .before .if1 .taken)) (numbered _ (c .table-or-40 .ensures))
 
 direction-of-requires : tie.Need-direction-of-requires
 direction-of-requires c κs = search needs
@@ -24,13 +25,13 @@ same-length : tie.Need-same-length
 same-length c = search needs
 
 returns-2 : tie.Need-returns-2
-unfolding exported
+unfolding exported exportUnpack
 returns-2 c =
     let at-unpack = c .before .before .before in
     let at-direction-of = at-unpack .before .before in
     let at-if1 = at-direction-of .before in
     rw
-    (unpack-by _ _ _ _ _ (at-if1 .if1 .left) _ (at-direction-of .direction-of .ensures))
+    (call-by _ _ _ _ (at-if1 .if1 .left) _ (at-direction-of .direction-of .ensures))
     (numbered _ (c .call-number .ensures) ∙ ap exported (at-unpack .unpack .ensures))
 
 pub head-unpack-spec : {M : Type 1} → statement M

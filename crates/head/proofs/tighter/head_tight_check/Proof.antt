@@ -7,19 +7,16 @@ use Rattle.head.proofs.TighterLaws.{tight-given, tight-promise}
 check-requires : tie.Need-check-requires
 check-requires c κs = search needs
 
-value-of-requires : tie.Need-value-of-requires
-value-of-requires c κs = search needs
-
-number-of-requires : tie.Need-number-of-requires
-number-of-requires c κs = search needs
+numbers-of-requires : tie.Need-numbers-of-requires
+numbers-of-requires c κs = search needs
 
 returns : tie.Need-returns
 returns c =
-    let s = c .before .before .check .ensures in (
-      tight-given _ _ _ (s .0) _ _ (c .number-of .ensures) (c .before .value-of .ensures),
-      tight-promise _ _ _ (s .0) _ _ (c .number-of .ensures) (c .before .value-of .ensures) (TightDemand3 _ _) (s .1),
+    let s = c .before .check .ensures in
+    let given = c .numbers-of .ensures in (
+      tight-given _ _ _ (s .0) _ _ given,
+      tight-promise _ _ _ (s .0) _ _ given (TightDemand3 _ _) (s .1),
     )
 
 pub head-tight-check-spec : {M : Type 1} → statement M
-head-tight-check-spec =
-    tie.close (tie.spec check-requires value-of-requires number-of-requires returns)
+head-tight-check-spec = tie.close (tie.spec check-requires numbers-of-requires returns)

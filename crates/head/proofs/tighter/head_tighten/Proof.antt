@@ -6,27 +6,18 @@ use Rattle.head.proofs.TightenLaws.{tighten-left, tighten-eight, tighte
 tighten-requires : tie.Need-tighten-requires
 tighten-requires c κs = search needs
 
-compile-bytes-requires : tie.Need-compile-bytes-requires
-compile-bytes-requires c κs = search needs
-
-compile-packets-requires : tie.Need-compile-packets-requires
-compile-packets-requires c κs = search needs
-
-compile-number-requires : tie.Need-compile-number-requires
-compile-number-requires c κs = search needs
+of-compiled-requires : tie.Need-of-compiled-requires
+of-compiled-requires c κs = search needs
 
 same-length : tie.Need-same-length
 same-length c = search needs
 
 returns : tie.Need-returns
 returns c =
-    let at-tighten = c .before .before .before .before .before in
-    let s = at-tighten .tighten .ensures in
-    let b = c .before .before .compile-bytes .ensures in
-    let p = c .before .compile-packets .ensures in
-    let n = c .compile-number .ensures in (
-      tighten-left _ _ _ _ _ _ _ b p n (s .0),
-      (tighten-eight _ _ _ _ _ _ _ b p n (s .1 .0), tighten-demand3 _ _ _ _ _ _ _ b p n (s .0)),
+    let s = c .before .before .before .tighten .ensures in
+    let given = c .of-compiled .ensures in (
+      tighten-left _ _ _ _ _ given (s .0),
+      (tighten-eight _ _ _ _ _ given (s .1 .0), tighten-demand3 _ _ _ _ _ given (s .0)),
     )
 
 pub head-tighten-spec : {M : Type 1} → statement M
@@ -34,8 +25,6 @@ head-tighten-spec =
     tie.close
     (tie.spec
     tighten-requires
-    compile-bytes-requires
-    compile-packets-requires
-    compile-number-requires
+    of-compiled-requires
     same-length
     returns)
