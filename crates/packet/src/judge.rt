@@ -66,9 +66,11 @@ pub fn judge_list(packet: &[u8], list: &[u32]) -> Verdict
             let c = refusal::register_at(rest, word, &pointers, reply, place);
             let found = c.found;
             let which = found.which;
-            // Neither a read nor a write of space 0 turns the unlock.
-            if let Which::Refused(number) = which {
-                return refused(number, found.place);
+            match which {
+                Which::Read => {}
+                // Space 0 has no unlock cell.
+                Which::Write => {}
+                Which::Refused(number) => return refused(number, found.place),
             }
             c.reach
         } else {

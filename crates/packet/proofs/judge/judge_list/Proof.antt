@@ -4,9 +4,10 @@ use native.Mathlib.Omega.{arith}
 use borrow.Author.Needs.{needs}
 use borrow.Author.Tests.{eq-eqb, ne-eqb}
 use mathlib.Core.Path.{_≡_, refl, sym, _∙_}
-use mathlib.Core.Logic.{_⊎_, ⊎-elim}
+use mathlib.Core.Logic.{⊎-elim}
 use lib.ListN.{length, length-take, length-drop}
-use Rattle.packet.specs.Command.{whichListed}
+use Rattle.packet.specs.Command.{fieldsAt, whichListed}
+use Rattle.packet.specs.Reach.{ForRegisters}
 use Rattle.lbp16.specs.Answer.{Answer}
 use mathlib.Core.List.{[], _∷_}
 use Prim.Native.Nat.{ℕ}
@@ -57,6 +58,12 @@ register-at-requires c κs =
     let plain = sym (b .for-registers .ensures) ∙ c .before .if2 .taken in
     (b .before .word-at .ensures, registers-word _ _ refl plain, b .before .before .before .loop .inv .within)
 
+enum-told : tie.Need-enum-told Inv-loop μ-loop
+enum-told c = search needs
+
+enum-told-2 : tie.Need-enum-told-2 Inv-loop μ-loop
+enum-told-2 c = search needs
+
 enum-known-which : tie.Need-enum-known-which Inv-loop μ-loop
 enum-known-which c = search needs
 
@@ -78,11 +85,11 @@ slice-aggregate-area-at c = search needs
 area-at-requires : tie.Need-area-at-requires Inv-loop μ-loop
 area-at-requires c κs = (c .before .before .before .word-at .ensures, c .before .before .before .before .before .loop .inv .within)
 
-enum-told : tie.Need-enum-told Inv-loop μ-loop
-enum-told c = search needs
+enum-told-3 : tie.Need-enum-told-3 Inv-loop μ-loop
+enum-told-3 c = search needs
 
-enum-told-2 : tie.Need-enum-told-2 Inv-loop μ-loop
-enum-told-2 c = search needs
+enum-told-4 : tie.Need-enum-told-4 Inv-loop μ-loop
+enum-told-4 c = search needs
 
 enum-known-which-2 : tie.Need-enum-known-which-2 Inv-loop μ-loop
 enum-known-which-2 c = search needs
@@ -98,14 +105,6 @@ returns-3 c =
     let is = c .before .before .which2 .given .1 in
     rw (eq-eqb _ _ eight)
     (c .refused3 .ensures ∙ checking-refused (l .before .loop .inv) (l .loop-test .taken) _ (b .area-at .ensures) _ is)
-
--- what is found is a read or a write
-some-bit : (w : Which) (place : ℕ) → (tagOf the-type w ≡ 0) ⊎ (tagOf the-type w ≡ 1)
-    → (b : ℕ) × (whichListed w place ≡ Answer.accepted (b ∷ []))
-unfolding whichListed
-some-bit Read place h = (0, refl)
-some-bit Write place h = (1, refl)
-some-bit (Refused n) place h = absurd (⊎-elim (λ e. omega arith) (λ e. omega arith) h)
 
 -- a write, by its listing
 is-write : (w : Which) (place : ℕ) → tagOf the-type w ≡ 1 → whichListed w place ≡ Answer.accepted (1 ∷ [])
@@ -144,9 +143,12 @@ step c =
     ⊎-elim
     (λ w.
     let found = w .2 .result .found in
-    let (b, is) = some-bit (found .which) (found .place) (w .4 .keys2) in
+    let registers : ForRegisters (fieldsAt (now (l .before .loop .rest))) = rw (← word) (registers-word _ _ refl (sym plain ∙ w .0 .taken)) in
     rw (w .6, w .7)
-    (checking-registers inv more _ (w .2 .ensures _) b is (rw (← word) (registers-word _ _ refl (sym plain ∙ w .0 .taken)))))
+    (⊎-elim
+    (λ v. checking-registers inv more _ (w .2 .ensures _) 0 (is-read (found .which) (found .place) (v .0 .keys1)) registers)
+    (λ v. checking-registers inv more _ (w .2 .ensures _) 1 (is-write (found .which) (found .place) (v .0 .keys2)) registers)
+    (w .4 .came)))
     (λ w.
     let found = w .2 .result .found in
     rw (w .6, w .7)
@@ -199,13 +201,15 @@ judge-list-spec =
     for-registers-requires
     slice-aggregate-register-at
     register-at-requires
+    enum-told
+    enum-told-2
     enum-known-which
     refused-requires-2
     returns-2
     slice-aggregate-area-at
     area-at-requires
-    enum-told
-    enum-told-2
+    enum-told-3
+    enum-told-4
     unlocked-next-requires
     enum-known-which-2
     refused-requires-3
