@@ -5,7 +5,7 @@ use mathlib.Core.Bool.{Bool, true, false}
 use native.Mathlib.Omega.{arith}
 use lib.Dec.{eqb}
 use Rattle.lbp16.specs.Space.{Space, registers, eeprom, status, information, absent, row, infoRow, areaRow}
-use Rattle.lbp16.specs.Space.{isAbsent, storeBytes}
+use Rattle.lbp16.specs.Space.{spaceNumber, isAbsent, storeBytes}
 use Rattle.lbp16.specs.declared.space.Row.{Row}
 
 -- what holds of every line of the table
@@ -14,6 +14,7 @@ record Bounded (r : Row) : Type 0 where
   bytes : r .bytes ≤ 65536
   element : r .element ≤ 4
   some : 0 < r .element
+  size : r .size ≤ 3
 
 bounded : (i : Bool) (s : Space) → Bounded (areaRow i s)
 unfolding areaRow infoRow row
@@ -50,6 +51,18 @@ element-le s = area-element-le false s
 pub element-nonzero : (s : Space) → 0 < row s .element
 unfolding areaRow
 element-nonzero s = area-element-nonzero false s
+
+pub size-le : (s : Space) → row s .size ≤ 3
+unfolding areaRow
+size-le s = bounded false s .size
+
+pub number-le : (s : Space) → spaceNumber s ≤ 7
+unfolding spaceNumber
+number-le registers = omega arith
+number-le eeprom = omega arith
+number-le status = omega arith
+number-le information = omega arith
+number-le absent = omega arith
 
 -- a space that the card lacks has no bytes
 pub absent-bytes : (s : Space) → isAbsent s ≡ eqb (row s .bytes) 0

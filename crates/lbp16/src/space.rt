@@ -14,51 +14,29 @@ pub struct Row {
     pub locked: bool,
 }
 
+fn line(place: u32, bytes: u32, element: u32, size: u8, read_only: u32, locked: bool) -> Row
+    ensures { λ r. ⌜ r ≡ record { place = place; bytes = bytes; element = element; size = size; «read_only» = «read_only»; locked = locked } ⌝ }
+{
+    Row {
+        place,
+        bytes,
+        element,
+        size,
+        read_only,
+        locked,
+    }
+}
+
 // A space that the card lacks has no bytes.
 pub fn row_of(space: u8) -> Row
     ensures { λ r. ⌜ r ≡ row (spaceOf space) ⌝ }
 {
     match space {
-        0 => Row {
-            place: 0,
-            bytes: Pointer::REGISTERS,
-            element: 4,
-            size: 2,
-            read_only: 0,
-            locked: false,
-        },
-        2 => Row {
-            place: 65536,
-            bytes: Pointer::EEPROM,
-            element: 2,
-            size: 1,
-            read_only: 0x20,
-            locked: true,
-        },
-        6 => Row {
-            place: 65664,
-            bytes: Pointer::STATUS,
-            element: 2,
-            size: 1,
-            read_only: 0,
-            locked: false,
-        },
-        7 => Row {
-            place: 65696,
-            bytes: Pointer::INFORMATION,
-            element: 2,
-            size: 1,
-            read_only: 32,
-            locked: false,
-        },
-        _ => Row {
-            place: 0,
-            bytes: 0,
-            element: 1,
-            size: 0,
-            read_only: 0,
-            locked: false,
-        },
+        0 => line(0, Pointer::REGISTERS, 4, 2, 0, false),
+        2 => line(65536, Pointer::EEPROM, 2, 1, 0x20, true),
+        6 => line(65664, Pointer::STATUS, 2, 1, 0, false),
+        7 => line(65696, Pointer::INFORMATION, 2, 1, 32, false),
+        _ => line(0, 0, 1, 0, 0, false),
     }
 }
 
@@ -67,14 +45,7 @@ pub fn area_row(info: bool, space: u8) -> Row
     ensures { λ r. ⌜ r ≡ areaRow info (spaceOf space) ⌝ }
 {
     if info {
-        Row {
-            place: 0,
-            bytes: Pointer::INFO,
-            element: 2,
-            size: 1,
-            read_only: 16,
-            locked: false,
-        }
+        line(0, Pointer::INFO, 2, 1, 16, false)
     } else {
         row_of(space)
     }
