@@ -22,10 +22,12 @@ use Rattle.packet.proofs.ElementLaws.{write-kind, row-le, carried-write, answer
 use Rattle.packet.proofs.InfoLaws.{source-whole}
 use Rattle.packet.specs.Command.{kindOf, rowOf, headerBytes, commandBytes, stride, areaBytes}
 use Rattle.packet.specs.Command.{handed, stepsAt}
-use Rattle.packet.proofs.CommandLaws.{Passed, stride-le}
+use Rattle.packet.proofs.CommandLaws.{stride-le}
+use Rattle.packet.specs.Inside.{Passed}
 use Rattle.card.specs.Inside.{LetPass, Within, moved, laid, spanAt}
 use Rattle.card.specs.declared.run.Span.{Span}
-use Rattle.card.proofs.StepBlockLaws.{element-wide, within-bytes, within-row, writes-done, writes-read-nothing}
+use Rattle.card.proofs.CopyLaws.{within-block}
+use Rattle.card.proofs.StepBlockLaws.{element-wide, within-bytes, writes-done, writes-read-nothing}
 use Rattle.card.proofs.StepBlockLaws.{reads-keep, reads-done}
 
 kind-write : (f : Fields) → f .write ≡ true → kindOf f ≡ write
@@ -95,7 +97,7 @@ module _ (p : Pointers) (f : Fields) (rest : List ℕ) (pass : LetPass p f rest)
         step = le-trans (stride-le f) (row-le f);
         width = row-le f;
         spread = within-bytes _ _ _ _ _ _ _ (h .inside) b;
-        lined = within-row _ _ _ _ l;
+        lined = within-block _ _ _ _ l;
       })
 
   -- `src` is what the command is read from

@@ -11,7 +11,8 @@ use native.Mathlib.Numerals.{sub-one}
 use native.Mathlib.Nat.{add-zero, add-comm, suc-mul, zero-mul}
 use lib.ListN.{length, take, drop, length-drop}
 use lib.Seq.{sets, drop-drop, length-take-le, take-add, take-at, sets-eq, length-sets}
-use Rattle.packet.proofs.StoreLaws.{sets-append, sets-twice}
+use Rattle.packet.proofs.StoreLaws.{sets-twice}
+use Rattle.lbp16.proofs.ListLaws.{sets-append}
 use Rattle.card.specs.Inside.{Within, moved}
 
 pub wide-le : (wide : Bool) → 0 + cond wide 4 2 ≤ 4
@@ -52,6 +53,7 @@ moved-block (suc n) w src i dst j h =
     ∙ copied-on w (n * w) src i dst j (omega arith)
     ∙ ap (λ (k : ℕ). sets dst j (take k (drop i src))) (sym e)
 
+-- such elements stand within bytes that have room for them
 pub within-block : (n i w bytes : ℕ) → i + n * w ≤ bytes → Within n i w w bytes
 within-block zero i w bytes h = tt
 within-block (suc n) i w bytes h = let e = suc-mul n w in (omega arith, within-block n (i + w) w bytes (omega arith))

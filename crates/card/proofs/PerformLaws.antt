@@ -1,7 +1,7 @@
 -- The run's loop: after each command the store and the reply are those of the steps so far.
 use Prim.Native.Nat.{ℕ, _+_, _-_, _*_, _≤_, _<_}
 use mathlib.Core.Path.{_≡_, refl, sym, ap, _∙_}
-use mathlib.Core.Bool.{false}
+use mathlib.Core.Bool.{Bool, false}
 use mathlib.Core.List.{List, _++_, append-assoc}
 use native.Mathlib.Omega.{arith}
 use lib.ListN.{length, take, drop, set, length-append, length-drop, length-set}
@@ -9,15 +9,15 @@ use lib.Seq.{take-at, drop-at, drop-drop}
 use Rattle.lbp16.specs.Space.{spaceOf, storeBytes}
 use Rattle.lbp16.specs.declared.pointer.Pointers.{Pointers}
 use Rattle.packet.specs.Step.{answered, storeAfter, valuesRead, replyBytes, unlocked}
-use Rattle.packet.specs.Command.{limit, fieldsAt, kindOf, commandBytes, stepsAt, numberOf, found, pointersAfter}
-use Rattle.packet.specs.Command.{Progress, Command, commandAt}
+use Rattle.packet.specs.Command.{limit, fieldsAt, kindOf, commandBytes, stepsAt, pointersAfter}
+use Rattle.packet.proofs.ProgressLaws.{Progress, start, progressOf, progressAfter, numberAt}
 use Rattle.packet.specs.Judge.{Carried, begin, carry, judge, Verdict, accepted, refused}
-use Rattle.packet.specs.Verdict.{start, progressOf}
 use Rattle.lbp16.specs.Pointer.{pointersOf, pointerList}
 use Rattle.lbp16.specs.declared.word.Fields.{Fields}
 use Rattle.packet.proofs.StepLaws.{reply-append}
 use Rattle.packet.proofs.StoreLaws.{length-after, length-values, store-after-append, values-read-append}
-use Rattle.packet.proofs.CommandLaws.{Passed, advanced-used, reply-of-command}
+use Rattle.packet.proofs.CommandLaws.{advanced-used, reply-of-command}
+use Rattle.packet.specs.Inside.{Passed}
 use Rattle.packet.proofs.InfoLaws.{command-whole}
 use Rattle.packet.proofs.LoopLaws.{At, Turn, at-begin, at-end, at-passed, at-accepted, at-step}
 use Rattle.packet.proofs.CountLaws.{command-elements, few, Paid, paid-start, paid-next}
@@ -115,107 +115,126 @@ module _ {list packet store₀ reply₀ store pointers reply : List ℕ} {filled
         moved = s .moved;
       }
 
-  module _ (some : 0 < length rest) (f : Fields) (r : Reach) (e : f ≡ fieldsAt rest)
-      (reach : r ≡ reachAt (pointersOf pointers) (fieldsAt rest) rest) where
-    abbrev c : Carried
-    c = s .carried
+-- the pointers after a command, as the code finds them
+pointers-next : {p : Pointers} {open? : Bool} {reply : ℕ} (pointers rest : List ℕ) (r : Reach) → length pointers ≡ 8
+    → pointersOf pointers ≡ p → Passed p open? reply (fieldsAt rest) rest → r ≡ reachAt (pointersOf pointers) (fieldsAt rest) rest
+    → pointersOf (set pointers (r .slot) (r .next)) ≡ pointersAfter p (fieldsAt rest) rest
+unfolding pointersAfter reachFrom
+pointers-next pointers rest r l e pass reach =
+    rw (ap (λ (t : Reach). t .slot) reach, ap (λ (t : Reach). t .next) reach)
+    (slot-written pointers l _ _ _ (pass .present) ∙ rw (e, advanced-used _ _ _ (fieldsAt rest) rest pass) refl)
 
-    abbrev x : Command
-    x = commandAt (progressOf c) (c .place) rest
+-- The next command, as the code finds it.
+pub record Here (list packet store₀ reply₀ store pointers reply : List ℕ) (filled elements : ℕ) (rest : List ℕ) (f : Fields) (r : Reach) : Type 0 where
+  pub doing : Doing list packet store₀ reply₀ store pointers reply filled elements rest
+  pub some : 0 < length rest
+  pub read : f ≡ fieldsAt rest
+  pub reach : r ≡ reachAt (pointersOf pointers) (fieldsAt rest) rest
 
-    none : numberOf (x .found .which) ≡ 0
-    none = let (end, a) = is-accepted _ (s .fine) in at-accepted rest (s .here) some end a
+module _ {list packet store₀ reply₀ store pointers reply : List ℕ} {filled elements : ℕ} {rest : List ℕ} {f : Fields} {r : Reach}
+    (h : Here list packet store₀ reply₀ store pointers reply filled elements rest f r) where
+  abbrev s : Doing list packet store₀ reply₀ store pointers reply filled elements rest
+  s = h .doing
 
-    pass : Passed (c .pointers) (unlocked false (c .steps)) (replyBytes (c .steps)) (fieldsAt rest) rest
-    unfolding progressOf
-    pass = at-passed rest (s .here) some none
+  abbrev some : 0 < length rest
+  some = h .some
 
-    bytes : r .bytes ≡ commandBytes (fieldsAt rest)
-    unfolding reachFrom
-    bytes = ap (λ (t : Reach). t .bytes) reach
+  abbrev e : f ≡ fieldsAt rest
+  e = h .read
 
-    answers-is : r .answered ≡ f .count * answered (kindOf f) (spaceOf (f .space))
-    unfolding reachFrom
-    answers-is = rw e (ap (λ (t : Reach). t .answered) reach)
+  abbrev reach : r ≡ reachAt (pointersOf pointers) (fieldsAt rest) rest
+  reach = h .reach
 
-    pub next : Next pointers filled f r rest store reply
-    unfolding reachFrom
-    next =
-        let l = pass .answers in
-        let q = length-reply in
-        let n : filled + f .count * answered (kindOf f) (spaceOf (f .space)) ≤ limit = rw (e, s .filled-is) l in
-        let a = answers-is in
-        record {
-          ready = record {
-            passed = rw (e, s .pointed) (record { open? = _; reply = _; passed = pass });
-            reach = rw e reach;
-          };
-          store-bytes = length-store ∙ s .store-bytes;
-          room = omega arith;
-          slot = rw (s .eight, ap (λ (t : Reach). t .slot) reach) (slot-below _ _ (pass .present));
-          answers = omega arith;
-        }
+  abbrev c : Carried
+  c = s .carried
 
-    pub turn : Turn (pointersOf list) packet c (x .next) (c .place) (r .bytes) rest
-    unfolding commandAt found
-    turn = at-step (s .here) some x 0 (r .bytes) refl (sym none) refl bytes
+  none : numberAt (progressOf c) rest ≡ 0
+  none = let (end, a) = is-accepted _ (s .fine) in at-accepted rest (s .here) some end a
 
-    -- the pointers after a command, as the code finds them
-    pointers-on : pointersOf (set pointers (r .slot) (r .next)) ≡ pointersAfter (c .pointers) (fieldsAt rest) rest
-    unfolding pointersAfter reachFrom
-    pointers-on =
-        rw (ap (λ (t : Reach). t .slot) reach, ap (λ (t : Reach). t .next) reach)
-        (slot-written pointers (s .eight) _ _ _ (pass .present) ∙ rw (s .pointed, advanced-used _ _ _ (fieldsAt rest) rest pass) refl)
+  pass : Passed (c .pointers) (unlocked false (c .steps)) (replyBytes (c .steps)) (fieldsAt rest) rest
+  unfolding progressOf
+  pass = at-passed rest (s .here) some none
 
-    pub doing-next : (store′ reply′ : List ℕ) → store′ ≡ storeAfter (stepsAt (pointersOf pointers) f rest) store
-        → reply′ ≡ laid filled (valuesRead (stepsAt (pointersOf pointers) f rest) store) reply
-        → (elements′ : ℕ) → elements′ ≡ elements + f .count
-        → Doing list packet store₀ reply₀ store′ (set pointers (r .slot) (r .next)) reply′ (filled + r .answered) elements′
-        (take (length rest - r .bytes) (drop (r .bytes) rest))
-    unfolding commandAt found carry progressOf
-    doing-next store′ reply′ e₁ e₂ elements′ e₆ =
-        let steps = stepsAt (c .pointers) (fieldsAt rest) rest in
-        let left : store′ ≡ storeAfter steps store = rw (e, s .pointed) at e₁ in
-        let back : reply′ ≡ laid filled (valuesRead steps store) reply = rw (e, s .pointed) at e₂ in
-        let seen-bytes : length (valuesRead steps store) ≡ replyBytes steps =
-        length-values steps store (length-store ∙ s .store-bytes) (command-whole (c .pointers) (fieldsAt rest) rest)
-        (pass .inside) in
-        let seen : valuesRead (c .steps ++ steps) store₀ ≡ valuesRead (c .steps) store₀ ++ valuesRead steps store =
-        values-read-append (c .steps) steps store₀
-        ∙ ap (λ (t : List ℕ). valuesRead (c .steps) store₀ ++ valuesRead steps t) (sym (s .store-is)) in
-        let more-is : r .answered ≡ replyBytes steps = rw (reply-of-command (c .pointers) (fieldsAt rest) rest, ← e) answers-is in
-        record {
-          carried = carry c rest;
-          here = settled (turn .again);
-          fine = s .fine;
-          store-bytes = s .store-bytes;
-          reply-bytes = s .reply-bytes;
-          eight = length-set pointers (r .slot) (r .next) ∙ s .eight;
-          pointed = pointers-on;
-          store-is = left ∙ ap (storeAfter steps) (s .store-is) ∙ sym (store-after-append (c .steps) steps store₀);
-          reply-is =
-              rw seen
-              (back
-              ∙ values-behind (valuesRead (c .steps) store₀) (valuesRead steps store) reply₀ reply filled (s .count)
-              (s .reply-is ∙ rw (s .count) refl));
-          filled-is = let g = reply-append (c .steps) steps in let n = s .filled-is in omega arith;
-          count = rw (seen, length-append, seen-bytes, s .count, more-is) refl;
-          within = next .answers;
-          moved =
-              rw (e₆, e, length-append, command-elements (c .pointers) (fieldsAt rest) rest)
-              (ap (λ (n : ℕ). n + fieldsAt rest .count) (s .moved));
-          paid = paid-next c rest (pass .present) (s .paid);
-        }
+  bytes : r .bytes ≡ commandBytes (fieldsAt rest)
+  unfolding reachFrom
+  bytes = ap (λ (t : Reach). t .bytes) reach
 
-    -- the count stays small
-    pub count-small : 256 * (elements + f .count) ≤ 127 * (limit + length packet) + 32512
-    unfolding progressOf
-    count-small =
-        let q = s .paid in
-        let m = s .moved in
-        let w = s .within in
-        let b = few rest in
-        let n = s .filled-is in
-        let a = s .here .at in
-        let l = s .here .end in
-        rw e (omega arith)
+  answers-is : r .answered ≡ f .count * answered (kindOf f) (spaceOf (f .space))
+  unfolding reachFrom
+  answers-is = rw e (ap (λ (t : Reach). t .answered) reach)
+
+  pub next : Next pointers filled f r rest store reply
+  unfolding reachFrom
+  next =
+      let l = pass .answers in
+      let q = length-reply s in
+      let n : filled + f .count * answered (kindOf f) (spaceOf (f .space)) ≤ limit = rw (e, s .filled-is) l in
+      let a = answers-is in
+      record {
+        ready = record {
+          passed = rw (e, s .pointed) (record { open? = _; reply = _; passed = pass });
+          reach = rw e reach;
+        };
+        store-bytes = length-store s ∙ s .store-bytes;
+        room = omega arith;
+        slot = rw (s .eight, ap (λ (t : Reach). t .slot) reach) (slot-below _ _ (pass .present));
+        answers = omega arith;
+      }
+
+  pub turn : Turn (pointersOf list) packet c (progressAfter (progressOf c) (fieldsAt rest) rest) (c .place) (r .bytes) rest
+  turn = at-step (s .here) some (r .bytes) none bytes
+
+  pub doing-next : (store′ reply′ : List ℕ) → store′ ≡ storeAfter (stepsAt (pointersOf pointers) f rest) store
+      → reply′ ≡ laid filled (valuesRead (stepsAt (pointersOf pointers) f rest) store) reply
+      → (elements′ : ℕ) → elements′ ≡ elements + f .count
+      → Doing list packet store₀ reply₀ store′ (set pointers (r .slot) (r .next)) reply′ (filled + r .answered) elements′
+      (take (length rest - r .bytes) (drop (r .bytes) rest))
+  unfolding carry progressOf
+  doing-next store′ reply′ e₁ e₂ elements′ e₆ =
+      let steps = stepsAt (c .pointers) (fieldsAt rest) rest in
+      let left : store′ ≡ storeAfter steps store = rw (e, s .pointed) at e₁ in
+      let back : reply′ ≡ laid filled (valuesRead steps store) reply = rw (e, s .pointed) at e₂ in
+      let seen-bytes : length (valuesRead steps store) ≡ replyBytes steps =
+      length-values steps store (length-store s ∙ s .store-bytes) (command-whole (c .pointers) (fieldsAt rest) rest)
+      (pass .inside) in
+      let seen : valuesRead (c .steps ++ steps) store₀ ≡ valuesRead (c .steps) store₀ ++ valuesRead steps store =
+      values-read-append (c .steps) steps store₀
+      ∙ ap (λ (t : List ℕ). valuesRead (c .steps) store₀ ++ valuesRead steps t) (sym (s .store-is)) in
+      let more-is : r .answered ≡ replyBytes steps = rw (reply-of-command (c .pointers) (fieldsAt rest) rest, ← e) answers-is in
+      record {
+        carried = carry c rest;
+        here = settled (turn .again);
+        fine = s .fine;
+        store-bytes = s .store-bytes;
+        reply-bytes = s .reply-bytes;
+        eight = length-set pointers (r .slot) (r .next) ∙ s .eight;
+        pointed = pointers-next pointers rest r (s .eight) (s .pointed) pass reach;
+        store-is = left ∙ ap (storeAfter steps) (s .store-is) ∙ sym (store-after-append (c .steps) steps store₀);
+        reply-is =
+            rw seen
+            (back
+            ∙ values-behind (valuesRead (c .steps) store₀) (valuesRead steps store) reply₀ reply filled (s .count)
+            (s .reply-is ∙ rw (s .count) refl));
+        filled-is = let g = reply-append (c .steps) steps in let n = s .filled-is in omega arith;
+        count = rw (seen, length-append, seen-bytes, s .count) (ap (λ (n : ℕ). filled + n) (sym more-is));
+        within = next .answers;
+        moved =
+            e₆
+            ∙ ap (λ (g : Fields). elements + g .count) e
+            ∙ rw (length-append, command-elements (c .pointers) (fieldsAt rest) rest)
+            (ap (λ (n : ℕ). n + fieldsAt rest .count) (s .moved));
+        paid = paid-next c rest (pass .present) (s .paid);
+      }
+
+  -- the count stays small
+  pub count-small : 256 * (elements + f .count) ≤ 127 * (limit + length packet) + 32512
+  unfolding progressOf
+  count-small =
+      let q = s .paid in
+      let m = s .moved in
+      let w = s .within in
+      let b = few rest in
+      let n = s .filled-is in
+      let a = s .here .at in
+      let l = s .here .end in
+      rw e (omega arith)

@@ -3,21 +3,23 @@ use Prim.Native.Nat.{ℕ, zero, suc, _+_, _*_, _/_, _%_, _≤_, _<_}
 use mathlib.Core.Path.{_≡_, refl, sym, ap, _∙_}
 use mathlib.Core.Logic.{_⊎_, inl}
 use mathlib.Core.Bool.{Bool, true, false, not, cond}
-use mathlib.Core.List.{List, [], _∷_, append-assoc}
+use mathlib.Core.List.{List, [], _∷_}
 use native.Mathlib.Omega.{arith}
 use native.Mathlib.Decide.{decLe}
 use native.Mathlib.Nat.{add-zero}
 use lib.Dec.{eqb, ltb}
-use lib.ListN.{length, take, drop, getD, set, length-set}
-use lib.Seq.{sets, sets-eq, length-sets, length-take-le, getD-set-same, getD-set-other, take-at, drop-at}
+use lib.ListN.{length, drop, getD, set, length-set}
+use lib.Seq.{length-sets, getD-set-same, getD-set-other, drop-at}
 use borrow.Author.Tests.{eqb-true, eqb-false, eq-eqb, ne-eqb, ltb-true, ltb-false, not-false, le-ltb}
+use Rattle.lbp16.proofs.ListLaws.{slice-of-sets}
 use Rattle.lbp16.proofs.BoolLaws.{or-false}
 use Rattle.lbp16.proofs.PointerLaws.{pointer-le}
 use Rattle.lbp16.specs.Answer.{Answer}
 use Rattle.lbp16.specs.Space.{Space, storeBytes, row, areaRow}
 use Rattle.lbp16.specs.Pointer.{aboveSize, pointerOf}
 use Rattle.lbp16.specs.declared.pointer.Pointers.{Pointers}
-use Rattle.packet.specs.Step.{at, isInfo, rowBy, statusWrite, storeAfter, valuesRead, replyBytes}
+use Rattle.packet.specs.Step.{at, isInfo, rowBy, storeAfter, valuesRead, replyBytes}
+use Rattle.packet.specs.Inside.{statusWrite}
 use Rattle.packet.specs.Command.{limit}
 use Rattle.packet.specs.Judge.{Carried, Verdict, refused, accepted, judge}
 use Rattle.packet.specs.Verdict.{answerTo}
@@ -94,11 +96,6 @@ unfolding bytesOf number
 count-modulo n =
     let e : number (bytesOf 2 n) + 0 ≡ n % 65536 = omega arith in
     sym (ap (bytesOf 2) e) ∙ count-on 2 n 0 ∙ ap (bytesOf 2) (add-zero n)
-
--- what stands in a range that was written
-slice-of-sets : (l : List ℕ) (i : ℕ) (ws : List ℕ) → i + length ws ≤ length l → take (length ws) (drop i (sets l i ws)) ≡ ws
-slice-of-sets l i ws h =
-    rw (sets-eq ws l i h, append-assoc, drop-at (take i l) _ i (length-take-le i l (omega arith)), take-at ws _ _ refl) refl
 
 -- what the count holds once it has risen
 pub count-risen : (store : List ℕ) → length store ≡ storeBytes

@@ -40,13 +40,6 @@ within-bytes k s (suc n) a d bytes bs e h =
     let l = ltb-false (rowBy k s .bytes) (a + rowBy k s .element) now in
     (omega arith, rw add-assoc (within-bytes k s n (a + d) d bytes _ later h))
 
--- so do elements that stand one after the other in enough bytes
-pub within-row : (n j w bytes : ℕ) → j + n * w ≤ bytes → Within n j w w bytes
-within-row zero j w bytes h = tt
-within-row (suc n) j w bytes h =
-    let e = suc-mul n w in
-    (omega arith, within-row n (j + w) w bytes (omega arith))
-
 pub writes-done : (s : Space) (n a d i : ℕ) (bs store : List ℕ)
     → moved n (row s .element) bs i (row s .element) store (row s .place + a) d
     ≡ storeAfter (elements write s n a d (drop i bs)) store

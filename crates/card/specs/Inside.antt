@@ -11,7 +11,7 @@ use Rattle.packet.specs.Step.{storeAfter, valuesRead}
 use Rattle.packet.specs.Command.{rowOf, addressUsed, stride}
 use Rattle.packet.specs.Reach.{reachAt}
 use Rattle.packet.specs.declared.command.Reach.{Reach}
-use Rattle.packet.proofs.CommandLaws.{Passed}
+use Rattle.packet.specs.Inside.{Passed}
 use Rattle.packet.specs.Judge.{Carried, Verdict, refused, accepted, judge}
 use Rattle.card.specs.declared.run.Span.{Span}
 use Rattle.lbp16.specs.Pointer.{pointersOf, pointerList}

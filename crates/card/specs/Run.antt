@@ -27,10 +27,10 @@ pub record Outcome : Type 0 where
 
 -- the first bytes in the store of the unlock cell and of the packet count (RXUDPCount), 0x1A and 0x0A of space 6
 abbrev pub unlockCell : ℕ
-unlockCell = 65690
+unlockCell = 65664 + 0x1A
 
 abbrev pub countCell : ℕ
-countCell = 65674
+countCell = 65664 + 0x0A
 
 -- the store with the unlock cell at 0
 unfoldable pub cleared : List ℕ → List ℕ

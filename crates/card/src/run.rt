@@ -168,13 +168,17 @@ fn perform(packet: &[u8], store: &mut [u8], pointers: &mut [u32], reply: &mut [u
     elements
 }
 
+// The first bytes in the store of the unlock cell and of the packet count, 0x1A and 0x0A of space 6.
+const UNLOCK_CELL: usize = 65664 + 0x1A;
+
+pub const COUNT_CELL: usize = 65664 + 0x0A;
+
 // Sets the unlock cell to 0.
 fn clear_unlock(store: &mut [u8])
     requires { ⌜ length (now store) ≡ storeBytes ⌝ }
     ensures { λ r. ⌜ now (store .exit) ≡ cleared (now (store .entry)) ⌝ }
 {
-    store[65690] = 0;
-    store[65691] = 0;
+    element::store2(store, UNLOCK_CELL, 0);
 }
 
 // Counts the packet: the cell at 0x0A of space 6 goes up by one, from 65,535 to 0.
@@ -182,8 +186,8 @@ fn count_packet(store: &mut [u8])
     requires { ⌜ length (now store) ≡ storeBytes ⌝ }
     ensures { λ r. ⌜ now (store .exit) ≡ counted (now (store .entry)) ⌝ }
 {
-    let next = element::fetch2(store, 65674) as u32 + 1;
-    element::store2(store, 65674, (next % 65536) as u16);
+    let next = element::fetch2(store, COUNT_CELL) as u32 + 1;
+    element::store2(store, COUNT_CELL, (next % 65536) as u16);
 }
 
 // The check's answer, and how many elements were moved.

@@ -11,9 +11,9 @@ use Rattle.cue.specs.Packing.{packets}
 use Rattle.cue.specs.Compile.{Compiled, compiledTo, compiled, compileListed, needed, packed, output, outputBytes}
 use Rattle.cue.specs.declared.CompileAnswer.{CompileAnswer}
 use Rattle.lbp16.specs.declared.Refusal.{Refusal}
-use Rattle.cue.specs.Inside.{onward, Planned, planned, planAnswer, roomAfter, Ready}
+use Rattle.cue.specs.Inside.{onward, Planned, planned, roomAfter, Ready}
 use Rattle.cue.specs.Summary.{none}
-use Rattle.cue.proofs.LoopLaws.{needs}
+use Rattle.cue.proofs.LoopLaws.{needs, planAnswer}
 
 -- what an answer and a room at exit must be
 abbrev pub Both : Answer → List ℕ → Compiled → Type 0

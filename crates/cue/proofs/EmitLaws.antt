@@ -7,7 +7,8 @@ use native.Mathlib.Omega.{arith}
 use native.Mathlib.Nat.{le-trans}
 use lib.ListN.{length, take, drop, length-append, length-drop}
 use lib.Seq.{take-take}
-use Rattle.lbp16.specs.Space.{Space, registers, eeprom, status, information, absent, spaceNumber}
+use Rattle.lbp16.specs.Space.{Space}
+use Rattle.lbp16.proofs.SpaceLaws.{number-le}
 use Rattle.packet.specs.Step.{Kind, read, write, infoRead, Step, isWrite, carried}
 use Rattle.packet.specs.Rules.{first}
 use Rattle.packet.specs.Command.{pickKind}
@@ -16,7 +17,7 @@ use Rattle.cue.specs.Records.{Listed, refused, records, recordsOf, recor
 use Rattle.cue.specs.Records.{recordKind, recordSpace, recordBytes, recordAt}
 use Rattle.cue.specs.Packing.{Command, Open, commandsOf, started, joinAll, packetBytes}
 use Rattle.cue.specs.Output.{outputOf}
-use Rattle.cue.specs.Inside.{advance, finished, onward, Planned, planned, roomAfter, Placed, Ready}
+use Rattle.cue.specs.Inside.{onward, Planned, planned, roomAfter, Placed, Ready}
 use Rattle.cue.specs.Summary.{carriedBy, Progress, none, some, summary, turnedBy, wrote}
 use Rattle.cue.specs.Compile.{outputBytes}
 use Rattle.cue.specs.declared.packer.Packer.{Packer}
@@ -25,7 +26,7 @@ use Rattle.cue.proofs.PacketLaws.{packet-bytes-append}
 use Rattle.cue.proofs.PackingLaws.{turn-cases}
 use Rattle.cue.proofs.OutputLaws.{joined-bytes}
 use Rattle.cue.proofs.ReadingLaws.{passing, front-there}
-use Rattle.cue.proofs.PackerLaws.{grown, carried-brief, output-append, output-one}
+use Rattle.cue.proofs.PackerLaws.{grown, carried-brief, output-append, output-one, advance, finished}
 use Rattle.cue.proofs.LoopLaws.{Held, held-first, held-next, held-again, bytes-whole, shorter, onward-next, onward-end, planned-refused, end-is, at-end}
 use Rattle.cue.proofs.RoomLaws.{roomOf, finished-length, open-apart, head-length, wrote-next}
 
@@ -61,14 +62,6 @@ plan-more s (refused n i) css e = let z : _≡_ {A = ℕ} 0 1 = cc in absurd (om
 plan-more s (records xs) css e = let q : onward s xs ≡ css = cc in rw (← q) (onward-more s xs)
 
 -- where the parts of a packet stand
-pub space-le : (s : Space) → spaceNumber s ≤ 7
-unfolding spaceNumber
-space-le registers = omega arith
-space-le eeprom = omega arith
-space-le status = omega arith
-space-le information = omega arith
-space-le absent = omega arith
-
 record Shape (q : Packer) : Type 0 where
   frame : q .frame + 4 ≤ q .end
   word : q .word + 4 ≤ q .end
@@ -79,7 +72,7 @@ unfolding summary
 shape-some css o u =
     let bytes : length (packetBytes (commandsOf o)) ≡ length (packetBytes (o .before)) + (4 + length (joinAll (o .last .elements))) =
     rw (open-apart, length-append, length-append, head-length) refl in
-    record { frame = omega arith; word = omega arith; space = space-le _ }
+    record { frame = omega arith; word = omega arith; space = number-le _ }
 
 shape-next : (s : Progress) (x : Step) (u : Bool) → Shape (summary (advance s x) u)
 unfolding advance
@@ -192,24 +185,40 @@ pub put-front : (list rest old room : List ℕ) (p : Packer) → Ready list old 
 put-front list rest old room p ready f l =
     front-there (f .index) rest (good-next list rest old (f .index) (f .s) p ready (f .held) l)
 
--- a turn of the loop, as the code makes it
-module _ (list rest old room : List ℕ) (p q : Packer) (r : Record) (ready : Ready list old)
-    (f : Filled list rest old room p) (l : length rest ≡ 0 → ⊥) (a : r ≡ recordAt rest) (d : q ≡ turnedBy p r) where
+-- what the record's writing leaves
+room-put : (list rest old room : List ℕ) (p q : Packer) (r : Record) (ready : Ready list old) (f : Filled list rest old room p)
+    (l : length rest ≡ 0 → ⊥) → r ≡ recordAt rest → q ≡ turnedBy p r → (m : ℕ) → m ≡ carriedBy r
+    → wrote q (take m (drop 6 rest)) room ≡ roomOf (advance (f .s) (recordStep rest)) old
+room-put list rest old room p q r ready f l a d m e =
+    rw (e, d, a, f .now) (room-next list rest old (f .index) (f .s) p ready (f .held) l)
+
+-- A turn of the loop, as the code makes it: `q` is the packer that is told of the record.
+pub record Putting (list rest old room : List ℕ) (p q : Packer) (r : Record) : Type 0 where
+  pub ready : Ready list old
+  pub filled : Filled list rest old room p
+  pub more : length rest ≡ 0 → ⊥
+  pub read : r ≡ recordAt rest
+  pub told : q ≡ turnedBy p r
+
+module _ {list rest old room : List ℕ} {p q : Packer} {r : Record} (t : Putting list rest old room p q r) where
+  abbrev f : Filled list rest old room p
+  f = t .filled
+
   pub put-placed : Placed q (length room)
-  put-placed = rw (d, a, f .now) (placed-next list rest old (f .index) (f .s) p ready (f .held) l)
+  put-placed = rw (t .told, t .read, f .now) (placed-next list rest old (f .index) (f .s) p (t .ready) (f .held) (t .more))
 
   pub put-element : (m : ℕ) → m ≡ carriedBy r → 6 + m ≤ length rest
-  put-element m e = rw (e, a) (element-next list rest old (f .index) (f .s) p ready (f .held) l)
+  put-element m e = rw (e, t .read) (element-next list rest old (f .index) (f .s) p (t .ready) (f .held) (t .more))
 
   good : 0 ≡ first (recordRefusals (f .index) rest)
-  good = sym (good-next list rest old (f .index) (f .s) p ready (f .held) l)
+  good = sym (good-next list rest old (f .index) (f .s) p (t .ready) (f .held) (t .more))
 
   module _ (n : ℕ) (b : n ≡ recordBytes (pickKind (r .write))) where
     pub put-whole : n ≤ length rest
-    put-whole = bytes-whole list rest (f .index) 0 n (f .s) p r (f .held) l good refl a b
+    put-whole = bytes-whole list rest (f .index) 0 n (f .s) p r (f .held) (t .more) good refl (t .read) b
 
     pub put-shorter : length (take (length rest - n) (drop n rest)) < length rest
-    put-shorter = shorter list rest (f .index) 0 n (f .s) p r (f .held) l good refl a b
+    put-shorter = shorter list rest (f .index) 0 n (f .s) p r (f .held) (t .more) good refl (t .read) b
 
     pub filled-again : (m : ℕ) (wide : List ℕ) → m ≡ carriedBy r → wide ≡ wrote q (take m (drop 6 rest)) room
         → Filled list (take (length rest - n) (drop n rest)) old wide q
@@ -217,6 +226,6 @@ module _ (list rest old room : List ℕ) (p q : Packer) (r : Record) (ready : Re
         record {
           index = f .index + 1;
           s = advance (f .s) (recordStep rest);
-          held = held-again list rest (f .index) 0 n (f .s) p r (f .held) l good refl a b q d;
-          now = w ∙ rw (e, d, a, f .now) (room-next list rest old (f .index) (f .s) p ready (f .held) l);
+          held = held-again list rest (f .index) 0 n (f .s) p r (f .held) (t .more) good refl (t .read) b q (t .told);
+          now = w ∙ room-put list rest old room p q r (t .ready) f (t .more) (t .read) (t .told) m e;
         }

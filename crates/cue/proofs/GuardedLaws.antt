@@ -8,7 +8,9 @@ use lib.Dec.{ltb}
 use lib.ListN.{length, take, drop}
 use borrow.Author.Tests.{ltb-false, le-ltb}
 use Rattle.lbp16.proofs.BoolLaws.{or-false}
+use Rattle.packet.specs.Command.{limit}
 use Rattle.cue.specs.Inside.{Roomy, Placed}
+use Rattle.cue.specs.Output.{frameRoom}
 use Rattle.cue.specs.Summary.{carriedBy, turnedBy, wrote}
 use Rattle.cue.specs.Records.{recordAt}
 use Rattle.cue.specs.Guarded.{anyOf, looseTests, turnedWithin, outsideTests, putWithin}
@@ -62,10 +64,10 @@ pub placed-within : (q : Packer) (n rest room : ℕ) → anyOf (outsideTests q n
 unfolding outsideTests
 placed-within q n rest room e =
     let (wide, (frame, (word, (unlock, (end, (some, (space, (count, (packet, (whole, _)))))))))) = none-of (outsideTests q n rest room) e in
-    let w = ltb-false room 1476 wide in
-    let f = ltb-false 1472 (q .frame) frame in
-    let d = ltb-false 1472 (q .word) word in
-    let g = ltb-false 1476 (q .end) end in (
+    let w = ltb-false room frameRoom wide in
+    let f = ltb-false limit (q .frame) frame in
+    let d = ltb-false limit (q .word) word in
+    let g = ltb-false frameRoom (q .end) end in (
       record {
         frame = omega arith;
         word = omega arith;

@@ -9,20 +9,25 @@ use lib.Seq.{take-all}
 use Rattle.lbp16.specs.Answer.{Answer}
 use Rattle.packet.specs.Step.{Step}
 use Rattle.packet.specs.Rules.{first}
-use Rattle.packet.specs.Command.{pickKind}
+use Rattle.packet.specs.Command.{limit, pickKind}
 use Rattle.cue.specs.Records.{Listed, refused, records, recordsOf, recordsFrom, recordRefusals, recordStep}
-use Rattle.cue.specs.Records.{recordKind, recordBytes, recordAt, withRecord, listedAt}
+use Rattle.cue.specs.Records.{recordKind, recordBytes, recordAt, withRecord, listedAt, mostRecords}
 use Rattle.cue.specs.Packing.{packFrom, packets}
 use Rattle.cue.specs.Output.{outputOf}
 use Rattle.cue.specs.declared.records.Record.{Record}
 use Rattle.cue.specs.Compile.{packed, output, outputBytes, needed}
 use Rattle.cue.specs.Summary.{Progress, none, some, summary, turnedBy}
-use Rattle.cue.specs.Inside.{advance, finished, onward, Planned, planned, planAnswer, Roomy}
+use Rattle.cue.specs.Inside.{onward, Planned, planned, Roomy}
 use Rattle.cue.specs.declared.packer.Packer.{Packer}
 use Rattle.cue.proofs.PackingLaws.{record-bytes-le}
 use Rattle.cue.proofs.WalkLaws.{records-next, records-end}
 use Rattle.cue.proofs.ReadingLaws.{Passing, passing}
-use Rattle.cue.proofs.PackerLaws.{Fine, Following, next, grown, output-append, output-one}
+use Rattle.cue.proofs.PackerLaws.{Fine, Following, next, grown, output-append, output-one, advance, finished}
+
+-- what the first pass answers
+unfoldable pub planAnswer : Planned → Answer
+planAnswer (Planned.refused n i) = Answer.refused n i
+planAnswer (Planned.packed css) = Answer.accepted (length (outputBytes css) ∷ length css ∷ [])
 
 -- records still to come, and the list's end
 pub onward-next : (s : Progress) (x : Step) (xs : List Step) → onward s (x ∷ xs) ≡ onward (advance s x) xs
@@ -68,10 +73,10 @@ pub record Held (list rest : List ℕ) (index : ℕ) (s : Progress) (p : Packer)
   pub enough : length rest ≤ fuel
   pub same : planned none (recordsOf list) ≡ planned s (recordsFrom fuel index rest)
   pub following : Following s p
-  pub few : index ≤ 100000
+  pub few : index ≤ mostRecords
   pub count : p .count ≤ 127
-  pub packet : p .packet ≤ 1473
-  pub reply : p .reply ≤ 1472
+  pub packet : p .packet ≤ limit + 1
+  pub reply : p .reply ≤ limit
   pub end : p .end ≤ 18 * index
   pub packets : p .packets ≤ index
 
@@ -123,7 +128,7 @@ held-next list rest index s p h l e = go (h .fuel) (h .enough) (h .same)
     go (suc k) n q =
         let f : Fine x = record { good = w .good; plain = w .plain; wide = w .wide } in
         let g = grown p (recordAt rest) in
-        let few : index < 100000 = omega (arith, h .few, w .few) in
+        let few : index < mostRecords = omega (arith, h .few, w .few) in
         record {
           fuel = k;
           enough = rw length-drop (omega (arith, record-bytes-le (recordKind rest)));

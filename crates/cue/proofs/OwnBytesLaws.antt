@@ -6,21 +6,16 @@ use mathlib.Core.List.{List, _++_}
 use mathlib.Core.Bool.{Bool, true, false, not, _&&_}
 use native.Mathlib.Omega.{arith}
 use lib.Dec.{eqb}
-use lib.ListN.{length, take, drop, getD, length-append, length-drop, List·getD-append}
-use lib.Seq.{take-append-le, drop-append-le}
+use lib.ListN.{length, take, getD, length-append, List·getD-append}
+use lib.Seq.{take-append-le}
 use borrow.Author.Tests.{le-ltb, ne-eqb}
+use Rattle.lbp16.proofs.ListLaws.{slice-front}
 use Rattle.packet.specs.Step.{Kind, read, write, infoRead, isInfo, carried, isWrite}
 use Rattle.packet.proofs.StepLaws.{pick-plain}
 use Rattle.packet.specs.Rules.{first}
 use Rattle.packet.proofs.RuleLaws.{none-holds, first-of-none}
 use Rattle.cue.specs.Records.{recordRefusals, recordStep, recordKind, recordBytes, recordSpace, valueBytes, upperHalf}
 use Rattle.cue.specs.Records.{markAt, writeMark, mostRecords}
-
--- m bytes from d on, where they stand in the list's first part
-inside : (m d : ℕ) (r x : List ℕ) → d + m ≤ length r → take m (drop d (r ++ x)) ≡ take m (drop d r)
-inside m d r x h =
-    let e : d ≤ length r = omega arith in
-    rw (drop-append-le d r x e) (take-append-le m (drop d r) x (rw length-drop (omega arith)))
 
 -- What the rules look at, the index and the list's end apart, is the same where the same bytes stand in front.
 record Alike (r other : List ℕ) : Type 0 where
@@ -43,7 +38,7 @@ alike r x h = go (recordKind r) refl h
     go read q h =
         let mark : take 2 (r ++ x) ≡ take 2 r = take-append-le 2 r x (omega arith) in
         let space : getD (r ++ x) 2 0 ≡ getD r 2 0 = List·getD-append r x 0 2 (omega arith) in
-        let address = inside 2 4 r x (omega arith) in
+        let address = slice-front 2 4 r x (omega arith) in
         record {
           mark = rw mark refl;
           kind = rw mark refl;
@@ -59,8 +54,8 @@ alike r x h = go (recordKind r) refl h
     go write q h =
         let mark : take 2 (r ++ x) ≡ take 2 r = take-append-le 2 r x (omega arith) in
         let space : getD (r ++ x) 2 0 ≡ getD r 2 0 = List·getD-append r x 0 2 (omega arith) in
-        let address = inside 2 4 r x (omega arith) in
-        let value = inside 4 6 r x (omega arith) in
+        let address = slice-front 2 4 r x (omega arith) in
+        let value = slice-front 4 6 r x (omega arith) in
         record {
           mark = rw mark refl;
           kind = rw mark refl;

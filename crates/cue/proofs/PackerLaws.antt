@@ -2,7 +2,7 @@
 use Prim.Native.Nat.{ℕ, _+_, _*_, _≤_, _<_}
 use mathlib.Core.Path.{_≡_, refl, sym, ap, _∙_}
 use mathlib.Core.List.{List, [], _∷_, _++_, append-assoc, append-nil}
-use mathlib.Core.Bool.{Bool, Bool·beq, true, false, not, _||_, _&&_, cond}
+use mathlib.Core.Bool.{Bool, Bool·beq, true, false, not, _||_, _&&_, cond, and-false, and-true as and-all}
 use native.Mathlib.Omega.{arith}
 use lib.Dec.{eqb, ltb, leb}
 use lib.ListN.{length, length-append}
@@ -19,7 +19,7 @@ use Rattle.cue.specs.Packing.{Command, joinAll, packetBytes, elementStep
 use Rattle.cue.specs.Packing.{unlockCommand, keepsLimits, Open, commandsOf, sameKind, joined, joins, needsUnlock}
 use Rattle.cue.specs.Packing.{started, turnBy, turn}
 use Rattle.cue.specs.Output.{outputOf}
-use Rattle.cue.specs.Inside.{advance, Roomy}
+use Rattle.cue.specs.Inside.{Roomy}
 use Rattle.cue.specs.Summary.{carriedBy, answeredBy, Progress, none, some, summary, agrees, fits}
 use Rattle.cue.specs.Compile.{outputBytes}
 use Rattle.cue.specs.Summary.{joinedWith, joinedBy, unlockFor, startedWith, startedBy, closedBy, turnedBy}
@@ -29,6 +29,15 @@ use Rattle.cue.specs.declared.packer.Packer.{Packer}
 use Rattle.cue.proofs.PacketLaws.{packet-bytes-append, packet-steps-append, command-length}
 use Rattle.cue.proofs.PackingLaws.{joining, joined-steps, last-steps, same-kind, space-again, unlock-reply}
 use Rattle.cue.proofs.OutputLaws.{joined-bytes, framed-bytes}
+
+-- one record more, and the packets if the list ends here
+unfoldable pub advance : Progress → Step → Progress
+advance none x = some [] (started [] x)
+advance (some css o) x = some (css ++ turn o x .closed) (turn o x .open?)
+
+unfoldable pub finished : Progress → List (List Command)
+finished none = []
+finished (some css o) = css ++ (commandsOf o ∷ [])
 
 -- the packer's turn, by the tests that lead to it
 module _ (p : Packer) (r : Record) where
@@ -133,12 +142,8 @@ module _ {p : Packer} {r : Record} {line : Row} {bytes answer : ℕ} where
         → q ≡ startedBy (closedBy p) r
     unfolding startedBy unlockFor closedBy
     opened-is q s d e =
-        rw (← z .carried, ← z .answered, ← z .listed, also (r .write && line .locked))
+        rw (← z .carried, ← z .answered, ← z .listed, and-all (r .write && line .locked))
         (e ∙ ap (λ (x : Packer). startedWith x r bytes answer (r .write && line .locked)) d)
-      where
-        also : (b : Bool) → (b && true) ≡ b
-        also true = refl
-        also false = refl
 
 -- a record's bytes by its summary
 pub carried-brief : (x : Step) → isInfo (x .kind) ≡ false → carriedBy (brief x) ≡ carried (x .kind) (x .space)
@@ -397,10 +402,6 @@ pub knows-none : (u : Bool) (x : Step) (f : Fine x) → Knows [] x f (closedBy (
 unfolding summary closedBy packetBytes packetSteps replyBytes unlocked outputBytes outputOf
 knows-none u x f = record { packet = refl; reply = refl; unlocked = refl; frame = refl; end = refl; packets = refl }
 
-and-false : (b : Bool) → (b && false) ≡ false
-and-false true = refl
-and-false false = refl
-
 -- before the first record nothing fits
 pub none-turned : (u : Bool) (x : Step) → turnedBy (summary none u) (brief x) ≡ startedBy (closedBy (summary none u)) (brief x)
 unfolding turnedBy agrees fits startedBy summary joinedBy closedBy
@@ -409,7 +410,7 @@ none-turned u x =
     let a : agrees (summary none u) b ≡ false =
     and-false (Bool·beq false (b .write) && eqb 0 (b .space) && eqb (b .address) (0 + 127 * row (spaceOf 0) .element)) in
     let n : fits (startedBy (summary none u) b) ≡ false =
-    rw (lt-leb (1473 + cond (unlockFor (summary none u) b) 6 0 + 4 + carriedBy b) 1472 (omega arith)) refl in
+    rw (lt-leb (limit + 1 + cond (unlockFor (summary none u) b) 6 0 + 4 + carriedBy b) limit (omega arith)) refl in
     rw (a, n) refl
 
 -- (b) has the same limits
@@ -481,14 +482,14 @@ next (some css o) u x f h =
 -- The packer's sums stay small.
 pub record Grown (p q : Packer) : Type 0 where
   pub count : q .count ≤ 127
-  pub packet : q .packet ≤ 1472
-  pub reply : q .reply ≤ 1472
+  pub packet : q .packet ≤ limit
+  pub reply : q .reply ≤ limit
   pub end : q .end ≤ p .end + 18
   pub packets : q .packets ≤ p .packets + 1
   pub unlock : q .unlock ≡ true → 6 ≤ q .word
 
 module _ (p : Packer) (r : Record) where
-  kept : (q : Packer) → fits q ≡ true → (q .packet ≤ 1472) × (q .reply ≤ 1472)
+  kept : (q : Packer) → fits q ≡ true → (q .packet ≤ limit) × (q .reply ≤ limit)
   unfolding fits
   kept q e =
       let t = and-true (leb (q .packet) limit) (leb (q .reply) limit) e in

@@ -2,13 +2,13 @@
 use Prim.Native.Nat.{ℕ, _+_, _*_, _≤_, _<_}
 use mathlib.Core.Path.{_≡_, refl, sym, ap, _∙_}
 use mathlib.Core.List.{List, [], _∷_, _++_, append-assoc, append-nil}
-use mathlib.Core.Bool.{Bool, Bool·beq, true, false, not, _&&_, cond}
+use mathlib.Core.Bool.{Bool, true, false, not, _&&_, cond, and-false}
 use native.Mathlib.Omega.{arith}
 use lib.Dec.{eqb, ltb, leb}
 use lib.ListN.{length, length-append}
 use lib.Seq.{append-snoc}
 use borrow.Author.Tests.{eqb-true, ltb-true, ltb-false, leb-true, le-leb}
-use Rattle.lbp16.proofs.BoolLaws.{and-true}
+use Rattle.lbp16.proofs.BoolLaws.{and-true, beq-true}
 use Rattle.lbp16.proofs.SpaceLaws.{bytes-le, element-pos}
 use Rattle.lbp16.specs.Space.{Space, registers, eeprom, status, information, absent, spaceOf, spaceNumber, isAbsent, row, areaRow}
 use Rattle.packet.specs.Step.{Kind, read, write, infoRead, Step, isInfo, rowBy, carried, answered, isWrite, isStatus, namesUnlock, replyBytes}
@@ -65,13 +65,7 @@ pub record Joining (o : Open) (x : Step) : Type 0 where
 -- kinds and spaces that the tests find equal are equal
 pub same-kind : (k l : Kind) → isInfo k ≡ false → isInfo l ≡ false → sameKind k l ≡ true → k ≡ l
 unfolding sameKind
-same-kind k l p q e = sym (pick-again k p) ∙ ap pickKind (go (isWrite k) (isWrite l) e) ∙ pick-again l q
-  where
-    go : (a b : Bool) → Bool·beq a b ≡ true → a ≡ b
-    go true true e = refl
-    go true false e = sym e
-    go false true e = e
-    go false false e = refl
+same-kind k l p q e = sym (pick-again k p) ∙ ap pickKind (beq-true (isWrite k) (isWrite l) e) ∙ pick-again l q
 
 pub space-again : (s : Space) → spaceOf (spaceNumber s) ≡ s
 unfolding spaceOf spaceNumber
@@ -164,10 +158,6 @@ record Readied (open? : Bool) (us : List Command) (x : Step) : Type 0 where
   sound : SoundAll open? us
   mixed : Mixed (packetSteps us) []
   unlocks : (isWrite (x .kind) && row (x .space) .locked && not (unlocked open? (packetSteps us))) ≡ false
-
-and-false : (b : Bool) → (b && false) ≡ false
-and-false true = refl
-and-false false = refl
 
 unlock-sound : (open? : Bool) → Sound open? unlockCommand
 unfolding unlockCommand isAbsent isInfo carried rowBy areaRow row misaligned commandSteps elementSteps anyStep pastEnd barred isWrite

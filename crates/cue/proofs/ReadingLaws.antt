@@ -2,44 +2,25 @@
 use Prim.Native.Nat.{ℕ, _+_, _%_, _≤_, _<_}
 use mathlib.Core.Path.{_≡_, refl, sym, ap}
 use mathlib.Core.List.{List, [], _∷_}
-use mathlib.Core.Bool.{Bool, true, false, not, _||_, _&&_, cond}
+use mathlib.Core.Bool.{Bool, true, false, not, _||_, _&&_, cond, and-false}
 use native.Mathlib.Omega.{arith}
 use lib.Dec.{eqb, ltb}
 use lib.ListN.{length, take, drop, getD, drop-of-length-le, length-take}
 use lib.Seq.{drop-drop}
-use borrow.Author.Tests.{eqb-true, eqb-false, eq-eqb, lt-ltb, le-ltb}
-use Rattle.lbp16.specs.Space.{Space, registers, eeprom, status, information, absent, spaceOf, spaceNumber, isAbsent, row}
+use borrow.Author.Tests.{eqb-false, eq-eqb, ne-eqb, lt-ltb, le-ltb}
+use Rattle.lbp16.specs.Space.{spaceOf, spaceNumber, isAbsent, row}
 use Rattle.lbp16.proofs.BoolLaws.{or-false}
+use Rattle.lbp16.proofs.CaseLaws.{space-cases}
 use Rattle.packet.specs.Bytes.{number}
-use Rattle.packet.specs.Step.{isInfo, carried, isWrite, isStatus}
+use Rattle.packet.specs.Step.{isInfo, carried, isWrite}
 use Rattle.packet.specs.Rules.{first, misaligned, pastEnd, barred}
 use Rattle.packet.specs.Command.{pickKind}
 use Rattle.packet.proofs.StepLaws.{pick-plain, row-plain}
 use Rattle.packet.proofs.RuleLaws.{none-holds}
+use Rattle.packet.proofs.UnlockLaws.{status-number}
 use Rattle.cue.specs.Records.{recordStep, recordSpace, recordKind, recordBytes, recordRefusals, reserved, badElement, upperHalf}
 use Rattle.cue.specs.Records.{markAt, readMark, writeMark, valueBytes, mostRecords, recordAt, brief}
 use Rattle.cue.proofs.RecordLaws.{whole, step-bytes}
-
--- what holds of the four spaces, and of a number that names none, holds of every number's space
-pub space-cases : (n : ℕ) (P : ℕ → Space → Type 0) → P 0 registers → P 2 eeprom → P 6 status → P 7 information
-    → ((n ≡ 0 → ⊥) → (n ≡ 2 → ⊥) → (n ≡ 6 → ⊥) → (n ≡ 7 → ⊥) → P n absent) → P n (spaceOf n)
-unfolding spaceOf
-space-cases n P a b c d e = go (eqb n 0) (eqb n 2) (eqb n 6) (eqb n 7) refl refl refl refl
-  where
-    go : (t u v w : Bool) → eqb n 0 ≡ t → eqb n 2 ≡ u → eqb n 6 ≡ v → eqb n 7 ≡ w
-        → P n (cond t registers (cond u eeprom (cond v status (cond w information absent))))
-    go true u v w p q r s = rw (eqb-true n 0 p) a
-    go false true v w p q r s = rw (eqb-true n 2 q) b
-    go false false true w p q r s = rw (eqb-true n 6 r) c
-    go false false false true p q r s = rw (eqb-true n 7 s) d
-    go false false false false p q r s = e (eqb-false n 0 p) (eqb-false n 2 q) (eqb-false n 6 r) (eqb-false n 7 s)
-
-ne-false : (n m : ℕ) → (n ≡ m → ⊥) → eqb n m ≡ false
-ne-false n m h = borrow.Author.Tests.ne-eqb n m h
-
-is-six : (n : ℕ) → isStatus (spaceOf n) ≡ eqb n 6
-unfolding isStatus
-is-six n = space-cases n (λ m s. isStatus s ≡ eqb m 6) refl refl refl refl (λ a b c d. sym (ne-false n 6 c))
 
 -- a space that the card has is named by its number
 number-of : (n : ℕ) → isAbsent (spaceOf n) ≡ false → spaceNumber (spaceOf n) ≡ n
@@ -62,7 +43,7 @@ pub bad-element-is : (rest : List ℕ)
     || (ltb (r .address) (s .«read_only») && r .write)
     || ((eqb (r .address) 0x1A || eqb (r .address) 0x0A) && eqb (r .space) 6))
 unfolding badElement recordStep recordSpace recordKind recordAt misaligned pastEnd barred reserved
-bad-element-is rest = rw (row-plain _ _ (pick-plain (eqb (markAt rest) writeMark)), write-of, is-six) refl
+bad-element-is rest = rw (row-plain _ _ (pick-plain (eqb (markAt rest) writeMark)), write-of, status-number) refl
 
 -- the part of the value that an element has no room for
 middle : (l : List ℕ) → drop 2 (take 4 l) ≡ take 2 (drop 2 l)
@@ -139,14 +120,14 @@ module _ (index : ℕ) (rest : List ℕ) where
 
   pub refused-22 : (index ≡ mostRecords → ⊥) → cut rest ≡ true → 22 ≡ first (recordRefusals index rest)
   refused-22 n e =
-      rw (chain-is index rest (not (eqb (upperHalf rest) 0)) (λ h. refl), ne-false index mostRecords n, e) refl
+      rw (chain-is index rest (not (eqb (upperHalf rest) 0)) (λ h. refl), ne-eqb index mostRecords n, e) refl
 
   pub refused-later : (w : Bool) → (isAbsent (recordSpace rest) ≡ false → w ≡ not (eqb (upperHalf rest) 0))
       → (index ≡ mostRecords → ⊥) → cut rest ≡ false
       → cond (badElement (recordStep rest)) 23
       (cond (not (eqb (getD rest 3 0) 0) || (eqb (markAt rest) writeMark && w)) 24 0)
       ≡ first (recordRefusals index rest)
-  refused-later w h n e = rw (chain-is index rest w h, ne-false index mostRecords n, e) refl
+  refused-later w h n e = rw (chain-is index rest w h, ne-eqb index mostRecords n, e) refl
 
 -- A whole record of a register that stands where an element may: only 21 can refuse it.
 pub register-good : (rest : List ℕ) → 10 ≤ length rest → (eqb (markAt rest) readMark || eqb (markAt rest) writeMark) ≡ true
@@ -180,15 +161,11 @@ register-good rest l m s z a b index i =
     narrow true = rw s refl
     narrow false = refl
 
-    none : (v : Bool) → (v && false) ≡ false
-    none true = refl
-    none false = refl
-
     good : badElement (recordStep rest) ≡ false
     good =
         let n = number (take 2 (drop 4 rest)) in
         rw (bad-element-is rest, s, a, le-ltb 65536 (n + 4) (omega arith), le-ltb n 0 (omega arith))
-        (none (eqb n 0x1A || eqb n 0x0A))
+        (and-false (eqb n 0x1A || eqb n 0x0A))
 
 -- A record that no rule refuses: it is whole, and is what the code reads.
 pub record Passing (index : ℕ) (rest : List ℕ) : Type 0 where

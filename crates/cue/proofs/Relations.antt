@@ -8,7 +8,8 @@ use Rattle.lbp16.specs.Space.{isAbsent, row}
 use Rattle.lbp16.specs.Pointer.{aboveSize}
 use Rattle.lbp16.specs.declared.pointer.Pointers.{Pointers}
 use Rattle.packet.specs.Bytes.{number}
-use Rattle.packet.specs.Step.{Step, isInfo, carried, isWrite, statusWrite, unlocked}
+use Rattle.packet.specs.Step.{Step, isInfo, carried, isWrite, unlocked}
+use Rattle.packet.specs.Inside.{statusWrite}
 use Rattle.packet.specs.Rules.{misaligned, pastEnd, barred, anyStep}
 use Rattle.packet.specs.Command.{limit}
 use Rattle.packet.specs.Judge.{Carried, accepted, judge}

@@ -13,7 +13,7 @@ use Rattle.packet.specs.Step.{Step, isWrite}
 use Rattle.cue.specs.Packing.{Command, Open, commandsOf, joined, started, needsUnlock, unlockCommand}
 use Rattle.cue.specs.Packing.{joinAll, commandBytes, commandFields, packetBytes}
 use Rattle.cue.specs.Output.{framed, outputOf}
-use Rattle.cue.specs.Inside.{advance, finished, roomAfter, Planned}
+use Rattle.cue.specs.Inside.{roomAfter, Planned}
 use Rattle.cue.specs.Summary.{Progress, none, some, summary}
 use Rattle.cue.specs.Compile.{outputBytes}
 use Rattle.cue.specs.Records.{brief}
@@ -21,9 +21,9 @@ use Rattle.cue.specs.Summary.{frameBytes, lastFields, headBytes, unlockB
 use Rattle.cue.specs.declared.packer.Packer.{Packer}
 use Rattle.cue.proofs.PacketLaws.{packet-bytes-append, join-append}
 use Rattle.cue.proofs.PackingLaws.{space-again}
-use Rattle.cue.proofs.PackerLaws.{Fine, Rising, output-append, output-one, turned-cases, joined-summary, started-summary}
+use Rattle.cue.proofs.PackerLaws.{Fine, Rising, output-append, output-one, turned-cases, joined-summary, started-summary, advance, finished}
 use Rattle.cue.proofs.PackerLaws.{knows-open, knows-closed, knows-none, none-turned, unlock-length, started-before, started-length}
-use Rattle.packet.proofs.StoreLaws.{sets-append}
+use Rattle.lbp16.proofs.ListLaws.{sets-append}
 
 -- a store behind a front, and one that replaces what stood there
 put : (p t q : List ℕ) (n : ℕ) → length p ≡ n → length q ≤ length t → sets (p ++ t) n q ≡ p ++ (q ++ drop (length q) t)

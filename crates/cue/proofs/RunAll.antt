@@ -15,7 +15,8 @@ use Rattle.lbp16.specs.declared.pointer.Pointers.{Pointers}
 use Rattle.packet.specs.Step.{Kind, read, write, infoRead, Step, isInfo, rowBy, at, carried, answered, source, stored, after, seen}
 use Rattle.packet.specs.Step.{storeAfter, valuesRead}
 use Rattle.packet.specs.Bytes.{number, bytesOf}
-use Rattle.packet.specs.Step.{isStatus, statusWrite}
+use Rattle.packet.specs.Step.{isStatus}
+use Rattle.packet.specs.Inside.{statusWrite}
 use Rattle.packet.specs.Rules.{misaligned, pastEnd}
 use Rattle.packet.specs.Judge.{accepted}
 use Rattle.packet.proofs.StoreLaws.{Apart, getD-sets, sets-sets, sets-twice, slice-sets, length-after, store-after-append}

@@ -7,15 +7,16 @@ use native.Mathlib.Omega.{arith}
 use lib.ListN.{length, take, drop, set, length-take, length-drop}
 use lib.Seq.{sets}
 use borrow.Author.Tests.{le-ltb}
-use Rattle.lbp16.specs.Space.{Space, registers, eeprom, status, information, absent, spaceOf, row}
+use Rattle.lbp16.specs.Space.{spaceOf, row}
 use Rattle.lbp16.specs.Answer.{Answer, refusal}
 use Rattle.lbp16.specs.Word.{wordOf, outOfRange, written, listed}
 use Rattle.lbp16.specs.declared.word.Written.{Written}
 use Rattle.lbp16.specs.declared.word.Written.the-variants.{Word, Refused}
 use Rattle.lbp16.specs.declared.Refusal.{Refusal}
+use Rattle.lbp16.proofs.SpaceLaws.{size-le}
 use Rattle.card.proofs.ElementLaws.{stored-bytes}
 use Rattle.packet.specs.Bytes.{bytesOf}
-use Rattle.packet.proofs.StoreLaws.{sets-append}
+use Rattle.lbp16.proofs.ListLaws.{sets-append}
 use Rattle.cue.specs.Summary.{lastFields, framedAt, unlockedAt, headedAt, wrote, unlockBytes}
 use Rattle.cue.specs.declared.packer.Packer.{Packer}
 
@@ -32,14 +33,6 @@ unfolding bytesOf
 unlock-is l at = sets-append l at (0x01 ∷ 0xD9 ∷ 0x1A ∷ 0x00 ∷ []) (0x02 ∷ 0x5A ∷ [])
 
 -- the last command's word is in range
-size-le : (s : Space) → row s .size ≤ 3
-unfolding row
-size-le registers = omega arith
-size-le eeprom = omega arith
-size-le status = omega arith
-size-le information = omega arith
-size-le absent = omega arith
-
 pub last-written : (q : Packer) → q .space ≤ 7 → q .count ≤ 127
     → written (lastFields q) ≡ Answer.accepted (wordOf (lastFields q) ∷ [])
 unfolding written outOfRange lastFields

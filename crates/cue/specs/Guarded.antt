@@ -5,8 +5,10 @@ use mathlib.Core.List.{List, [], _∷_}
 use mathlib.Core.Bool.{Bool, false, _||_, _&&_, cond}
 use lib.ListN.{length, take, drop}
 use lib.Dec.{ltb}
-use Rattle.cue.specs.Summary.{carriedBy, turnedBy, wrote}
-use Rattle.cue.specs.Records.{recordAt}
+use Rattle.packet.specs.Command.{limit}
+use Rattle.cue.specs.Records.{recordAt, mostRecords}
+use Rattle.cue.specs.Output.{frameRoom}
+use Rattle.cue.specs.Summary.{mostOutput, carriedBy, turnedBy, wrote}
 use Rattle.cue.specs.declared.records.Record.{Record}
 use Rattle.cue.specs.declared.packer.Packer.{Packer}
 
@@ -19,10 +21,10 @@ anyOf (b ∷ c ∷ bs) = b || anyOf (c ∷ bs)
 unfoldable pub looseTests : Packer → List Bool
 looseTests p =
     ltb 127 (p .count)
-    ∷ ltb 1473 (p .packet)
-    ∷ ltb 1472 (p .reply)
-    ∷ ltb 1800000 (p .end)
-    ∷ ltb 100000 (p .packets)
+    ∷ ltb (limit + 1) (p .packet)
+    ∷ ltb limit (p .reply)
+    ∷ ltb mostOutput (p .end)
+    ∷ ltb mostRecords (p .packets)
     ∷ []
 
 unfoldable pub turnedWithin : Packer → Record → Packer
@@ -31,15 +33,15 @@ turnedWithin p r = cond (anyOf (looseTests p)) p (turnedBy p r)
 -- `room` and `rest`: the bytes of the room, and those from the record on
 unfoldable pub outsideTests : Packer → ℕ → ℕ → ℕ → List Bool
 outsideTests q n rest room =
-    ltb room 1476
-    ∷ ltb 1472 (q .frame)
-    ∷ ltb 1472 (q .word)
+    ltb room frameRoom
+    ∷ ltb limit (q .frame)
+    ∷ ltb limit (q .word)
     ∷ (ltb (q .word) 6 && q .unlock)
-    ∷ ltb 1476 (q .end)
+    ∷ ltb frameRoom (q .end)
     ∷ ltb (q .end) 4
     ∷ ltb 7 (q .space)
     ∷ ltb 127 (q .count)
-    ∷ ltb 1472 (q .packet)
+    ∷ ltb limit (q .packet)
     ∷ ltb rest (6 + n)
     ∷ []
 

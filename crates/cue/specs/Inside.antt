@@ -2,27 +2,19 @@
 -- places in range.
 use Prim.Native.Nat.{ℕ, _+_, _≤_}
 use mathlib.Core.Path.{_≡_}
-use mathlib.Core.List.{List, [], _∷_, _++_}
+use mathlib.Core.List.{List, _++_}
 use mathlib.Core.Bool.{true}
 use lib.ListN.{length, drop}
-use Rattle.lbp16.specs.Answer.{Answer}
 use Rattle.packet.specs.Step.{Step}
-use Rattle.cue.specs.Records.{Listed, recordsOf}
+use Rattle.packet.specs.Command.{limit}
+use Rattle.cue.specs.Records.{Listed, recordsOf, mostRecords}
 use Rattle.cue.specs.Records as list
-use Rattle.cue.specs.Packing.{Command, commandsOf, started, turn, packFrom, packets}
+use Rattle.cue.specs.Packing.{Command, packFrom, packets}
 use Rattle.cue.specs.Compile.{outputBytes}
-use Rattle.cue.specs.Summary.{Progress, none, some}
+use Rattle.cue.specs.Summary.{Progress, none, some, mostOutput}
 use Rattle.cue.specs.declared.packer.Packer.{Packer}
 
-unfoldable pub advance : Progress → Step → Progress
-advance none x = some [] (started [] x)
-advance (some css o) x = some (css ++ turn o x .closed) (turn o x .open?)
-
--- the packets if the list ends here, and if these records follow
-unfoldable pub finished : Progress → List (List Command)
-finished none = []
-finished (some css o) = css ++ (commandsOf o ∷ [])
-
+-- the packets so far, if these records follow
 unfoldable pub onward : Progress → List Step → List (List Command)
 onward none xs = packets xs
 onward (some css o) xs = css ++ packFrom o xs
@@ -36,11 +28,7 @@ unfoldable pub planned : Progress → Listed → Planned
 planned s (list.refused n i) = refused n i
 planned s (list.records xs) = packed (onward s xs)
 
--- what the first pass answers, and what the second leaves
-unfoldable pub planAnswer : Planned → Answer
-planAnswer (refused n i) = Answer.refused n i
-planAnswer (packed css) = Answer.accepted (length (outputBytes css) ∷ length css ∷ [])
-
+-- what the second pass leaves
 unfoldable pub roomAfter : Planned → List ℕ → List ℕ
 roomAfter (refused n i) room = room
 roomAfter (packed css) room = outputBytes css ++ drop (length (outputBytes css)) room
@@ -48,10 +36,10 @@ roomAfter (packed css) room = outputBytes css ++ drop (length (outputBytes css))
 -- what keeps the packer's sums small
 pub record Roomy (p : Packer) : Type 0 where
   pub count : p .count ≤ 127
-  pub packet : p .packet ≤ 1473
-  pub reply : p .reply ≤ 1472
-  pub end : p .end ≤ 1800000
-  pub packets : p .packets ≤ 100000
+  pub packet : p .packet ≤ limit + 1
+  pub reply : p .reply ≤ limit
+  pub end : p .end ≤ mostOutput
+  pub packets : p .packets ≤ mostRecords
 
 -- what keeps the writing of a record inside the room
 pub record Placed (q : Packer) (room : ℕ) : Type 0 where
@@ -62,7 +50,7 @@ pub record Placed (q : Packer) (room : ℕ) : Type 0 where
   pub element : 4 ≤ q .end
   pub space : q .space ≤ 7
   pub count : q .count ≤ 127
-  pub packet : q .packet ≤ 1472
+  pub packet : q .packet ≤ limit
 
 -- a list that the first pass found good, with room for its output
 pub record Ready (list room : List ℕ) : Type 0 where

@@ -5,11 +5,16 @@ use mathlib.Core.Bool.{cond}
 use lib.ListN.{length, take, drop}
 use lib.Dec.{eqb, ltb}
 use Rattle.packet.specs.Bytes.{number, bytesOf}
+use Rattle.packet.specs.Command.{limit}
 use Rattle.cue.specs.declared.frame.Frame.{Frame}
 
 -- "LB", as a number low byte first
 abbrev pub packetMark : ℕ
 packetMark = 0x424C
+
+-- the most bytes of a packet's frame: mark, length and packet
+abbrev pub frameRoom : ℕ
+frameRoom = limit + 4
 
 unfoldable pub framed : List ℕ → List ℕ
 framed packet = bytesOf 2 packetMark ++ bytesOf 2 (length packet) ++ packet

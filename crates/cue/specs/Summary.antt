@@ -12,6 +12,7 @@ use Rattle.lbp16.specs.declared.word.Fields.{Fields}
 use Rattle.packet.specs.Bytes.{bytesOf}
 use Rattle.packet.specs.Step.{isWrite, carried, answered, replyBytes, unlocked}
 use Rattle.packet.specs.Command.{pickKind, limit}
+use Rattle.cue.specs.Records.{mostRecords}
 use Rattle.cue.specs.Packing.{Open, Command, packetBytes, packetSteps, commandsOf}
 use Rattle.cue.specs.Output.{packetMark}
 use Rattle.cue.specs.Compile.{outputBytes}
@@ -30,7 +31,11 @@ pub data Progress : Type 0 where
   none : Progress
   some : List (List Command) → Open → Progress
 
--- What the packer keeps. `unlock`: whether the last record put an unlock command before its own.
+-- The most bytes of a list's output. A record adds at most 18: mark and length, an unlock, word and address, and an element.
+abbrev pub mostOutput : ℕ
+mostOutput = 18 * mostRecords
+
+-- What the packer keeps; before the first record, a packet that has no room left. `unlock`: whether the last record put an unlock command before its own.
 unfoldable pub summary : Progress → Bool → Packer
 summary none unlock =
     record {
@@ -38,7 +43,7 @@ summary none unlock =
       space = 0;
       address = 0;
       count = 127;
-      packet = 1473;
+      packet = limit + 1;
       reply = 0;
       unlocked = false;
       unlock = unlock;

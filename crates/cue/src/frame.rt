@@ -1,10 +1,14 @@
 // Frames: the mark "LB", a length and so many bytes, one behind the other.
 use packet::bytes;
+use packet::command::LIMIT;
 ghost use mathlib.Core.Path.{_≡_};
 ghost use Rattle.cue.specs.Output.{frontOf, frameListed};
 
 // "LB", low byte first.
 pub const MARK: u16 = 0x424C;
+
+// The most bytes of a packet's frame: mark, length and packet.
+pub const ROOM: usize = LIMIT + 4;
 
 // What stands at the front of bytes.
 pub enum Frame {

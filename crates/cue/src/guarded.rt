@@ -1,11 +1,13 @@
 // One record packed for a caller that keeps the packer and the open packet's room itself. What is kept is not trusted:
 // where a number is out of range nothing is done.
 use crate::emit;
+use crate::frame::ROOM;
 use crate::packer;
 use crate::packer::Packer;
 use crate::records;
 use crate::records::Record;
 use lbp16::space;
+use packet::command::LIMIT;
 ghost use mathlib.Core.Path.{_≡_};
 ghost use Prim.Native.Nat.{_≤_};
 ghost use Rattle.cue.specs.Guarded.{anyOf, looseTests, turnedWithin, outsideTests, putWithin};
@@ -14,7 +16,8 @@ fn loose(p: Packer) -> bool
     ensures { λ b. ⌜ b ≡ anyOf (looseTests p) ⌝ }
 {
     (127 < p.count)
-        | ((1473 < p.packet) | ((1472 < p.reply) | ((1800000 < p.end) | (100000 < p.packets))))
+        | ((packer::FULL < p.packet)
+            | ((LIMIT < p.reply) | ((packer::OUTPUT < p.end) | (records::MOST < p.packets))))
 }
 
 // The packer after one record more.
@@ -32,14 +35,14 @@ fn outside(q: Packer, n: usize, rest: usize, room: usize) -> bool
     requires { ⌜ n ≤ 4 ⌝ }
     ensures { λ b. ⌜ b ≡ anyOf (outsideTests q n rest room) ⌝ }
 {
-    (room < 1476)
-        | ((1472 < q.frame)
-            | ((1472 < q.word)
+    (room < ROOM)
+        | ((LIMIT < q.frame)
+            | ((LIMIT < q.word)
                 | (((q.word < 6) & q.unlock)
-                    | ((1476 < q.end)
+                    | ((ROOM < q.end)
                         | ((q.end < 4)
                             | ((7 < q.space)
-                                | ((127 < q.count) | ((1472 < q.packet) | (rest < 6 + n)))))))))
+                                | ((127 < q.count) | ((LIMIT < q.packet) | (rest < 6 + n)))))))))
 }
 
 // Writes the record at the front of `rest`, of which the packer `q` is already told.

@@ -1,14 +1,22 @@
 // The packing rule, on what is known of the packet that is open.
+use crate::records::MOST;
 use crate::records::Record;
 use lbp16::space;
 use lbp16::space::Row;
 use packet::command::LIMIT;
 ghost use mathlib.Core.Path.{_≡_};
 ghost use mathlib.Core.Bool.{false, cond};
-ghost use Prim.Native.Nat.{_≤_};
+ghost use Prim.Native.Nat.{_+_, _≤_};
 ghost use Rattle.lbp16.specs.Space.{spaceOf, row};
+ghost use Rattle.packet.specs.Command.{limit};
 ghost use Rattle.cue.specs.Inside.{Roomy};
-ghost use Rattle.cue.specs.Summary.{Progress, summary, carriedBy, agrees, fits, joinedWith, startedWith, closedBy, turnedBy};
+ghost use Rattle.cue.specs.Summary.{Progress, summary, mostOutput, carriedBy, agrees, fits, joinedWith, startedWith, closedBy, turnedBy};
+
+// The bytes of a packet that has no room left.
+pub(crate) const FULL: usize = LIMIT + 1;
+
+// The most bytes of a list's output. A record adds at most 18: mark and length, an unlock, word and address, and an element.
+pub(crate) const OUTPUT: usize = 18 * MOST;
 
 // The unlock where a packet begins.
 const CLOSED: bool = false;
@@ -41,7 +49,7 @@ impl Packer {
             space: 0,
             address: 0,
             count: 127,
-            packet: 1473,
+            packet: FULL,
             reply: 0,
             unlocked: false,
             unlock: false,
@@ -104,7 +112,7 @@ fn joined(p: Packer, bytes: usize, answer: usize) -> Packer
 
 // (b): a new command in the packet, where needed behind the unlock.
 fn started(p: Packer, r: Record, bytes: usize, answer: usize, need: bool) -> Packer
-    requires { ⌜ (p .packet ≤ 1473) × (p .reply ≤ 1472) × (p .end ≤ 1800004) × (bytes ≤ 4) × (answer ≤ 4) ⌝ }
+    requires { ⌜ (p .packet ≤ limit + 1) × (p .reply ≤ limit) × (p .end ≤ mostOutput + 4) × (bytes ≤ 4) × (answer ≤ 4) ⌝ }
     ensures { λ q. ⌜ q ≡ startedWith p r bytes answer need ⌝ }
 {
     let unlock = counted(need, 6);

@@ -1,14 +1,14 @@
--- Laws of one command: what it means that no rule refuses it, and where its elements end.
+-- Laws of one command: what it means that no rule refuses it, how many bytes it has, and where its elements end.
 use Prim.Native.Nat.{ℕ, zero, suc, _+_, _*_, _≤_, _<_}
 use mathlib.Core.Path.{_≡_, sym, _∙_}
 use mathlib.Core.List.{List, _++_}
-use mathlib.Core.Bool.{Bool, true, false, not, _&&_, cond}
+use mathlib.Core.Bool.{Bool, true, false, cond}
 use lib.ListN.{length, drop, length-append}
 use lib.Seq.{take-at, drop-at}
 use native.Mathlib.Omega.{arith}
 use native.Mathlib.Nat.{zero-mul, suc-mul}
 use borrow.Author.Tests.{ltb-false, le-ltb, eqb-true, eqb-false, eq-eqb, ne-eqb, not-false}
-use Rattle.lbp16.specs.Space.{Space, spaceOf, isAbsent}
+use Rattle.lbp16.specs.Space.{Space, spaceOf}
 use Rattle.lbp16.specs.Word.{fieldsOf}
 use Rattle.lbp16.specs.Pointer.{aboveSize, advanced}
 use Rattle.lbp16.specs.declared.word.Fields.{Fields}
@@ -18,26 +18,13 @@ use Rattle.lbp16.proofs.PointerLaws.{with-pointer-kept, advanced-exact}
 use Rattle.lbp16.proofs.SpaceLaws.{area-bytes-le}
 use Rattle.packet.specs.Bytes.{bytesOf}
 use Rattle.packet.specs.Step.{Kind, isInfo, rowBy, carried, answered, replyBytes}
-use Rattle.packet.specs.Rules.{first, misaligned, pastEnd, barred, anyStep}
-use Rattle.packet.specs.Command.{limit, fieldsAt, kindOf, rowOf, headerBytes, commandBytes, addressUsed, stride}
+use Rattle.packet.specs.Rules.{first, misaligned, pastEnd, anyStep}
+use Rattle.packet.specs.Command.{fieldsAt, kindOf, rowOf, headerBytes, commandBytes, addressUsed, stride}
 use Rattle.packet.specs.Command.{elements, stepsAt, outOfPlace, refusals, pointersAfter}
+use Rattle.packet.specs.Inside.{Passed}
 use Rattle.packet.proofs.ByteLaws.{length-bytes, number-of-bytes}
 use Rattle.packet.proofs.RuleLaws.{none-holds}
 use Rattle.packet.proofs.ElementLaws.{past-last}
-
--- A command that rules 3 to 12 let pass.
-pub record Passed (p : Pointers) (open? : Bool) (reply : ℕ) (f : Fields) (rest : List ℕ) : Type 0 where
-  pub header : headerBytes f ≤ length rest
-  pub served : (f .info && f .write) ≡ false
-  pub present : isAbsent (spaceOf (f .space)) ≡ false
-  pub sized : f .size ≡ rowOf f .size
-  pub some : 1 ≤ f .count
-  pub aligned : misaligned (rowOf f) (addressUsed p f rest) ≡ false
-  pub inside : anyStep pastEnd (stepsAt p f rest) ≡ false
-  pub allowed : anyStep barred (stepsAt p f rest) ≡ false
-  pub unlocks : (f .write && rowOf f .locked && not open?) ≡ false
-  pub whole : commandBytes f ≤ length rest
-  pub answers : reply + f .count * answered (kindOf f) (spaceOf (f .space)) ≤ limit
 
 -- A command passes exactly when the refusal table gives no number.
 module _ (p : Pointers) (open? : Bool) (reply : ℕ) (f : Fields) (rest : List ℕ) where
@@ -77,6 +64,19 @@ module _ (p : Pointers) (open? : Bool) (reply : ℕ) (f : Fields) (rest : List �
         le-ltb _ _ (h .answers),
         h .served,
       )
+
+-- a command has at least the two bytes of its word
+pub header-some : (f : Fields) → 2 ≤ headerBytes f
+unfolding headerBytes
+header-some f = go (f .address)
+  where
+    go : (b : Bool) → 2 ≤ cond b 4 2
+    go true = omega arith
+    go false = omega arith
+
+pub command-some : (f : Fields) → 2 ≤ commandBytes f
+unfolding commandBytes
+command-some f = omega (arith, header-some f)
 
 -- A word at the front is read into its fields, and the address after it is the one used.
 pub fields-at-front : (w : ℕ) (rest : List ℕ) → w < 65536 → fieldsAt (bytesOf 2 w ++ rest) ≡ fieldsOf w

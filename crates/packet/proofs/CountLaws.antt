@@ -14,11 +14,11 @@ use Rattle.lbp16.specs.declared.pointer.Pointers.{Pointers}
 use Rattle.lbp16.specs.declared.word.Fields.{Fields}
 use Rattle.packet.specs.Bytes.{number}
 use Rattle.packet.specs.Step.{Kind, read, write, infoRead, isInfo, rowBy, carried, answered, replyBytes}
-use Rattle.packet.specs.Command.{limit, fieldsAt, kindOf, headerBytes, commandBytes, elements, stepsAt}
+use Rattle.packet.specs.Command.{limit, fieldsAt, kindOf, commandBytes, elements, stepsAt}
 use Rattle.packet.specs.Judge.{Carried, begin, carry, judgeFrom, judge, accepted}
 use Rattle.packet.specs.Counts.{countsFrom, countsOf, sum}
 use Rattle.packet.proofs.StepLaws.{reply-append}
-use Rattle.packet.proofs.CommandLaws.{reply-of-command}
+use Rattle.packet.proofs.CommandLaws.{header-some, reply-of-command}
 use Rattle.packet.proofs.JudgeLaws.{accepted-past}
 use Rattle.packet.proofs.RefusalLaws.{all-passed, reaches-keeps, accepted-within}
 
@@ -71,14 +71,6 @@ unfolding carried answered rowBy isInfo areaRow infoRow
 paid read s n h = let e = two-each s n h in rw mul-zero (omega arith)
 paid write s n h = let e = two-each s n h in rw mul-zero (omega arith)
 paid infoRead s n h = omega arith
-
-header-some : (f : Fields) → 2 ≤ headerBytes f
-unfolding headerBytes
-header-some f = go (f .address)
-  where
-    go : (b : Bool) → 2 ≤ cond b 4 2
-    go true = omega arith
-    go false = omega arith
 
 -- The three counts in one: what a command moves is paid for by its bytes and its reply's.
 command-paid : (c : Carried) (rest : List ℕ) → isAbsent (spaceOf (fieldsAt rest .space)) ≡ false

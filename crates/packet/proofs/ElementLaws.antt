@@ -2,7 +2,7 @@
 use Prim.Native.Nat.{ℕ, zero, suc, _+_, _*_, _≤_, _<_}
 use mathlib.Core.Path.{_≡_, refl, ap, sym, _∙_}
 use mathlib.Core.List.{List, [], _∷_}
-use mathlib.Core.Bool.{Bool, true, false, not, _||_, _&&_, cond}
+use mathlib.Core.Bool.{Bool, true, false, not, _||_, _&&_, cond, or-false}
 use native.Mathlib.Omega.{arith}
 use native.Mathlib.Nat.{suc-mul, zero-mul, mul-zero, mul-le-mul}
 use lib.Dec.{eqb, ltb, eqb·suc-zero}
@@ -16,10 +16,9 @@ use Rattle.packet.specs.Step.{Kind, read, write, infoRead, isInfo, isWri
 use Rattle.lbp16.proofs.SpaceLaws.{area-bytes-le, area-element-le}
 use Rattle.packet.proofs.StepLaws.{carried-row, carried-none, answered-row}
 use Rattle.packet.specs.Rules.{pastEnd, barred, anyStep}
-use Rattle.packet.specs.Command.{Progress}
 use Rattle.packet.specs.declared.command.Which.{Which}
 use Rattle.packet.specs.declared.command.Which.the-variants.{Read, Write, Refused}
-use Rattle.packet.specs.Command.{elements, kindOf, rowOf, whichOf, whichListed, nextBy, stepsAt, addressUsed, stride, handed}
+use Rattle.packet.specs.Command.{elements, kindOf, rowOf, whichOf, whichListed, stepsAt, addressUsed, stride, handed}
 
 pub scaled-le : (n w : ℕ) → n < 256 → w ≤ 4 → n * w ≤ 1020
 scaled-le n w h k = mul-le-mul (let l : n ≤ 255 = omega arith in l) k
@@ -77,10 +76,6 @@ or-ltb b x y h = go (ltb b x) refl
     go true e = sym (lt-ltb b y (let l : b < x = ltb-true b x e in omega arith))
     go false e = refl
 
-or-none : (b : Bool) → (b || false) ≡ b
-or-none true = refl
-or-none false = refl
-
 lower : (a b n : ℕ) → a ≤ b → ltb b n ≡ true → ltb a n ≡ true
 lower a b n h e = lt-ltb a n (let l : b < n = ltb-true b n e in omega arith)
 
@@ -88,7 +83,7 @@ lower a b n h e = lt-ltb a n (let l : b < n = ltb-true b n e in omega arith)
 pub past-last : (k : Kind) (s : Space) (n a d : ℕ) (bs : List ℕ)
     → anyStep pastEnd (elements k s (suc n) a d bs) ≡ ltb (rowBy k s .bytes) (a + n * d + rowBy k s .element)
 unfolding anyStep pastEnd elements
-past-last k s zero a d bs = or-none _ ∙ ap (ltb (rowBy k s .bytes)) (rw zero-mul (omega arith))
+past-last k s zero a d bs = or-false _ ∙ ap (ltb (rowBy k s .bytes)) (rw zero-mul (omega arith))
 past-last k s (suc n) a d bs =
     ap (λ (t : Bool). ltb (rowBy k s .bytes) (a + rowBy k s .element) || t) (past-last k s n (a + d) d _)
     ∙ or-ltb (rowBy k s .bytes) (a + rowBy k s .element) (a + d + n * d + rowBy k s .element) (omega arith)
@@ -98,7 +93,7 @@ past-last k s (suc n) a d bs =
 pub barred-first : (k : Kind) (s : Space) (n a d : ℕ) (bs : List ℕ)
     → anyStep barred (elements k s (suc n) a d bs) ≡ (ltb a (rowBy k s .«read_only») && isWrite k)
 unfolding anyStep barred elements
-barred-first k s zero a d bs = or-none _
+barred-first k s zero a d bs = or-false _
 barred-first k s (suc n) a d bs =
     ap (λ (t : Bool). (ltb a (rowBy k s .«read_only») && isWrite k) || t) (barred-first k s n (a + d) d _)
     ∙ go (ltb a (rowBy k s .«read_only»)) (ltb (a + d) (rowBy k s .«read_only»)) (isWrite k) (lower a (a + d) _ (omega arith))
@@ -148,10 +143,6 @@ pub which-refused : (n place : ℕ) (k : Kind) → (n ≡ 0 → ⊥) → whichLi
 unfolding whichListed whichOf
 which-refused zero place k h = absurd (h refl)
 which-refused (suc n) place k h = refl
-
-pub which-none : (next g : Progress) (place : ℕ) (k : Kind) → nextBy (whichOf 0 place k) next g ≡ next
-unfolding whichOf
-which-none next g place k = refl
 
 -- where no rule holds it is found to be what its write bit says
 pub which-write : (f : Fields) (place : ℕ) → f .write ≡ true → whichListed Write place ≡ whichOf 0 place (kindOf f)

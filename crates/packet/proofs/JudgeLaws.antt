@@ -5,12 +5,15 @@ use mathlib.Core.List.{List, [], _∷_}
 use mathlib.Core.Bool.{false}
 use lib.ListN.{length, drop}
 use native.Mathlib.Omega.{arith}
+use Rattle.lbp16.specs.Answer.{Answer}
 use Rattle.lbp16.specs.Pointer.{aboveSize}
 use Rattle.lbp16.specs.declared.pointer.Pointers.{Pointers}
 use Rattle.packet.specs.Step.{Kind, unlocked, replyBytes}
 use Rattle.packet.specs.Command.{fieldsAt, commandBytes, whichOf, found}
-use Rattle.packet.specs.Judge.{Carried, Verdict, accepted, begin, foundNext, carry, verdictAt, judgeFrom, judge}
-use Rattle.packet.proofs.CommandLaws.{Passed, passed, passes, pointer-kept}
+use Rattle.packet.specs.Judge.{Carried, Verdict, refused, accepted, begin, foundNext, carry, verdictAt, judgeFrom, judge}
+use Rattle.packet.specs.Verdict.{answerTo}
+use Rattle.packet.proofs.CommandLaws.{passed, passes, pointer-kept}
+use Rattle.packet.specs.Inside.{Passed}
 
 -- the next command passes
 abbrev pub PassedNext : Carried → List ℕ → Type 0
@@ -64,3 +67,9 @@ pub pointers-kept : (p : Pointers) (packet : List ℕ) (c : Carried) → aboveSi
     → aboveSize (c .pointers) ≡ false
 unfolding judge begin
 pointers-kept p packet c h e = kept-from (length packet) (begin p) packet c h e
+
+-- An answer with a length is that of an accepted packet.
+pub accepted-some : (v : Verdict) (n : ℕ) → Answer.accepted (n ∷ []) ≡ answerTo v → (c : Carried) × (v ≡ accepted c)
+unfolding answerTo
+accepted-some (refused m place) n e = let z : _≡_ {A = ℕ} 0 1 = cc in absurd (omega arith)
+accepted-some (accepted c) n e = (c, refl)

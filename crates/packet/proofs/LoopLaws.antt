@@ -2,7 +2,7 @@
 use Prim.Native.Nat.{ℕ, zero, suc, _+_, _-_, _*_, _≤_, _<_}
 use mathlib.Core.Path.{_≡_, refl, sym, ap, _∙_}
 use mathlib.Core.List.{List, [], _∷_}
-use mathlib.Core.Bool.{Bool, true, false, cond, and-false}
+use mathlib.Core.Bool.{Bool, false, cond, and-false}
 use native.Mathlib.Omega.{arith}
 use native.Mathlib.Nat.{le-refl}
 use lib.ListN.{length, take, drop, set, length-take, length-drop, length-set}
@@ -13,30 +13,26 @@ use Rattle.lbp16.specs.Pointer.{pointersOf, pointerList}
 use Rattle.lbp16.proofs.PointerLaws.{list-length, back-list, slot-below, slot-written}
 use lib.Dec.{eqb}
 use borrow.Author.Tests.{eq-eqb}
-use Rattle.lbp16.specs.declared.word.Fields.{Fields}
 use Rattle.lbp16.specs.declared.pointer.Pointers.{Pointers}
 use Rattle.packet.specs.Step.{unlocked, replyBytes, answered}
 use Rattle.packet.specs.Rules.{first}
-use Rattle.packet.specs.Command.{limit, fieldsAt, kindOf, headerBytes, commandBytes, stride, elements, refusals}
-use Rattle.packet.specs.Command.{whichOf, numberOf, Finding, found, whichListed, foundListed}
-use Rattle.packet.specs.Reach.{reachFrom, reachAt, ForRegisters, JudgedAt}
+use Rattle.packet.specs.Command.{limit, fieldsAt, kindOf, commandBytes, refusals, whichOf, Finding, found, whichListed, foundListed}
+use Rattle.packet.specs.Reach.{reachFrom, reachAt}
+use Rattle.packet.specs.Inside.{Passed, unlockedBy, ForRegisters, JudgedAt}
 use Rattle.packet.specs.declared.command.Reach.{Reach}
 use Rattle.packet.specs.declared.command.Which.{Which}
 use Rattle.packet.specs.declared.command.Which.the-variants.{Refused}
 use Rattle.packet.specs.declared.refusal.Judged.{Judged}
-use Rattle.packet.proofs.ProgressLaws.{progress-is}
-use Rattle.packet.specs.Command.{progressAfter, commandAt}
 use Rattle.packet.specs.Judge.{Carried, begin, carry, judgeFrom, judge, foundNext, verdictAt, accepted, refused}
 use Rattle.packet.specs.Judge
 use Rattle.packet.specs.Step.{Kind}
-use Rattle.packet.specs.Verdict.{answerTo, start, progressOf}
-use Rattle.packet.specs.Command.{Progress}
-use Rattle.packet.specs.Command.{Command}
+use Rattle.packet.specs.Verdict.{answerTo}
 use Rattle.packet.proofs.SliceLaws.{tail-whole}
-use Rattle.packet.proofs.ElementLaws.{which-none, which-passed, bit-clear, write-kind}
+use Rattle.packet.proofs.ElementLaws.{which-passed, bit-clear, write-kind}
 use Rattle.packet.proofs.StepLaws.{unlocked-append, reply-append}
 use Rattle.packet.proofs.UnlockLaws.{unlock-kept, not-status}
-use Rattle.packet.proofs.CommandLaws.{Passed, passed, passes}
+use Rattle.packet.proofs.CommandLaws.{passed, passes, command-some}
+use Rattle.packet.proofs.ProgressLaws.{Progress, start, progressOf, progressAfter, numberAt, progress-is}
 use Rattle.packet.proofs.JudgeLaws.{judged-end, judged-past, accepted-past}
 
 -- The packet's verdict is that of the commands from `rest` on; what is carried there has the progress g.
@@ -71,12 +67,6 @@ pub verdict-end : {p : Pointers} {packet : List ℕ} {c : Carried} {g : Progress
 unfolding answerTo progressOf
 verdict-end rest s e = rw (at-end rest s e, s .progress) refl
 
--- the number that is found is the table's
-number-found : (n place : ℕ) (k : Kind) → numberOf (whichOf n place k) ≡ n
-unfolding whichOf
-number-found zero place k = refl
-number-found (suc n) place k = refl
-
 verdict-refused : (n : ℕ) (k : Kind) (place : ℕ) (v : Judge.Verdict) → (n ≡ 0 → ⊥) → verdictAt (whichOf n place k) v ≡ refused n place
 unfolding whichOf
 verdict-refused zero k place v h = absurd (h refl)
@@ -97,48 +87,29 @@ none-first c [] end fuel l some e = absurd (omega arith)
 none-first c (b ∷ bs) end zero l some e = absurd (omega arith)
 none-first c (b ∷ bs) end (suc fuel) l some e = passes _ _ _ _ _ (accepted-past fuel c b bs end e .0)
 
--- a command has at least two bytes
-two-bytes : (f : Fields) → 2 ≤ commandBytes f
-unfolding commandBytes headerBytes
-two-bytes f = go (f .address) _
-  where
-    go : (b : Bool) (n : ℕ) → 2 ≤ cond b 4 2 + n
-    go true n = omega arith
-    go false n = omega arith
-
 module _ {p : Pointers} {packet : List ℕ} {c : Carried} {g : Progress} {place : ℕ} (rest : List ℕ)
     (s : At p packet c g place rest) (some : 0 < length rest) where
-  number-at : numberOf (commandAt g place rest .found .which)
-      ≡ first (refusals (g .pointers) (g .unlocked) (g .reply) (fieldsAt rest) rest)
-  unfolding commandAt found
-  number-at = number-found _ _ _
-
-  pub at-refused : (n : ℕ) → n ≡ numberOf (commandAt g place rest .found .which) → (n ≡ 0 → ⊥)
-      → Answer.refused n place ≡ answerTo (judge p packet)
+  pub at-refused : (n : ℕ) → n ≡ numberAt g rest → (n ≡ 0 → ⊥) → Answer.refused n place ≡ answerTo (judge p packet)
   unfolding answerTo progressOf
   at-refused n e h =
-      let q = rw (s .progress) at (e ∙ number-at) in
+      let q = rw (s .progress) at e in
       rw (s .same, judged-refused (s .fuel) c rest n (s .enough) some q h, s .at) refl
 
-  module _ (e : numberOf (commandAt g place rest .found .which) ≡ 0) where
+  module _ (e : numberAt g rest ≡ 0) where
     pub at-passed : Passed (g .pointers) (g .unlocked) (g .reply) (fieldsAt rest) rest
-    at-passed = passed _ _ _ _ _ (sym number-at ∙ e)
+    at-passed = passed _ _ _ _ _ e
 
-    next-is : commandAt g place rest .next ≡ progressAfter g (fieldsAt rest) rest
-    unfolding commandAt found
-    next-is = rw (sym number-at ∙ e) (which-none _ g _ _)
-
-    pub at-next : At p packet (carry c rest) (commandAt g place rest .next) (place + commandBytes (fieldsAt rest))
+    pub at-next : At p packet (carry c rest) (progressAfter g (fieldsAt rest) rest) (place + commandBytes (fieldsAt rest))
         (drop (commandBytes (fieldsAt rest)) rest)
     unfolding progressOf progressAfter carry
     at-next = go (s .fuel) refl
       where
         go : (n : ℕ) → s .fuel ≡ n
-            → At p packet (carry c rest) (commandAt g place rest .next) (place + commandBytes (fieldsAt rest))
+            → At p packet (carry c rest) (progressAfter g (fieldsAt rest) rest) (place + commandBytes (fieldsAt rest))
             (drop (commandBytes (fieldsAt rest)) rest)
         go zero q = absurd (omega (arith, s .enough))
         go (suc n) q =
-            let two = two-bytes (fieldsAt rest) in
+            let two = command-some (fieldsAt rest) in
             let whole = at-passed .whole in
             let enough = s .enough in
             let end = s .end in
@@ -146,16 +117,15 @@ module _ {p : Pointers} {packet : List ℕ} {c : Carried} {g : Progress} {place 
               fuel = n;
               same = s .same ∙ (rw q (judged-past n c rest some (rw (s .progress) at at-passed)));
               enough = rw length-drop (omega arith);
-              progress = next-is ∙ rw (s .progress, unlocked-append, reply-append) refl;
+              progress = rw (s .progress, unlocked-append, reply-append) refl;
               at = ap (λ (x : ℕ). x + commandBytes (fieldsAt rest)) (s .at);
               end = rw length-drop (omega arith);
             }
 
-  -- In an accepted packet every command is found to pass.
-  pub at-accepted : (end : Carried) → judge p packet ≡ accepted end → numberOf (commandAt g place rest .found .which) ≡ 0
+  -- In an accepted packet every command passes.
+  pub at-accepted : (end : Carried) → judge p packet ≡ accepted end → numberAt g rest ≡ 0
   unfolding progressOf
-  at-accepted end e =
-      number-at ∙ rw (s .progress) (none-first c rest end (s .fuel) (s .enough) some (sym (s .same) ∙ e))
+  at-accepted end e = rw (s .progress) (none-first c rest end (s .fuel) (s .enough) some (sym (s .same) ∙ e))
 
 -- A turn of the loop: a command of k bytes is passed.
 pub record Turn (p : Pointers) (packet : List ℕ) (c : Carried) (next : Progress) (place k : ℕ) (rest : List ℕ) : Type 0 where
@@ -163,17 +133,14 @@ pub record Turn (p : Pointers) (packet : List ℕ) (c : Carried) (next : Progres
   pub whole : k ≤ length rest
   pub again : At p packet (carry c rest) next (place + k) (take (length rest - k) (drop k rest))
 
--- as the code has it: the command's parts by equations
+-- as the code has it: the command's bytes by an equation
 pub at-step : {p : Pointers} {packet : List ℕ} {c : Carried} {g : Progress} {place : ℕ} {rest : List ℕ}
-    → At p packet c g place rest → 0 < length rest → (x : Command) (n k : ℕ) → x ≡ commandAt g place rest
-    → n ≡ numberOf (x .found .which) → n ≡ 0 → k ≡ commandBytes (x .found .fields) → Turn p packet c (x .next) place k rest
-unfolding commandAt found
-at-step {rest = rest} s some x n k e₁ e₂ e₃ e₄ =
-    let z = sym (e₂ ∙ ap (λ (x : Command). numberOf (x .found .which)) e₁) ∙ e₃ in
-    let f : k ≡ commandBytes (fieldsAt rest) = e₄ ∙ ap (λ (x : Command). commandBytes (x .found .fields)) e₁ in
-    let two = two-bytes (fieldsAt rest) in
+    → At p packet c g place rest → 0 < length rest → (k : ℕ) → numberAt g rest ≡ 0 → k ≡ commandBytes (fieldsAt rest)
+    → Turn p packet c (progressAfter g (fieldsAt rest) rest) place k rest
+at-step {rest = rest} s some k z f =
+    let two = command-some (fieldsAt rest) in
     let whole = at-passed rest s some z .whole in
-    record { some = omega arith; whole = omega arith; again = rw (f, tail-whole, e₁) (at-next rest s some z) }
+    record { some = omega arith; whole = omega arith; again = rw (f, tail-whole) (at-next rest s some z) }
 
 -- The loop as the code has it: the pointers as eight numbers, and the place told by what is left.
 pub record Checking (list packet pointers : List ℕ) (open? : Bool) (reply : ℕ) (rest : List ℕ) : Type 0 where
@@ -222,49 +189,31 @@ module _ {list packet pointers : List ℕ} {open? : Bool} {reply : ℕ} {rest : 
     abbrev g : Progress
     g = record { pointers = pointersOf pointers; unlocked = open?; reply = reply }
 
-    none : numberOf (commandAt g (length packet - length rest) rest .found .which) ≡ 0
-    none = number-at rest (s .here) some ∙ passes _ _ _ _ _ pass
+    none : numberAt g rest ≡ 0
+    none = passes _ _ _ _ _ pass
 
-    next : (o : Bool)
-        → o ≡ unlocked open?
-        (elements
-        (kindOf (fieldsAt rest))
-        (spaceOf (fieldsAt rest .space))
-        (fieldsAt rest .count)
-        (r .used)
-        (stride (fieldsAt rest))
-        (drop (headerBytes (fieldsAt rest)) rest))
-        → commandAt g (length packet - length rest) rest .next
+    next : (o : Bool) → o ≡ unlockedBy open? (fieldsAt rest) (r .used) rest
+        → progressAfter g (fieldsAt rest) rest
         ≡ record { pointers = pointersOf (set pointers (r .slot) (r .next)); unlocked = o; reply = reply + r .answered }
     unfolding reachFrom
     next o h =
-        next-is rest (s .here) some none
-        ∙ sym (progress-is g (fieldsAt rest) rest pass (r .used) (r .answered) _ o (ap (λ (t : Reach). t .used) e)
+        sym (progress-is g (fieldsAt rest) rest pass (r .used) (r .answered) _ o (ap (λ (t : Reach). t .used) e)
         (rw
         (ap (λ (t : Reach). t .slot) e, ap (λ (t : Reach). t .next) e, ap (λ (t : Reach). t .used) e)
         (slot-written pointers (s .eight) _ _ _ (pass .present)))
         h
         (ap (λ (t : Reach). t .answered) e))
 
-    next-checked : (o : Bool)
-        → o ≡ unlocked open?
-        (elements
-        (kindOf (fieldsAt rest))
-        (spaceOf (fieldsAt rest .space))
-        (fieldsAt rest .count)
-        (r .used)
-        (stride (fieldsAt rest))
-        (drop (headerBytes (fieldsAt rest)) rest))
-        → Checked list packet pointers o reply rest r
-    unfolding reachFrom commandAt found
+    next-checked : (o : Bool) → o ≡ unlockedBy open? (fieldsAt rest) (r .used) rest → Checked list packet pointers o reply rest r
+    unfolding reachFrom
     next-checked o h =
         let k : r .bytes ≡ commandBytes (fieldsAt rest) = ap (λ (t : Reach). t .bytes) e in
         let a : r .answered ≡ fieldsAt rest .count * answered (kindOf (fieldsAt rest)) (spaceOf (fieldsAt rest .space)) = ap (λ (t : Reach). t .answered) e in
-        let two = two-bytes (fieldsAt rest) in
+        let two = command-some (fieldsAt rest) in
         let whole = pass .whole in
         let answers = pass .answers in
         let l = s .left in
-        let turn = at-step (s .here) some (commandAt g (length packet - length rest) rest) 0 (r .bytes) refl (sym none) refl k in
+        let turn = at-step (s .here) some (r .bytes) none k in
         let fewer : length (take (length rest - r .bytes) (drop (r .bytes) rest)) ≡ length rest - r .bytes = rw (length-take, length-drop) (omega arith) in
         let place : length packet - length (take (length rest - r .bytes) (drop (r .bytes) rest)) ≡ length packet - length rest + r .bytes = omega arith in
         record {
@@ -298,10 +247,10 @@ module _ {list packet pointers : List ℕ} {open? : Bool} {reply : ℕ} {rest : 
     -- A refusal is the packet's, at the place that is found.
     pub checking-refused : (n : ℕ) → j .found .which ≡ Refused n
         → Answer.refused n (j .found .place) ≡ answerTo (judge (pointersOf list) packet)
-    unfolding commandAt found whichListed number
+    unfolding whichListed number
     checking-refused n w =
         let e = which-number n _ _ _ _ (sym (ap (λ (x : Which). whichListed x (j .found .place)) w) ∙ which-found) in
-        rw (e .2) (at-refused rest (s .here) some n (e .0 ∙ sym (number-found _ _ _)) (λ z. e .1 (sym (e .0) ∙ z)))
+        rw (e .2) (at-refused rest (s .here) some n (e .0) (λ z. e .1 (sym (e .0) ∙ z)))
 
     -- A read or a write, by its write bit.
     module _ (b : ℕ) (is : whichListed (j .found .which) (j .found .place) ≡ Answer.accepted (b ∷ [])) where
@@ -312,15 +261,7 @@ module _ {list packet pointers : List ℕ} {open? : Bool} {reply : ℕ} {rest : 
       unfolding number
       checking-passed = rw fields-found (passed _ _ _ _ _ (bit-found .0))
 
-      pub checking-next : (o : Bool)
-          → o ≡ unlocked open?
-          (elements
-          (kindOf (j .found .fields))
-          (spaceOf (j .found .fields .space))
-          (j .found .fields .count)
-          (j .reach .used)
-          (stride (j .found .fields))
-          (drop (headerBytes (j .found .fields)) rest))
+      pub checking-next : (o : Bool) → o ≡ unlockedBy open? (j .found .fields) (j .reach .used) rest
           → Checked list packet pointers o reply rest (j .reach)
       checking-next o h =
           let pass = rw fields-found at checking-passed in

@@ -18,9 +18,10 @@ use Rattle.lbp16.proofs.PointerLaws.{slot-read}
 use Rattle.packet.specs.Bytes.{number}
 use Rattle.packet.specs.Step.{read, write, isInfo, rowBy, carried, answered}
 use Rattle.packet.specs.Rules.{Rule, first, misaligned, anyStep, barred}
-use Rattle.packet.specs.Command.{fieldsAt, kindOf, rowOf, headerBytes, commandBytes, addressUsed, stride, stepsAt}
+use Rattle.packet.specs.Command.{fieldsAt, kindOf, rowOf, headerBytes, commandBytes, addressBy, addressUsed, stride, stepsAt}
 use Rattle.packet.specs.Command.{refusals, whichOf, found, whichListed, foundListed}
-use Rattle.packet.specs.Reach.{reachFrom, reachAt, Ruled, JudgedAt, ForRegisters}
+use Rattle.packet.specs.Reach.{reachFrom, reachAt}
+use Rattle.packet.specs.Inside.{Ruled, JudgedAt, ForRegisters}
 use Rattle.packet.specs.declared.command.Reach.{Reach}
 use Rattle.packet.specs.declared.command.Which.{Which}
 use Rattle.packet.specs.declared.refusal.Ruling.{Ruling}
@@ -129,9 +130,14 @@ module _ (f : Fields) where
   reach-is r slot used header carries answers moves next e₁ e₂ e₃ e₄ e₅ e₆ e₇ =
       rw (e₇, e₆, e₅, e₄, e₃, e₂, e₁, carried-is, answered-is, moved-is) refl
 
--- the address used, from the pointer's slot
+-- the address used, where it is given
+pub address-at : (f : Fields) (rest : List ℕ) (pointer used : ℕ) → f .address ≡ true → used ≡ number (take 2 (drop 2 rest))
+    → used ≡ addressBy f rest pointer
+address-at f rest pointer used t e = rw t e
+
+-- the same from the pointer's slot
 pub address-is : (f : Fields) (ps rest : List ℕ) (slot pointer used : ℕ) → slot ≡ slotOf (isInfo (kindOf f)) (spaceOf (f .space))
-    → pointer ≡ cond (ltb slot 8) (getD ps slot 0) 0 → used ≡ cond (f .address) (number (take 2 (drop 2 rest))) pointer
+    → pointer ≡ cond (ltb slot 8) (getD ps slot 0) 0 → used ≡ addressBy f rest pointer
     → used ≡ addressUsed (pointersOf ps) f rest
 unfolding addressUsed
 address-is f ps rest slot pointer used e₁ e₂ e₃ =
@@ -177,7 +183,7 @@ slot-is f i slot e h = h ∙ ap (λ (b : Bool). slotOf b (spaceOf (f .space))) e
 -- the reach of the command, once its address is found
 pub reach-found : (f : Fields) (ps rest : List ℕ) (slot pointer used : ℕ) (r : Reach)
     → slot ≡ slotOf (isInfo (kindOf f)) (spaceOf (f .space)) → pointer ≡ cond (ltb slot 8) (getD ps slot 0) 0
-    → used ≡ cond (f .address) (number (take 2 (drop 2 rest))) pointer → r ≡ reachFrom f used → r ≡ reachAt (pointersOf ps) f rest
+    → used ≡ addressBy f rest pointer → r ≡ reachFrom f used → r ≡ reachAt (pointersOf ps) f rest
 reach-found f ps rest slot pointer used r e₁ e₂ e₃ e₄ = e₄ ∙ ap (reachFrom f) (address-is f ps rest slot pointer used e₁ e₂ e₃)
 
 -- the command at the front

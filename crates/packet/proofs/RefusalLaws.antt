@@ -3,7 +3,7 @@ use Prim.Native.Nat.{ℕ, zero, suc, _+_, _≤_}
 use mathlib.Core.Path.{_≡_, refl, _∙_}
 use mathlib.Core.Logic.{_≢_}
 use mathlib.Core.List.{List, [], _∷_, _++_}
-use mathlib.Core.Bool.{Bool, true, false, cond}
+use mathlib.Core.Bool.{Bool, false}
 use lib.ListN.{length, drop, length-drop}
 use lib.Seq.{drop-drop}
 use native.Mathlib.Omega.{arith}
@@ -14,12 +14,12 @@ use Rattle.lbp16.specs.declared.pointer.Pointers.{Pointers}
 use Rattle.lbp16.proofs.PointerLaws.{with-pointer-other}
 use Rattle.packet.specs.Step.{Kind, Step, isInfo, unlocked, replyBytes}
 use Rattle.packet.specs.Rules.{Rule, first, anyStep, pastEnd}
-use Rattle.packet.specs.Command.{limit, fieldsAt, kindOf, headerBytes, commandBytes, elements, stepsAt}
+use Rattle.packet.specs.Command.{limit, fieldsAt, kindOf, commandBytes, elements, stepsAt}
 use Rattle.packet.specs.Command.{refusals, whichOf, found, pointersAfter}
 use Rattle.packet.specs.Judge.{Carried, Verdict, refused, accepted, begin, foundNext, carry, verdictAt, judgeFrom, judge}
 use Rattle.packet.proofs.RuleLaws.{FirstHolds, first-holds, Rising, first-within, Lowest, first-lowest}
 use Rattle.packet.proofs.StepLaws.{reply-append, any-append}
-use Rattle.packet.proofs.CommandLaws.{passed, reply-of-command}
+use Rattle.packet.proofs.CommandLaws.{passed, command-some, reply-of-command}
 use Rattle.packet.proofs.JudgeLaws.{PassedNext}
 
 -- the bytes that remain after the command at the front
@@ -45,15 +45,6 @@ pub data Ends (c : Carried) (rest : List ℕ) : Verdict → Type 0 where
 further : {c : Carried} {rest : List ℕ} {v : Verdict} → PassedNext c rest → Ends (carry c rest) (behind rest) v → Ends c rest v
 further h (Ends.accepts r) = Ends.accepts (Reaches.past h r)
 further h (Ends.refuses r l e n) = Ends.refuses (Reaches.past h r) l e n
-
--- a command has some bytes
-command-some : (f : Fields) → 2 ≤ commandBytes f
-unfolding commandBytes headerBytes
-command-some f = go (f .address) _
-  where
-    go : (b : Bool) (n : ℕ) → 2 ≤ cond b 4 2 + n
-    go true n = omega arith
-    go false n = omega arith
 
 ends-from : (fuel : ℕ) (c : Carried) (rest : List ℕ) → length rest ≤ fuel → Ends c rest (judgeFrom fuel c rest)
 unfolding judgeFrom foundNext found whichOf

@@ -5,7 +5,6 @@ use mathlib.Core.Logic.{_⊎_, inl, inr, _≢_}
 use mathlib.Core.Bool.{true, false}
 use mathlib.Core.List.{List, [], _∷_, _++_, append-assoc}
 use native.Mathlib.Omega.{arith}
-use native.Mathlib.Nat.{add-zero}
 use lib.Dec.{ltb}
 use lib.ListN.{length, take, drop, getD, set, length-append, length-drop}
 use lib.Seq.{sets, length-sets, set-set, set-comm, drop-set-lt, drop-set-add, take-set-le, getD-set-other}
@@ -81,13 +80,6 @@ copy-step src dst from to n i h k =
     let f : to + (i + 1) ≡ suc (to + i) = omega arith in
     let g : from + (i + 1) ≡ suc (from + i) = omega arith in
     rw (e, drop-cons src (from + i) 0 k, f, g) refl
-
--- stores one behind the other are one store
-pub sets-append : (l : List ℕ) (i : ℕ) (vs ws : List ℕ) → sets (sets l i vs) (i + length vs) ws ≡ sets l i (vs ++ ws)
-sets-append l i [] ws = rw add-zero refl
-sets-append l i (v ∷ vs) ws =
-    let e : i + suc (length vs) ≡ suc i + length vs = omega arith in
-    rw e (sets-append (set l i v) (suc i) vs ws)
 
 length-stored : (k : Kind) (i : ℕ) (bs store : List ℕ) → length (stored k i bs store) ≡ length store
 unfolding stored

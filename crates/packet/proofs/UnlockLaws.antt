@@ -7,10 +7,11 @@ use native.Mathlib.Omega.{arith}
 use lib.ListN.{length, take, drop}
 use lib.Dec.{eqb}
 use lib.Seq.{drop-drop}
-use borrow.Author.Tests.{eqb-true}
-use Rattle.lbp16.specs.Space.{Space, registers, eeprom, status, information, absent, row, spaceOf}
+use borrow.Author.Tests.{eqb-true, ne-eqb}
+use Rattle.lbp16.specs.Space.{Space, status, row, spaceOf}
 use Rattle.lbp16.specs.declared.word.Fields.{Fields}
-use Rattle.packet.specs.Step.{Kind, read, write, infoRead, isInfo, carried, isWrite, isStatus, namesUnlock, statusWrite, turned, unlocked}
+use Rattle.packet.specs.Step.{Kind, read, write, infoRead, isInfo, carried, isWrite, isStatus, namesUnlock, turned, unlocked}
+use Rattle.packet.specs.Inside.{statusWrite, unlockedBy}
 use Rattle.packet.specs.Bytes.{number}
 use Rattle.packet.specs.Command.{payload, elements, kindOf, headerBytes, addressUsed, stride, areaBytes, handed, stepsAt}
 use Rattle.lbp16.specs.Pointer.{pointerOf}
@@ -18,6 +19,7 @@ use Rattle.lbp16.specs.declared.pointer.Pointers.{Pointers}
 use Rattle.packet.proofs.SliceLaws.{tail-whole}
 use Rattle.packet.proofs.ElementLaws.{write-kind}
 use Rattle.lbp16.proofs.BoolLaws.{and-true}
+use Rattle.lbp16.proofs.CaseLaws.{space-cases}
 
 -- one element of a write to space 6
 pub unlock-step : (o : Bool) (n a d : ℕ) (bs : List ℕ)
@@ -53,17 +55,9 @@ unlock-kept o k s (suc n) a d bs e =
     go true true u e = let z : _≡_ {A = ℕ} 0 1 = cc in absurd (omega arith)
 
 -- space 6 by its number
-status-number : (n : ℕ) → isStatus (spaceOf n) ≡ eqb n 6
-unfolding spaceOf isStatus
-status-number n = go (eqb n 0) (eqb n 2) (eqb n 6) (eqb n 7) refl refl refl
-  where
-    go : (a b t d : Bool) → eqb n 0 ≡ a → eqb n 2 ≡ b → eqb n 6 ≡ t
-        → isStatus (cond a registers (cond b eeprom (cond t status (cond d information absent)))) ≡ t
-    go true b t d e f g = rw (eqb-true n 0 e) at g
-    go false true t d e f g = rw (eqb-true n 2 f) at g
-    go false false true d e f g = refl
-    go false false false true e f g = refl
-    go false false false false e f g = refl
+pub status-number : (n : ℕ) → isStatus (spaceOf n) ≡ eqb n 6
+unfolding isStatus
+status-number n = space-cases n (λ m s. isStatus s ≡ eqb m 6) refl refl refl refl (λ a b c d. sym (ne-eqb n 6 c))
 
 pub not-status : (f : Fields) → (f .write && eqb (f .space) 6) ≡ false
     → (isWrite (kindOf f) && isStatus (spaceOf (f .space))) ≡ false
@@ -79,15 +73,13 @@ status-write f e =
 pub unlock-next : (o : Bool) (f : Fields) (used : ℕ) (rest : List ℕ) (h d : ℕ) (r : Bool)
     → (f .write && eqb (f .space) 6) ≡ true → h ≡ headerBytes f → d ≡ stride f
     → r ≡ unlocked o (elements write status (f .count) used d (take (length rest - h) (drop h rest)))
-    → r ≡ unlocked o (elements (kindOf f) (spaceOf (f .space)) (f .count) used (stride f) (drop (headerBytes f) rest))
+    → r ≡ unlockedBy o f used rest
 unlock-next o f used rest h d r t e₁ e₂ e₃ =
     let s = status-write f t in rw (s .0, s .1, ← e₁, ← e₂) (e₃ ∙ rw tail-whole refl)
 
 -- An info read turns nothing, so that it may be taken to be handed the bytes after its header too.
 pub unlock-handed : (o : Bool) (p : Pointers) (f : Fields) (rest : List ℕ)
-    → unlocked o (stepsAt p f rest)
-    ≡ unlocked o
-    (elements (kindOf f) (spaceOf (f .space)) (f .count) (addressUsed p f rest) (stride f) (drop (headerBytes f) rest))
+    → unlocked o (stepsAt p f rest) ≡ unlockedBy o f (addressUsed p f rest) rest
 unfolding stepsAt handed isInfo isWrite
 unlock-handed o p f rest = go (kindOf f)
   where

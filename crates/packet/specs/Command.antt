@@ -13,8 +13,7 @@ use Rattle.lbp16.specs.declared.space.Row.{Row}
 use Rattle.lbp16.specs.declared.word.Fields.{Fields}
 use Rattle.lbp16.specs.declared.pointer.Pointers.{Pointers}
 use Rattle.packet.specs.Bytes.{number, pairsOf}
-use Rattle.packet.specs.Step.{Kind, read, write, infoRead, Step, isInfo, rowBy, carried, answered}
-use Rattle.packet.specs.Step.{isWrite, unlocked, replyBytes}
+use Rattle.packet.specs.Step.{Kind, read, write, infoRead, Step, isInfo, isWrite, rowBy, carried, answered}
 use Rattle.packet.specs.Rules.{Rule, first, misaligned, pastEnd, barred, anyStep}
 use Rattle.packet.specs.declared.command.Found.{Found}
 use Rattle.packet.specs.declared.command.Which.{Which}
@@ -47,8 +46,11 @@ unfoldable pub commandBytes : Fields → ℕ
 commandBytes f = headerBytes f + f .count * carried (kindOf f) (spaceOf (f .space))
 
 -- the address used: the one given, or the pointer's
+abbrev pub addressBy : Fields → List ℕ → ℕ → ℕ
+addressBy f rest pointer = cond (f .address) (number (take 2 (drop 2 rest))) pointer
+
 unfoldable pub addressUsed : Pointers → Fields → List ℕ → ℕ
-addressUsed p f rest = cond (f .address) (number (take 2 (drop 2 rest))) (pointerOf p (isInfo (kindOf f)) (spaceOf (f .space)))
+addressUsed p f rest = addressBy f rest (pointerOf p (isInfo (kindOf f)) (spaceOf (f .space)))
 
 -- from one element to the next
 unfoldable pub stride : Fields → ℕ
@@ -133,37 +135,3 @@ foundListed x = record { fields = x .fields; place = x .place; which = whichList
 unfoldable pub pointersAfter : Pointers → Fields → List ℕ → Pointers
 pointersAfter p f rest =
     withPointer p (isInfo (kindOf f)) (spaceOf (f .space)) (addressUsed p f rest + f .count * stride f)
-
--- the number of what is found, 0 where it is no refusal
-abbrev pub numberOf : Answer → ℕ
-numberOf (Answer.accepted values) = 0
-numberOf (Answer.refused n place) = n
-
--- What the commands before this one leave: the pointers, whether the unlock is open, the reply's bytes so far.
-pub record Progress : Type 0 where
-  pub pointers : Pointers
-  pub unlocked : Bool
-  pub reply : ℕ
-
--- A command with what is found at it, and the progress after it; a refusal leaves the progress.
-pub record Command : Type 0 where
-  pub found : Finding
-  pub next : Progress
-
-abbrev pub nextBy : Answer → Progress → Progress → Progress
-nextBy (Answer.accepted values) next g = next
-nextBy (Answer.refused n place) next g = g
-
-unfoldable pub progressAfter : Progress → Fields → List ℕ → Progress
-progressAfter g f rest =
-    let steps = stepsAt (g .pointers) f rest in
-    record {
-      pointers = pointersAfter (g .pointers) f rest;
-      unlocked = unlocked (g .unlocked) steps;
-      reply = g .reply + replyBytes steps;
-    }
-
-unfoldable pub commandAt : Progress → ℕ → List ℕ → Command
-commandAt g place rest =
-    let x = found (g .pointers) (g .unlocked) (g .reply) place rest in
-    record { found = x; next = nextBy (x .which) (progressAfter g (fieldsAt rest) rest) g }

@@ -6,3 +6,4 @@ pub mod Judge
 pub mod Counts
 pub mod Verdict
 pub mod Reach
+pub mod Inside

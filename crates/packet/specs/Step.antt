@@ -97,10 +97,6 @@ namesUnlock s = eqb (s .address) 0x1A && isStatus (s .space)
 unfoldable pub turned : Bool → Step → Bool
 turned open? s = cond (isWrite (s .kind) && namesUnlock s) (eqb (number (s .bytes)) 0x5A02) open?
 
--- an element written to space 6
-abbrev pub statusWrite : ℕ → List ℕ → Step
-statusWrite a bs = record { kind = write; space = status; address = a; bytes = bs }
-
 -- whether the unlock is open after the steps
 unfoldable pub unlocked : Bool → List Step → Bool
 unlocked open? [] = open?

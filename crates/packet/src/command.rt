@@ -15,9 +15,9 @@ ghost use lib.Dec.{eqb};
 ghost use Rattle.lbp16.specs.Space.{spaceOf, status};
 ghost use Rattle.lbp16.specs.Word.{fieldsOf};
 ghost use Rattle.lbp16.specs.Pointer.{advanced, withPointer, pointersOf, slotOf};
-ghost use Rattle.packet.specs.Bytes.{number};
-ghost use Rattle.packet.specs.Step.{Kind, isInfo, carried, statusWrite, turned, unlocked};
-ghost use Rattle.packet.specs.Command.{fieldsAt, kindOf, rowOf, headerBytes, commandBytes, addressUsed, stride, elements};
+ghost use Rattle.packet.specs.Step.{Kind, isInfo, carried, turned, unlocked};
+ghost use Rattle.packet.specs.Inside.{statusWrite, unlockedBy};
+ghost use Rattle.packet.specs.Command.{fieldsAt, kindOf, rowOf, headerBytes, commandBytes, addressBy, addressUsed, stride, elements};
 ghost use Rattle.packet.specs.Reach.{reachFrom, reachAt};
 
 // The most bytes that a packet or its reply may have: 1,500 less 28 of IP and UDP headers.
@@ -117,7 +117,7 @@ pub fn command_bytes(f: Fields) -> usize
 
 // The address used: the one given, or the pointer's.
 fn address_by(rest: &[u8], f: Fields, pointer: u32) -> u32
-    ensures { λ r. ⌜ r ≡ cond (f .address) (number (take 2 (drop 2 (now (rest .entry))))) pointer ⌝ }
+    ensures { λ r. ⌜ r ≡ addressBy f (now (rest .entry)) pointer ⌝ }
 {
     if f.address {
         bytes::pair_at(rest, 2) as u32
@@ -173,7 +173,7 @@ fn unlock_after(open: bool, count: u8, used: u32, stride: u32, data: &[u8]) -> b
 // Whether it is open after the command.
 pub(crate) fn unlocked_next(rest: &[u8], open: bool, f: Fields, used: u32) -> bool
     requires { ⌜ headerBytes f ≤ length (now rest) ⌝ }
-    ensures { λ r. ⌜ r ≡ unlocked «open» (elements (kindOf f) (spaceOf (f .space)) (f .count) used (stride f) (drop (headerBytes f) (now (rest .entry)))) ⌝ }
+    ensures { λ r. ⌜ r ≡ unlockedBy «open» f used (now (rest .entry)) ⌝ }
 {
     if f.write & (f.space == 6) {
         let h = header_bytes(f);

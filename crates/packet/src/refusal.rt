@@ -14,16 +14,16 @@ ghost use mathlib.Core.Bool.{Bool, not, _&&_, cond};
 ghost use mathlib.Core.List.{List};
 ghost use mathlib.Core.Path.{_≡_};
 ghost use Prim.Native.Nat.{ℕ, _*_, _+_, _-_, _%_, _≤_};
-ghost use lib.ListN.{length, take, drop};
+ghost use lib.ListN.{length};
 ghost use lib.Dec.{eqb, ltb};
 ghost use Rattle.lbp16.specs.Word.{fieldsOf};
 ghost use Rattle.lbp16.specs.Pointer.{pointersOf};
 ghost use Rattle.lbp16.specs.declared.pointer.Pointers.{Pointers};
-ghost use Rattle.packet.specs.Bytes.{number};
 ghost use Rattle.packet.specs.Rules.{first, anyStep, barred};
-ghost use Rattle.packet.specs.Command.{limit, fieldsAt, kindOf, rowOf, headerBytes, addressUsed, stepsAt};
+ghost use Rattle.packet.specs.Command.{limit, fieldsAt, kindOf, rowOf, headerBytes, addressBy, addressUsed, stepsAt};
 ghost use Rattle.packet.specs.Command.{outOfPlace, refusals, whichOf, found, whichListed, foundListed};
-ghost use Rattle.packet.specs.Reach.{reachAt, ForRegisters, Ruled, JudgedAt};
+ghost use Rattle.packet.specs.Reach.{reachAt};
+ghost use Rattle.packet.specs.Inside.{ForRegisters, Ruled, JudgedAt};
 
 // A command's number, 0 if no rule refuses it, and then its reach.
 pub(crate) struct Ruling {
@@ -157,7 +157,7 @@ fn area_number(rest: &[u8], f: Fields, row: Row, r: Reach, unlocked: bool, reply
 // The address used by a command whose header is whole.
 fn address_in(rest: &[u8], f: Fields, pointer: u32) -> u32
     requires { ⌜ headerBytes f ≤ length (now rest) ⌝ }
-    ensures { λ r. ⌜ r ≡ cond (f .address) (number (take 2 (drop 2 (now (rest .entry))))) pointer ⌝ }
+    ensures { λ r. ⌜ r ≡ addressBy f (now (rest .entry)) pointer ⌝ }
 {
     if f.address {
         bytes::pair(rest, 2) as u32

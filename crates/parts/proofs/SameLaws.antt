@@ -15,14 +15,14 @@ use Rattle.packet.proofs.StepLaws.{row-plain}
 use Rattle.packet.specs.Rules.{pastEnd}
 use Rattle.cue.specs.Packing.{Open, commandsOf, started, turn}
 use Rattle.cue.specs.Output.{outputOf}
-use Rattle.cue.specs.Inside.{advance, finished, roomAfter}
+use Rattle.cue.specs.Inside.{roomAfter}
 use Rattle.cue.specs.Summary.{Progress, summary, turnedBy, joinedBy, startedBy, closedBy, agrees, fits}
 use Rattle.cue.specs.Compile.{outputBytes}
 use Rattle.cue.specs.Records.{brief}
 use Rattle.cue.specs.declared.packer.Packer.{Packer}
 use Rattle.cue.proofs.RecordLaws.{good-element}
 use Rattle.cue.proofs.PackingLaws.{turn-cases}
-use Rattle.cue.proofs.PackerLaws.{Fine, Following, next, grown}
+use Rattle.cue.proofs.PackerLaws.{Fine, Following, next, grown, advance, finished}
 use Rattle.cue.proofs.LoopLaws.{end-is}
 use Rattle.cue.proofs.RoomLaws.{roomOf, wrote-next}
 use Rattle.parts.specs.Rule.{Opened, none, some, closes, opens, lastOf, packingRule}

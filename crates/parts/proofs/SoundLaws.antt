@@ -18,7 +18,7 @@ use Rattle.cue.specs.declared.records.Record.{Record}
 use Rattle.cue.specs.declared.packer.Packer.{Packer}
 use Rattle.cue.proofs.GuardedLaws.{any-false}
 use Rattle.cue.proofs.PackerLaws.{Grown, grown, none-turned}
-use Rattle.cue.proofs.EmitLaws.{space-le}
+use Rattle.lbp16.proofs.SpaceLaws.{number-le}
 use Rattle.parts.specs.Inside.{Alone, Sound}
 
 pub sound-roomy : {p : Packer} → Sound p → Roomy p
@@ -46,7 +46,7 @@ module _ (x : Step) where
 
   r-space : r .space ≤ 7
   unfolding brief
-  r-space = space-le (x .space)
+  r-space = number-le (x .space)
 
   joined-alone : (p : Packer) → Alone p → Grown p (joinedBy p r) → Alone (joinedBy p r)
   unfolding joinedBy

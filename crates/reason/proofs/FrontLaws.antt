@@ -18,7 +18,7 @@ use Rattle.packet.specs.Command.{fieldsAt, kindOf, headerBytes, commandBytes, a
 use Rattle.packet.specs.Command.{stride}
 use Rattle.packet.specs.Command.{pointersAfter}
 use Rattle.packet.specs.Judge.{Carried, refused, accepted, begin, carry, judgeFrom, judge}
-use Rattle.packet.proofs.CommandLaws.{Passed}
+use Rattle.packet.specs.Inside.{Passed}
 use Rattle.packet.proofs.JudgeLaws.{PassedNext, judged-end, judged-past}
 use Rattle.packet.proofs.RefusalLaws.{Reaches, here, past, behind, RefusedAt, refused-in-table}
 

@@ -14,7 +14,8 @@ use Rattle.packet.specs.Step.{Kind, read, write, infoRead, Step, isInfo, isWrit
 use Rattle.packet.specs.Rules.{anyStep, pastEnd}
 use Rattle.packet.specs.Command.{pickKind, kindOf, headerBytes, commandBytes, addressUsed, stride, elements, handed, stepsAt}
 use Rattle.packet.proofs.SliceLaws.{tail-whole}
-use Rattle.packet.proofs.CommandLaws.{Passed, last-inside}
+use Rattle.packet.proofs.CommandLaws.{last-inside}
+use Rattle.packet.specs.Inside.{Passed}
 use Rattle.cue.specs.Records.{recordStep, recordKind, recordBytes, markAt, writeMark}
 use Rattle.tight.specs.Tight.{Doing, none, steps, infoStep, plainOnly, unlocks, sameKind, sameStep}
 use Rattle.tight.specs.Inside.{stepTakes, further, andThen, stepsTake, doingTakes}

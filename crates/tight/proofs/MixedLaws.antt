@@ -10,7 +10,8 @@ use borrow.Author.Tests.{eqb-true, eq-eqb, not-false}
 use Rattle.lbp16.specs.Space.{Space, registers, eeprom, status, information, absent, row}
 use Rattle.lbp16.proofs.BoolLaws.{or-false, and-true}
 use Rattle.packet.specs.Bytes.{number}
-use Rattle.packet.specs.Step.{Kind, read, write, infoRead, Step, isInfo, isWrite, isStatus, carried, namesUnlock, statusWrite}
+use Rattle.packet.specs.Step.{Kind, read, write, infoRead, Step, isInfo, isWrite, isStatus, carried, namesUnlock}
+use Rattle.packet.specs.Inside.{statusWrite}
 use Rattle.packet.specs.Rules.{anyStep}
 use Rattle.cue.specs.Records.{reserved, badElement}
 use Rattle.cue.proofs.RecordLaws.{good-element}

@@ -11,13 +11,14 @@ use Rattle.lbp16.specs.Pointer.{withPointer, advanced}
 use Rattle.lbp16.specs.declared.pointer.Pointers.{Pointers}
 use Rattle.lbp16.specs.declared.word.Fields.{Fields}
 use Rattle.packet.specs.Step.{isInfo}
-use Rattle.packet.specs.Command.{limit, fieldsAt, kindOf, commandBytes, addressUsed, stride, stepsAt, numberOf, found, commandAt}
+use Rattle.packet.specs.Command.{limit, fieldsAt, kindOf, commandBytes, addressUsed, stride, stepsAt}
 use Rattle.packet.specs.Command.{pointersAfter}
 use Rattle.packet.specs.Judge.{Carried, Verdict, accepted, refused, begin, carry, foundNext, verdictAt, judgeFrom, judge}
-use Rattle.packet.specs.Verdict.{answerTo, start, progressOf}
-use Rattle.packet.specs.Command.{Progress}
+use Rattle.packet.specs.Verdict.{answerTo}
+use Rattle.packet.proofs.ProgressLaws.{Progress, start, progressOf, progressAfter, numberAt}
 use Rattle.packet.proofs.SliceLaws.{tail-whole}
-use Rattle.packet.proofs.CommandLaws.{Passed, advanced-used}
+use Rattle.packet.proofs.CommandLaws.{advanced-used}
+use Rattle.packet.specs.Inside.{Passed}
 use Rattle.packet.proofs.LoopLaws.{At, at-begin, at-end, at-accepted, at-passed, at-next, Turn, at-step}
 use Rattle.card.specs.Inside.{LetPass}
 use Rattle.tight.specs.Tight.{none, doneBy, packetDoes}
@@ -114,7 +115,7 @@ module _ {p : Pointers} {packet list : List ℕ} {pointers : Pointers} {rest : L
   abbrev s : Going p packet list pointers rest taken
   s = h .going
 
-  none-refuses : numberOf (commandAt (s .g) (s .place) rest .found .which) ≡ 0
+  none-refuses : numberAt (s .g) rest ≡ 0
   none-refuses = at-accepted rest (s .at) (h .more) (s .last) (s .accepts)
 
   pass : Passed (s .c .pointers) (progressOf (s .c) .unlocked) (progressOf (s .c) .reply) (fieldsAt rest) rest
@@ -147,10 +148,8 @@ module _ {p : Pointers} {packet list : List ℕ} {pointers : Pointers} {rest : L
 
   -- the command's bytes
   module _ (k : ℕ) (b : k ≡ commandBytes f) where
-    turn : Turn p packet (s .c) (commandAt (s .g) (s .place) rest .next) (s .place) k rest
-    unfolding commandAt found
-    turn =
-        at-step (s .at) (h .more) (commandAt (s .g) (s .place) rest) _ k refl refl none-refuses (b ∙ ap commandBytes (h .read))
+    turn : Turn p packet (s .c) (progressAfter (s .g) (fieldsAt rest) rest) (s .place) k rest
+    turn = at-step (s .at) (h .more) k none-refuses (b ∙ ap commandBytes (h .read))
 
     pub command-some : 2 ≤ k
     command-some = turn .some
@@ -171,7 +170,7 @@ module _ {p : Pointers} {packet list : List ℕ} {pointers : Pointers} {rest : L
           last = s .last;
           accepts = s .accepts;
           c = carry (s .c) rest;
-          g = commandAt (s .g) (s .place) rest .next;
+          g = progressAfter (s .g) (fieldsAt rest) rest;
           place = s .place + k;
           at = turn .again;
           pointed = on;

@@ -21,7 +21,7 @@ use Rattle.packet.specs.Command.{limit, fieldsAt, kindOf, rowOf, commandBytes, 
 use Rattle.packet.specs.Judge.{Carried, accepted, begin, carry, judgeFrom, judge}
 use Rattle.packet.specs.Judge
 use Rattle.packet.proofs.StepLaws.{row-plain}
-use Rattle.packet.proofs.CommandLaws.{Passed}
+use Rattle.packet.specs.Inside.{Passed}
 use Rattle.packet.proofs.JudgeLaws.{PassedNext, onward, judged-past, accepted-past, pointers-kept}
 use Rattle.cue.proofs.PackingLaws.{space-again}
 use Rattle.cue.proofs.Relations.{Does}

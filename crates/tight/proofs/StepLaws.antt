@@ -18,7 +18,7 @@ use Rattle.packet.proofs.StepLaws.{carried-le}
 use Rattle.cue.specs.Records.{recordStep, recordKind, recordSpace, recordBytes, valueBytes}
 use Rattle.cue.specs.Records.{recordAt}
 use Rattle.cue.specs.declared.records.Record.{Record}
-use Rattle.cue.proofs.ReadingLaws.{space-cases}
+use Rattle.lbp16.proofs.CaseLaws.{space-cases}
 use Rattle.tight.specs.Tight.{unlocks, sameKind, sameStep, sameBytes}
 use Rattle.tight.specs.Inside.{elementStep, stepTakes}
 use Rattle.tight.specs.declared.walk.Taken.{Taken}

@@ -2,9 +2,8 @@ use borrow.Author.Needs.{needs}
 use Rattle.card.proofs.element.fetch2.Statement.{statement}
 use Rattle.card.proofs.element.fetch2.Tie as tie
 use native.Mathlib.Omega.{arith}
-use Rattle.packet.proofs.PairLaws.{number-next, number-from}
+use Rattle.packet.proofs.PairLaws.{pair-two}
 use denote.Ref.{now}
-use Rattle.packet.specs.Bytes.{number}
 
 shared-slice-read-wide16 : tie.Need-shared-slice-read-wide16
 shared-slice-read-wide16 c = search needs
@@ -28,11 +27,9 @@ add-result : tie.Need-add-result
 add-result c = search needs
 
 returns : tie.Need-returns
-unfolding number
 returns c =
     let at-args = c .before .before .before .before .before in
-    let a = at-args .args in
-    omega (arith, number-next 1 (now (a .s)) (a .at) (omega arith), number-from 0 (now (a .s)) (a .at) 1 (omega arith))
+    omega (arith, pair-two (now (at-args .args .s)) (at-args .args .at) (omega arith))
 
 pub fetch2-spec : {M : Type 1} → statement M
 fetch2-spec =

@@ -3,6 +3,13 @@ use Rattle.card.proofs.element.move_element.Statement.{statement}
 use Rattle.card.proofs.element.move_element.Tie as tie
 use native.Mathlib.Omega.{arith}
 use denote.Ref.{now}
+use Prim.Native.Nat.{ℕ}
+use mathlib.Core.Path.{_≡_, refl}
+use mathlib.Core.List.{List}
+use mathlib.Core.Bool.{cond}
+use lib.ListN.{take, drop}
+use lib.Seq.{sets}
+use Rattle.packet.specs.Bytes.{number, bytesOf}
 use Rattle.card.proofs.ElementLaws.{moved}
 
 fetch4-requires : tie.Need-fetch4-requires
@@ -17,6 +24,20 @@ fetch2-requires c κs = rw (c .before .if1 .left) at (c .before .before .before 
 store2-requires : tie.Need-store2-requires
 store2-requires c κs = rw (c .before .before .if1 .left) at (c .before .before .before .before .before .pre .1)
 
+-- an element of w bytes, fetched and stored
+element-moved : (b : tie.After-shared-slice-known) (w value : ℕ) (out : List ℕ)
+    → let a = b .before .args in
+    cond (a .wide) 4 2 ≡ w → value ≡ number (take w (drop (a .i) (now (a .src)))) → out ≡ sets (now (a .dst)) (a .j) (bytesOf w value)
+    → out ≡ sets (now (a .dst)) (a .j) (take (cond (a .wide) 4 2) (drop (a .i) (now (a .src))))
+element-moved b w value out t e q =
+    let a = b .before .args in
+    rw t
+    (moved w (now (a .src)) (now (a .dst)) out (a .i) (a .j) value
+    (rw t at (b .before .pre .0))
+    (λ k l. omega (arith, b .shared-slice-known .given k))
+    e
+    q)
+
 same-length : tie.Need-same-length
 same-length c = search needs
 
@@ -24,19 +45,8 @@ returns : tie.Need-returns
 returns c =
     let at-fetch4 = c .before .before .before in
     let at-if1 = at-fetch4 .before .before in
-    let at-shared-slice-known = at-if1 .before .before in
-    let at-args = at-shared-slice-known .before in
-    rw
-    (at-if1 .if1 .taken)
-    (moved 4
-    (now (at-args .args .src))
-    (now (at-args .args .dst)) _
-    (at-args .args .i)
-    (at-args .args .j) _
-    (rw (at-if1 .if1 .taken) at (at-args .pre .0))
-    (λ k l. omega (arith, at-shared-slice-known .shared-slice-known .given k))
-    (at-fetch4 .fetch4 .ensures)
-    (c .before .before .store4 .ensures))
+    element-moved (at-if1 .before .before) 4 _ _ (rw (at-if1 .if1 .taken) refl) (at-fetch4 .fetch4 .ensures)
+    (c .before .before .store4 .ensures)
 
 same-length-2 : tie.Need-same-length-2
 same-length-2 c = search needs
@@ -45,19 +55,8 @@ returns-2 : tie.Need-returns-2
 returns-2 c =
     let at-fetch2 = c .before .before .before in
     let at-if1 = at-fetch2 .before .before in
-    let at-shared-slice-known = at-if1 .before .before in
-    let at-args = at-shared-slice-known .before in
-    rw
-    (at-if1 .if1 .left)
-    (moved 2
-    (now (at-args .args .src))
-    (now (at-args .args .dst)) _
-    (at-args .args .i)
-    (at-args .args .j) _
-    (rw (at-if1 .if1 .left) at (at-args .pre .0))
-    (λ k l. omega (arith, at-shared-slice-known .shared-slice-known .given k))
-    (at-fetch2 .fetch2 .ensures)
-    (c .before .before .store2 .ensures))
+    element-moved (at-if1 .before .before) 2 _ _ (rw (at-if1 .if1 .left) refl) (at-fetch2 .fetch2 .ensures)
+    (c .before .before .store2 .ensures)
 
 pub move-element-spec : {M : Type 1} → statement M
 move-element-spec =

@@ -1,21 +1,18 @@
 use borrow.Author.Needs.{needs}
 use Rattle.card.proofs.run.clear_unlock.Statement.{statement}
 use Rattle.card.proofs.run.clear_unlock.Tie as tie
-use mathlib.Core.Path.{refl}
+use Rattle.packet.specs.Bytes.{bytesOf}
 use Rattle.card.specs.Run.{cleared}
 
-slice-write-store : tie.Need-slice-write-store
-slice-write-store c = search needs
-
-slice-write-store-2 : tie.Need-slice-write-store-2
-slice-write-store-2 c = search needs
+store2-requires : tie.Need-store2-requires
+store2-requires c κs = search needs
 
 same-length : tie.Need-same-length
 same-length c = search needs
 
 returns : tie.Need-returns
-unfolding cleared
-returns c = refl
+unfolding cleared bytesOf
+returns c = c .before .before .store2 .ensures
 
 pub clear-unlock-spec : {M : Type 1} → statement M
-clear-unlock-spec = tie.close (tie.spec slice-write-store slice-write-store-2 same-length returns)
+clear-unlock-spec = tie.close (tie.spec store2-requires same-length returns)

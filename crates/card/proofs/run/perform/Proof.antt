@@ -1,8 +1,9 @@
 use borrow.Author.Needs.{needs}
 use native.Mathlib.Omega.{arith}
+use denote.Ref.{now}
 use mathlib.Core.Path.{sym, _∙_}
 use lib.ListN.{length, length-take, length-drop}
-use Rattle.card.proofs.PerformLaws.{Doing, doing-start, doing-end, doing-next, next, turn, count-small, length-store, length-reply}
+use Rattle.card.proofs.PerformLaws.{Doing, Here, doing-start, doing-end, doing-next, next, turn, count-small, length-store, length-reply}
 use Rattle.card.proofs.run.perform.Statement.{statement}
 use Rattle.card.proofs.run.perform.Tie as tie
 
@@ -20,121 +21,64 @@ loop-holds c = let p = c .before .before .before .before .pre in doing-start _ _
 next-command-requires : tie.Need-next-command-requires Inv-loop μ-loop
 next-command-requires c κs = search needs
 
+-- the command, once it is found
+here : (c : tie.After-next-command Inv-loop μ-loop)
+    → let l = c .before .before .before .loop in
+    let a = c .before .before .before .before .before .before .before .before .args in
+    Here (now (a .pointers)) (now (a .packet)) (now (a .store)) (now (a .reply)) (l .store) (l .pointers) (l .reply) (l .filled) (l .elements)
+    (now (l .rest))
+    (c .next-command .result .fields)
+    (c .next-command .result .reach)
+here c =
+    record {
+      doing = c .before .before .before .loop .inv;
+      some = c .before .before .loop-test .taken;
+      read = c .next-command .ensures .0;
+      reach = c .next-command .ensures .1;
+    }
+
 do-command-requires : tie.Need-do-command-requires Inv-loop μ-loop
 do-command-requires c κs =
-    let at-next-command = c .before .before .before .before .before in
-    let at-loop-test = at-next-command .before .before in
-    let at-loop = at-loop-test .before in
-    let n =
-    next
-    (at-loop .loop .inv)
-    (at-loop-test .loop-test .taken) _ _
-    (at-next-command .next-command .ensures .0)
-    (at-next-command .next-command .ensures .1) in
+    let n = next (here (c .before .before .before .before .before)) in
     (n .ready, n .store-bytes, n .room)
 
 mul-pointers : tie.Need-mul-pointers Inv-loop μ-loop
 mul-pointers c =
-    let at-next-command = c .before .before .before .before .before .before .before .before .before .before in
-    let at-loop-test = at-next-command .before .before in
-    let at-loop = at-loop-test .before in
-    let n =
-    next
-    (at-loop .loop .inv)
-    (at-loop-test .loop-test .taken) _ _
-    (at-next-command .next-command .ensures .0)
-    (at-next-command .next-command .ensures .1) in
-    let h = n .slot in let e = at-loop .loop .inv .eight in omega arith
+    let h = here (c .before .before .before .before .before .before .before .before .before .before) in
+    omega (arith, next h .slot, h .doing .eight)
 
 slice-write-pointers : tie.Need-slice-write-pointers Inv-loop μ-loop
-slice-write-pointers c =
-    let at-next-command = c .before .before .before .before .before .before .before .before .before .before in
-    let at-loop-test = at-next-command .before .before in
-    let at-loop = at-loop-test .before in
-    next
-    (at-loop .loop .inv)
-    (at-loop-test .loop-test .taken) _ _
-    (at-next-command .next-command .ensures .0)
-    (at-next-command .next-command .ensures .1) .slot
+slice-write-pointers c = next (here (c .before .before .before .before .before .before .before .before .before .before)) .slot
 
 add-filled : tie.Need-add-filled Inv-loop μ-loop
 add-filled c =
-    let at-next-command = c .before .before .before .before .before .before .before .before .before .before .before in
-    let at-loop-test = at-next-command .before .before in
-    let at-loop = at-loop-test .before in
-    let h =
-    next
-    (at-loop .loop .inv)
-    (at-loop-test .loop-test .taken) _ _
-    (at-next-command .next-command .ensures .0)
-    (at-next-command .next-command .ensures .1) .answers in
-    omega arith
+    omega (arith, next (here (c .before .before .before .before .before .before .before .before .before .before .before)) .answers)
 
 summed-requires : tie.Need-summed-requires Inv-loop μ-loop
 summed-requires c κs =
     let at-next-command = c .before .before .before .before .before .before .before .before .before .before .before in
-    let at-loop-test = at-next-command .before .before in
-    let at-loop = at-loop-test .before in
-    let at-good = at-loop .before .before .before .before .before in
-    let h =
-    count-small
-    (at-loop .loop .inv)
-    (at-loop-test .loop-test .taken) _ _
-    (at-next-command .next-command .ensures .0)
-    (at-next-command .next-command .ensures .1) in
-    omega (arith, at-good .good)
+    let at-good = at-next-command .before .before .before .before .before .before .before .before in
+    omega (arith, count-small (here at-next-command), at-good .good)
 
 sub-rest : tie.Need-sub-rest Inv-loop μ-loop
-sub-rest c =
-    let at-next-command = c .before .before .before .before .before .before .before .before .before .before .before .before in
-    let at-loop-test = at-next-command .before .before in
-    let at-loop = at-loop-test .before in
-    turn
-    (at-loop .loop .inv)
-    (at-loop-test .loop-test .taken) _ _
-    (at-next-command .next-command .ensures .0)
-    (at-next-command .next-command .ensures .1) .whole
+sub-rest c = turn (here (c .before .before .before .before .before .before .before .before .before .before .before .before)) .whole
 
 part-rest-start : tie.Need-part-rest-start Inv-loop μ-loop
-part-rest-start c =
-    let at-next-command = c .before .before .before .before .before .before .before .before .before .before .before .before in
-    let at-loop-test = at-next-command .before .before in
-    let at-loop = at-loop-test .before in
-    turn
-    (at-loop .loop .inv)
-    (at-loop-test .loop-test .taken) _ _
-    (at-next-command .next-command .ensures .0)
-    (at-next-command .next-command .ensures .1) .whole
+part-rest-start c = sub-rest c
 
 part-rest-end : tie.Need-part-rest-end Inv-loop μ-loop
 part-rest-end c = search needs
 
 loop-less : tie.Need-loop-less Inv-loop μ-loop
 loop-less c =
-    let at-next-command = c .before .before .before .before .before .before .before .before .before .before .before .before .before in
-    let at-loop-test = at-next-command .before .before in
-    let at-loop = at-loop-test .before in
-    let t =
-    turn
-    (at-loop .loop .inv)
-    (at-loop-test .loop-test .taken) _ _
-    (at-next-command .next-command .ensures .0)
-    (at-next-command .next-command .ensures .1) in
+    let t = turn (here (c .before .before .before .before .before .before .before .before .before .before .before .before .before)) in
     simp (length-take, length-drop) (omega (arith, t .some, t .whole))
 
 loop-again : tie.Need-loop-again Inv-loop μ-loop
 loop-again c =
-    let d = c .before .before .before .before .before .before .before .do-command .ensures in
-    doing-next
-    (c .before .before .before .before .before .before .before .before .before .before .before .before .before .before .before .before .loop .inv)
-    (c .before .before .before .before .before .before .before .before .before .before .before .before .before .before .before .loop-test .taken)
-    _ _
-    (c .before .before .before .before .before .before .before .before .before .before .before .before .before .next-command .ensures .0)
-    (c .before .before .before .before .before .before .before .before .before .before .before .before .before .next-command .ensures .1)
-    _ _
-    (d .0)
-    (d .1) _
-    (c .before .summed .ensures)
+    let at-do-command = c .before .before .before .before .before .before .before in
+    let d = at-do-command .do-command .ensures in
+    doing-next (here (at-do-command .before .before .before .before .before .before)) _ _ (d .0) (d .1) _ (c .before .summed .ensures)
 
 same-length : tie.Need-same-length Inv-loop μ-loop
 same-length c = length-store (c .before .loop .inv)

@@ -3,7 +3,8 @@ use Rattle.cue.proofs.emit.emit.Tie as tie
 use borrow.Author.Needs.{needs}
 use lib.ListN.{length}
 use Rattle.cue.proofs.LoopLaws.{roomy}
-use Rattle.cue.proofs.EmitLaws.{Filled, filled-first, filled-last, put-placed, put-element, put-whole, put-shorter, filled-again}
+use denote.Ref.{now}
+use Rattle.cue.proofs.EmitLaws.{Filled, Putting, filled-first, filled-last, put-placed, put-element, put-whole, put-shorter, filled-again}
 use Prim.Native.Nat.{_≤_}
 use Rattle.cue.proofs.EmitLaws.{filled-length, put-front}
 
@@ -31,44 +32,36 @@ turned-requires c κs = (roomy (c .before .before .before .loop .inv .held), c .
 carried-requires : tie.Need-carried-requires Inv-loop μ-loop
 carried-requires c κs = search needs
 
-put-record-requires : tie.Need-put-record-requires Inv-loop μ-loop
-put-record-requires c κs =
-    let at-turned = c .before .before in
-    let at-whole-record = at-turned .before .before in
+-- a turn, once the packer is told of the record
+putting : (c : tie.After-turned Inv-loop μ-loop)
+    → let at-loop = c .before .before .before .before in
+    let a = at-loop .before .before .before .before .args in
+    Putting (now (a .list)) (now (at-loop .loop .rest)) (now (a .out)) (at-loop .loop .out) (at-loop .loop .packer)
+    (c .turned .result)
+    (c .before .before .whole-record .result)
+putting c =
+    let at-whole-record = c .before .before in
     let at-loop-test = at-whole-record .before in
     let at-loop = at-loop-test .before in
-    let at-entry = at-loop .before .before .before .before in (
-      put-placed _ _ _ _ _ _ _
-          (at-entry .pre)
-          (at-loop .loop .inv)
-          (at-loop-test .loop-test .taken)
-          (at-whole-record .whole-record .ensures)
-          (at-turned .turned .ensures),
-      c .carried .ensures .1,
-      put-element _ _ _ _ _ _ _
-          (at-entry .pre)
-          (at-loop .loop .inv)
-          (at-loop-test .loop-test .taken)
-          (at-whole-record .whole-record .ensures)
-          (at-turned .turned .ensures) _
-          (c .carried .ensures .0),
-    )
+    record {
+      ready = at-loop .before .before .before .before .pre;
+      filled = at-loop .loop .inv;
+      more = at-loop-test .loop-test .taken;
+      read = at-whole-record .whole-record .ensures;
+      told = c .turned .ensures;
+    }
+
+put-record-requires : tie.Need-put-record-requires Inv-loop μ-loop
+put-record-requires c κs =
+    let turn = putting (c .before .before) in
+    (put-placed turn, c .carried .ensures .1, put-element turn _ (c .carried .ensures .0))
 
 record-bytes-requires : tie.Need-record-bytes-requires Inv-loop μ-loop
 record-bytes-requires c κs = search needs
 
 whole : (c : tie.After-record-bytes Inv-loop μ-loop)
     → c .record-bytes .result ≤ length (c .before .before .before .before .before .before .before .before .before .before .loop .rest .now)
-whole c =
-    let t = c .before .before .before .before .before .before in
-    let b = t .before .before .before .before in
-    put-whole _ _ _ _ _ _ _
-    (b .before .before .before .before .pre)
-    (b .loop .inv)
-    (t .before .before .before .loop-test .taken)
-    (t .before .before .whole-record .ensures)
-    (t .turned .ensures) _
-    (c .record-bytes .ensures .0)
+whole c = put-whole (putting (c .before .before .before .before .before .before)) _ (c .record-bytes .ensures .0)
 
 sub-rest : tie.Need-sub-rest Inv-loop μ-loop
 sub-rest c = whole c
@@ -81,35 +74,13 @@ part-rest-end c = let h = whole c in search needs
 
 loop-less : tie.Need-loop-less Inv-loop μ-loop
 loop-less c =
-    let at-turned = c .before .before .before .before .before .before .before in
-    let at-whole-record = at-turned .before .before in
-    let at-loop-test = at-whole-record .before in
-    let at-loop = at-loop-test .before in
-    let at-entry = at-loop .before .before .before .before in
-    put-shorter _ _ _ _ _ _ _
-    (at-entry .pre)
-    (at-loop .loop .inv)
-    (at-loop-test .loop-test .taken)
-    (at-whole-record .whole-record .ensures)
-    (at-turned .turned .ensures) _
-    (c .before .record-bytes .ensures .0)
+    put-shorter (putting (c .before .before .before .before .before .before .before)) _ (c .before .record-bytes .ensures .0)
 
 loop-again : tie.Need-loop-again Inv-loop μ-loop
 loop-again c =
     let at-put-record = c .before .before .before .before in
     let at-carried = at-put-record .before in
-    let at-turned = at-carried .before .before in
-    let at-whole-record = at-turned .before .before in
-    let at-loop-test = at-whole-record .before in
-    let at-loop = at-loop-test .before in
-    let at-entry = at-loop .before .before .before .before in
-    filled-again _ _ _ _ _ _ _
-    (at-entry .pre)
-    (at-loop .loop .inv)
-    (at-loop-test .loop-test .taken)
-    (at-whole-record .whole-record .ensures)
-    (at-turned .turned .ensures) _
-    (c .before .record-bytes .ensures .0) _ _
+    filled-again (putting (at-carried .before .before)) _ (c .before .record-bytes .ensures .0) _ _
     (at-carried .carried .ensures .0)
     (at-put-record .put-record .ensures)
 

@@ -1,6 +1,6 @@
 use borrow.Author.Needs.{needs}
 use mathlib.Core.Path.{sym, _∙_}
-use Rattle.packet.specs.Reach.{ForRegisters}
+use Rattle.packet.specs.Inside.{ForRegisters}
 use Rattle.packet.proofs.ReachLaws.{registers-word, registers-row, registers-slot, slot-is, reach-found, next-is}
 use Rattle.packet.proofs.command.next_command.Statement.{statement}
 use Rattle.packet.proofs.command.next_command.Tie as tie

@@ -7,7 +7,7 @@ use mathlib.Core.Path.{_≡_, refl, sym, _∙_}
 use mathlib.Core.Logic.{⊎-elim}
 use lib.ListN.{length, length-take, length-drop}
 use Rattle.packet.specs.Command.{fieldsAt, whichListed}
-use Rattle.packet.specs.Reach.{ForRegisters}
+use Rattle.packet.specs.Inside.{ForRegisters}
 use Rattle.lbp16.specs.Answer.{Answer}
 use mathlib.Core.List.{[], _∷_}
 use Prim.Native.Nat.{ℕ}
