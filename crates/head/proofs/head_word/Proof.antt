@@ -1,7 +1,7 @@
 use borrow.Author.Needs.{needs}
 use Rattle.head.proofs.head_word.Statement.{statement}
 use Rattle.head.proofs.head_word.Tie as tie
-use mathlib.Core.Path.{refl, sym, _∙_}
+use mathlib.Core.Path.{_≡_, refl, sym, _∙_}
 use Rattle.lbp16.specs.Word.{listed}
 use Rattle.head.specs.Exports.{numberOf, wordLeft, wordGiven, badFlags, exportWord}
 use Rattle.head.proofs.ExportLaws.{good}
@@ -27,21 +27,20 @@ enum-known-written c = search needs
 enum-known-written-2 : tie.Need-enum-known-written-2
 enum-known-written-2 c = search needs
 
+-- what was written is the answer
+answer : (c : tie.After-word-of) → exportWord (c .before .before .before .before .before .args .fields .now) ≡ listed (c .word-of .result)
+unfolding exportWord
+answer c =
+    let b = c .before .before in
+    rw (← b .before .bad-fields .ensures, b .if1 .left, ← c .before .fields-from .ensures) (sym (c .word-of .ensures))
+
 returns-2 : tie.Need-returns-2
-unfolding wordGiven numberOf wordLeft listed exportWord
-returns-2 c =
-    let w = c .before .before .before in
-    let f = w .before in
-    let b = f .before in
-    rw (← b .before .bad-fields .ensures, b .if1 .left, ← f .fields-from .ensures, ← w .word-of .ensures, c .before .written .given .1) refl
+unfolding wordGiven numberOf wordLeft listed
+returns-2 c = rw (answer (c .before .before .before), c .before .written .given .1) refl
 
 returns-3 : tie.Need-returns-3
-unfolding wordGiven numberOf wordLeft listed exportWord
-returns-3 c =
-    let w = c .before .before .before in
-    let f = w .before in
-    let b = f .before in
-    rw (← b .before .bad-fields .ensures, b .if1 .left, ← f .fields-from .ensures, ← w .word-of .ensures, c .before .written2 .given .1) refl
+unfolding wordGiven numberOf wordLeft listed
+returns-3 c = rw (answer (c .before .before .before), c .before .written2 .given .1) refl
 
 pub head-word-spec : {M : Type 1} → statement M
 head-word-spec =

@@ -1,7 +1,7 @@
 use borrow.Author.Needs.{needs}
 use Rattle.head.proofs.headers.head_header_word.Statement.{statement}
 use Rattle.head.proofs.headers.head_header_word.Tie as tie
-use mathlib.Core.Path.{refl, sym, _∙_}
+use mathlib.Core.Path.{_≡_, refl, sym, _∙_}
 use Rattle.spi.specs.Spi.{headerListed}
 use Rattle.head.specs.Exports.{numberOf, wordLeft, wordGiven}
 use Rattle.head.specs.Headers.{badHeader, exportHeaderWord}
@@ -28,21 +28,20 @@ enum-known-written c = search needs
 enum-known-written-2 : tie.Need-enum-known-written-2
 enum-known-written-2 c = search needs
 
+-- what was written is the answer
+answer : (c : tie.After-header-word) → exportHeaderWord (c .before .before .before .before .before .args .fields .now) ≡ headerListed (c .header-word .result)
+unfolding exportHeaderWord
+answer c =
+    let b = c .before .before in
+    rw (← b .before .bad-header .ensures, b .if1 .left, ← c .before .header-from .ensures) (sym (c .header-word .ensures))
+
 returns-2 : tie.Need-returns-2
-unfolding wordGiven numberOf wordLeft headerListed exportHeaderWord
-returns-2 c =
-    let w = c .before .before .before in
-    let f = w .before in
-    let b = f .before in
-    rw (← b .before .bad-header .ensures, b .if1 .left, ← f .header-from .ensures, ← w .header-word .ensures, c .before .written .given .1) refl
+unfolding wordGiven numberOf wordLeft headerListed
+returns-2 c = rw (answer (c .before .before .before), c .before .written .given .1) refl
 
 returns-3 : tie.Need-returns-3
-unfolding wordGiven numberOf wordLeft headerListed exportHeaderWord
-returns-3 c =
-    let w = c .before .before .before in
-    let f = w .before in
-    let b = f .before in
-    rw (← b .before .bad-header .ensures, b .if1 .left, ← f .header-from .ensures, ← w .header-word .ensures, c .before .written2 .given .1) refl
+unfolding wordGiven numberOf wordLeft headerListed
+returns-3 c = rw (answer (c .before .before .before), c .before .written2 .given .1) refl
 
 pub head-header-word-spec : {M : Type 1} → statement M
 head-header-word-spec =
