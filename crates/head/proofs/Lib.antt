@@ -4,7 +4,7 @@ pub mod SerialLaws
 pub mod PartLaws
 pub mod TwoListsLaws
 pub mod RecordedLaws
-pub mod ReasonedLaws
+pub mod WhyRefusedLaws
 pub mod TighterLaws
 pub mod TightenLaws
 pub mod RepairLaws

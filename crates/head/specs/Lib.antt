@@ -5,6 +5,6 @@ pub mod Panels
 pub mod Part
 pub mod TwoLists
 pub mod Recorded
-pub mod Reasoned
+pub mod WhyRefused
 pub mod Tighter
 pub mod Repair

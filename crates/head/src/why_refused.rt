@@ -3,7 +3,7 @@ use crate::lent;
 use lbp16::pointer::Pointers;
 use reason::Reason;
 ghost use mathlib.Core.Path.{_≡_};
-ghost use Rattle.head.specs.Reasoned.{reasonFor, whyLeft, exportWhy, WhyFront};
+ghost use Rattle.head.specs.WhyRefused.{reasonFor, whyLeft, exportWhy, WhyFront};
 
 fn reason_for(packet: &[u8], store: &[u8], pointers: &[u32]) -> Reason
     ensures { λ r. ⌜ r ≡ reasonFor (now (packet .entry)) (now (store .entry)) (now (pointers .entry)) ⌝ }

@@ -1,6 +1,6 @@
 use borrow.Author.Needs.{needs}
 use native.Mathlib.Omega.{arith}
-use Rattle.head.proofs.ReasonedLaws.{why-front, why-other-room, why-left}
+use Rattle.head.proofs.WhyRefusedLaws.{why-front, why-other-room, why-left}
 use Rattle.head.proofs.why_refused.head_why.Statement.{statement}
 use Rattle.head.proofs.why_refused.head_why.Tie as tie
 

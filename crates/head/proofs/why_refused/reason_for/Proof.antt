@@ -1,5 +1,5 @@
 use borrow.Author.Needs.{needs}
-use Rattle.head.proofs.ReasonedLaws.{why-not-eight, why-eight}
+use Rattle.head.proofs.WhyRefusedLaws.{why-not-eight, why-eight}
 use Rattle.head.proofs.why_refused.reason_for.Statement.{statement}
 use Rattle.head.proofs.why_refused.reason_for.Tie as tie
 

@@ -15,7 +15,7 @@ use Rattle.lbp16.specs.Pointer.{pointersOf}
 use Rattle.packet.specs.Judge.{Carried, accepted}
 use Rattle.card.specs.Run.{checkedList}
 use Rattle.reason.proofs.ReasonLaws.{front-accepted}
-use Rattle.head.specs.Reasoned.{whyLeft, reasonFor, exportWhy, WhyFront}
+use Rattle.head.specs.WhyRefused.{whyLeft, reasonFor, exportWhy, WhyFront}
 
 module _ (packet store pointers : List ℕ) where
   pub why-not-eight : (length pointers ≡ 8 → ⊥) → (r : Reason) → r ≡ unnamed 1 0 → r ≡ reasonFor packet store pointers
