@@ -3,8 +3,7 @@ use Prim.Native.Nat.{ℕ, _+_, _-_, _^_, min, _≤_, _<_}
 use mathlib.Core.Path.{_≡_, refl, sym, ap, _∙_}
 use mathlib.Core.List.{List}
 use native.Mathlib.Omega.{arith}
-use native.Mathlib.Decide.{decLe}
-use lib.ListN.{length, take, drop, replicate, length-append, drop-of-length-le}
+use lib.ListN.{length, take, drop, replicate, length-append}
 use borrow.Author.Tests.{lt-ltb, le-ltb}
 use Rattle.lbp16.specs.Space.{storeBytes}
 use Rattle.lbp16.specs.Pointer.{fresh}
@@ -20,6 +19,7 @@ use Rattle.text.specs.Number.{ascii}
 use Rattle.text.specs.Room.{filled, putAt, textLeft}
 use Rattle.text.specs.Line.{numbered, tooLongLine}
 use Rattle.text.proofs.DecimalLaws.{decimal-length}
+use Rattle.text.proofs.FindLaws.{rest-is}
 use Rattle.text.proofs.RoomLaws.{put-then, put-front}
 use Rattle.findings.specs.Findings.{between, hexLine, around, frameEnd, frontBytes, behindFront, bothReplies, repliesText}
 use Rattle.findings.specs.Findings.{badByteText, judgmentText, leftText, judgedText, said, mostBytes}
@@ -85,18 +85,6 @@ bad-byte-length i k rest reply a b =
     let c = bothReplies-length (frontBytes (behindFront rest)) reply k in
     simp length-append (omega arith)
 
--- where the last packet looked at begins
-start-is : (recording : List ℕ) (n at : ℕ) → at ≡ min n (length recording)
-    → take (length recording - at) (drop at recording) ≡ drop n recording
-start-is recording n at e = tail-whole at recording ∙ go (decLe n (length recording))
-  where
-    go : Dec (n ≤ length recording) → drop at recording ≡ drop n recording
-    go (yes h) = let q : at ≡ n = omega arith in rw q refl
-    go (no h) =
-        let a : length recording ≤ at = omega arith in
-        let b : length recording ≤ n = omega arith in
-        drop-of-length-le recording a ∙ sym (drop-of-length-le recording b)
-
 -- what is put of what judging answers and leaves
 pub judged-is : (recording store room : List ℕ) (p : Pointers) (j : Judged) (store₁ room₁ : List ℕ) (at : ℕ) → p ≡ fresh
     → left j store₁ room₁ ≡ judgedIn recording store p room → at ≡ min (j .at) (length recording)
@@ -104,7 +92,7 @@ pub judged-is : (recording store room : List ℕ) (p : Pointers) (j : Judged) (s
 unfolding judgedText leftText left
 judged-is recording store room p j store₁ room₁ at f e a =
     let g : left j store₁ room₁ ≡ judgedIn recording store fresh room = rw f at e in
-    rw (← g, start-is recording (j .at) at a) refl
+    rw (← g, rest-is recording (j .at) at a) refl
 
 -- what the program's function leaves
 module _ (recording room : List ℕ) {room₁ : List ℕ} {n : ℕ} (size : length room ≡ 256) where

@@ -1,7 +1,9 @@
 // What the judging program writes: `yes` and the number of packets, or what is at fault in a recorded show.
+use card::check::STORE_BYTES;
 use cue::frame;
 use cue::frame::Frame;
 use lbp16::pointer::Pointers;
+use packet::command::LIMIT;
 use recording::Judgment;
 use text::least;
 use text::line;
@@ -105,8 +107,8 @@ fn put_verdict(room: &mut [u8], judgment: Judgment, rest: &[u8], reply: &[u8]) -
 fn put_judged(
     room: &mut [u8],
     recording: &[u8],
-    store: &mut [u8; 65728],
-    reply: &mut [u8; 1472],
+    store: &mut [u8; STORE_BYTES],
+    reply: &mut [u8; LIMIT],
 ) -> usize
     ensures { λ r. ⌜ filled r (now (room .exit))
         ≡ putAt (judgedText (now (recording .entry)) (now (store .entry)) (now (reply .entry))) 0 (now (room .entry)) ⌝ }
@@ -125,5 +127,5 @@ pub fn findings(recording: &[u8], room: &mut [u8; 256]) -> usize
     if MOST < recording.len() {
         return line::too_long(room, 0);
     }
-    put_judged(room, recording, &mut [0; 65728], &mut [0; 1472])
+    put_judged(room, recording, &mut [0; STORE_BYTES], &mut [0; LIMIT])
 }

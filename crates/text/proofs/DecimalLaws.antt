@@ -46,11 +46,11 @@ low-digit : (d : ℕ) → d < 10 → hexDigit d ≡ digit d
 unfolding hexDigit digit
 low-digit d h = rw (lt-ltb d 10 h) refl
 
-pub decimal-one : (n : ℕ) → n < 10 → hexDigit n ∷ [] ≡ decimal n
-decimal-one n h = rw (low-digit n h, decimal-digit n h) refl
+pub decimal-one : (n : ℕ) → n ≤ 9 → hexDigit (n % 10) ∷ [] ≡ decimal n
+decimal-one n h = let e : n % 10 ≡ n = omega arith in rw (e, low-digit n (omega arith), decimal-digit n (omega arith)) refl
 
-pub decimal-last : (n : ℕ) → 10 ≤ n → decimal (n / 10) ++ (hexDigit (n % 10) ∷ []) ≡ decimal n
-decimal-last n h = rw (low-digit (n % 10) (omega arith), decimal-more n h) refl
+pub decimal-last : (n : ℕ) → 9 < n → decimal (n / 10) ++ (hexDigit (n % 10) ∷ []) ≡ decimal n
+decimal-last n h = rw (low-digit (n % 10) (omega arith), decimal-more n (omega arith)) refl
 
 -- What holds of one digit, and of a digit more behind, holds of every number's digits.
 module _ (P : ℕ → List ℕ → Type 0) (one : (n : ℕ) → n < 10 → P n (digit n ∷ []))

@@ -38,7 +38,7 @@ module _ (b : ℕ) (s : List ℕ) (i : ℕ) where
 
 -- a string as its ends are computed
 module _ (memory : List ℕ) (place from : ℕ) where
-  rest-is : from ≡ min place (length memory) → take (length memory - from) (drop from memory) ≡ drop place memory
+  pub rest-is : from ≡ min place (length memory) → take (length memory - from) (drop from memory) ≡ drop place memory
   rest-is e = take-all (length memory - from) (drop from memory) (rw length-drop (omega arith)) ∙ go (decLe place (length memory))
     where
       go : Dec (place ≤ length memory) → drop from memory ≡ drop place memory

@@ -25,10 +25,10 @@ fn digit(out: &mut [u8], at: usize, d: u8) -> usize
 pub fn decimal(out: &mut [u8], at: usize, n: u64) -> usize
     ensures { λ r. ⌜ filled r (now (out .exit)) ≡ putAt (decimal n) at (now (out .entry)) ⌝ }
 {
-    if n < 10 {
-        return digit(out, at, n as u8);
+    let mut next = at;
+    if 9 < n {
+        next = decimal(out, at, n / 10);
     }
-    let next = decimal(out, at, n / 10);
     digit(out, next, (n % 10) as u8)
 }
 
