@@ -1,12 +1,17 @@
 // A cue list of any length from standard input, its packets to standard output as they are finished, and in the end the
-// refusal's line if there is one. 4,096 bytes are read at a time.
+// refusal's line if there is one.
 use lbp16::Refusal;
 use libc::STDIN_FILENO;
 use libc::STDOUT_FILENO;
-use parts::PartAnswer;
+use packet::judge::Verdict;
+use parts::FRAME_ROOM;
+use parts::STATE_BYTES;
 use text::line;
 ghost use Prim.Native.Nat.{_≤_};
 ghost use lib.ListN.{length};
+
+// The bytes that are read at a time.
+const PART: usize = 4096;
 
 // A good list has at most 1,000,000 bytes, and a longer one is refused before so many parts are read.
 const PARTS: usize = 256;
@@ -33,7 +38,8 @@ fn feed(state: &mut [u8], rest: &[u8], last: bool, room: &mut [u8]) -> Fed
     let done = parts::compile_part(state, rest, last, room);
     let answer = done.answer;
     match answer {
-        PartAnswer::Accepted(n) => {
+        Verdict::Accepted(bytes) => {
+            let n = bytes as usize;
             io::write_all(STDOUT_FILENO, &room[..n]);
             Fed {
                 taken: done.taken,
@@ -41,7 +47,7 @@ fn feed(state: &mut [u8], rest: &[u8], last: bool, room: &mut [u8]) -> Fed
                 refused: false,
             }
         }
-        PartAnswer::Refused(r) => {
+        Verdict::Refused(r) => {
             say(r);
             Fed {
                 taken: done.taken,
@@ -69,12 +75,12 @@ fn feed_all(state: &mut [u8], part: &[u8], last: bool, room: &mut [u8]) -> bool 
 }
 
 fn main() {
-    let mut state = [0u8; 1504];
-    let mut room = [0u8; 1476];
-    let mut input = [0u8; 4096];
+    let mut state = [0u8; STATE_BYTES];
+    let mut room = [0u8; FRAME_ROOM];
+    let mut input = [0u8; PART];
     for _ in 0..PARTS {
         let n = io::read_full(STDIN_FILENO, &mut input);
-        if !feed_all(&mut state, &input[..n], n < 4096, &mut room) {
+        if !feed_all(&mut state, &input[..n], n < PART, &mut room) {
             return;
         }
     }

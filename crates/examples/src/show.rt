@@ -8,13 +8,14 @@ use crate::wire::Card;
 use cue::records;
 use lbp16::space;
 use packet::bytes;
+use packet::command::LIMIT;
 ghost use Prim.Native.Nat.{_≤_};
 ghost use lib.ListN.{length};
 
 // A packet behind its mark and length.
 fn played(frame: &[u8], before: Card) -> Card {
     form::say(b"packet");
-    wire::packet(slice::part(frame, 4, 1472), before)
+    wire::packet(slice::part(frame, 4, LIMIT as u64), before)
 }
 
 // Runs the packets of an output in order, and keeps what they read.
@@ -100,19 +101,17 @@ fn values(read: Bytes) {
 }
 
 fn compared(packets: Card, records: Card) {
+    let same = slice::same_bytes(packets.read, records.read);
+    let stores = wire::same_stores(packets, records, true);
     form::fill(
-        b"replies and values read: [equal|different]; stores but for the unlock cell and the packet count: [equal|different]; packet count after the records #, after the packets #\n",
-        [
-            slice::same_bytes(packets.read, records.read),
-            wire::same_stores(packets, records, true),
-            wire::count(records),
-            wire::count(packets),
-            0,
-            0,
-            0,
-            0,
-            0,
-        ],
+        b"replies and values read: [equal|different]; stores but for the unlock cell and the packet count: [equal|different]",
+        [same, stores, 0, 0, 0, 0, 0, 0, 0],
+    );
+    let alone = wire::count(records);
+    let packed = wire::count(packets);
+    form::fill(
+        b"; packet count after the records #, after the packets #\n",
+        [alone, packed, 0, 0, 0, 0, 0, 0, 0],
     );
 }
 

@@ -3,18 +3,20 @@ use crate::answer;
 use crate::form;
 use crate::slice;
 use crate::slice::Bytes;
+use card::check::STORE_BYTES;
 use card::run;
 use packet::bytes;
+use packet::command::LIMIT;
 ghost use Prim.Native.Nat.{_≤_};
 
 // Where the packet count and the card's name stand in the store.
-const COUNT: usize = 65674;
+const COUNT: usize = 65664 + 0x0A;
 
 const NAME: usize = 65696;
 
 // A card, and the values that were read from it.
 pub(crate) struct Card {
-    pub(crate) store: [u8; 65728],
+    pub(crate) store: [u8; STORE_BYTES],
     pub(crate) pointers: [u32; 8],
     pub(crate) read: Bytes,
 }
@@ -22,13 +24,13 @@ pub(crate) struct Card {
 pub(crate) fn fresh() -> Card {
     let read = slice::empty();
     Card {
-        store: [0; 65728],
+        store: [0; STORE_BYTES],
         pointers: [0; 8],
         read,
     }
 }
 
-fn with_state(store: [u8; 65728], pointers: [u32; 8], read: Bytes) -> Card {
+fn with_state(store: [u8; STORE_BYTES], pointers: [u32; 8], read: Bytes) -> Card {
     Card {
         store,
         pointers,
@@ -36,7 +38,7 @@ fn with_state(store: [u8; 65728], pointers: [u32; 8], read: Bytes) -> Card {
     }
 }
 
-fn with_store(store: [u8; 65728], card: Card) -> Card {
+fn with_store(store: [u8; STORE_BYTES], card: Card) -> Card {
     let pointers = card.pointers;
     with_state(store, pointers, card.read)
 }
@@ -65,12 +67,12 @@ pub(crate) fn same_stores(a: Card, b: Card, but: bool) -> u64 {
 struct Done {
     card: Card,
     values: [u64; 9],
-    reply: [u8; 1472],
+    reply: [u8; LIMIT],
 }
 
 // Runs a packet: one that is refused changes nothing.
 fn run_on(sent: &[u8], before: Card) -> Done {
-    let mut reply = [0u8; 1472];
+    let mut reply = [0u8; LIMIT];
     let mut store = before.store;
     let mut pointers = before.pointers;
     let ran = run::run_list(sent, &mut store, &mut pointers, &mut reply);

@@ -1,20 +1,8 @@
 // A cue list that comes in parts, for C.
-use crate::numbers::Numbers;
-use parts::PartAnswer;
+use crate::numbers;
 ghost use mathlib.Core.Path.{_≡_};
-ghost use Rattle.parts.specs.Parts.{partListed};
 ghost use Rattle.parts.specs.Promise.{Promised};
-ghost use Rattle.head.specs.Exports.{numbersOf};
 ghost use Rattle.head.specs.Part.{partLeft, exportPart};
-
-fn numbers_of(answer: PartAnswer) -> Numbers
-    ensures { λ r. ⌜ r ≡ numbersOf (partListed answer) ⌝ }
-{
-    match answer {
-        PartAnswer::Accepted(n) => Numbers(0, n as u64, 0),
-        PartAnswer::Refused(r) => Numbers(r.number, r.place, 0),
-    }
-}
 
 // Takes bytes of a part until a packet is finished and written, a fault shows or the part ends. `last` is not 0 where the
 // list ends at the part's end. `taken` is how many bytes were taken; `value` the bytes written, or the refusal's place.
@@ -34,7 +22,7 @@ pub extern "C" fn head_part(
     let done = parts::compile_part(state, part, last != 0, out);
     *taken = done.taken as u64;
     let answer = done.answer;
-    let given = numbers_of(answer);
+    let given = numbers::of_verdict(answer);
     *value = given.1;
     given.0
 }

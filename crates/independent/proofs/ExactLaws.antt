@@ -3,7 +3,7 @@ use Prim.Native.Nat.{ℕ, _+_, _≤_}
 use mathlib.Core.Path.{_≡_, refl, sym, ap, _∙_}
 use mathlib.Core.Logic.{_⊎_, inl, inr}
 use mathlib.Core.List.{List, [], _∷_}
-use mathlib.Core.Bool.{Bool, true, false, _||_, _&&_, cond}
+use mathlib.Core.Bool.{Bool, true, false, _||_, _&&_, cond, and-false}
 use native.Mathlib.Omega.{arith}
 use lib.Dec.{eqb}
 use borrow.Author.Tests.{eqb-true, eq-eqb}
@@ -55,11 +55,7 @@ second-only false w v s h e = refl
 
 neither-writes : (xs ys : List Step) (index : ℕ) → firstClash xs index ys .number ≡ 0 → NeitherWrites xs ys
 unfolding firstClash names writes clashes
-neither-writes xs [] index e = record { first = λ c. go (writes xs c); second = λ c. go (names xs c) }
-  where
-    go : (b : Bool) → (b && false) ≡ false
-    go true = refl
-    go false = refl
+neither-writes xs [] index e = record { first = λ c. and-false (writes xs c); second = λ c. and-false (names xs c) }
 neither-writes xs (y ∷ ys) index e = go (clashes xs y) refl e (neither-writes xs ys (index + 1))
   where
     go : (b : Bool) → clashes xs y ≡ b

@@ -2,7 +2,7 @@
 use Prim.Native.Nat.{ℕ, zero, suc, _+_, _*_, _/_, _%_, _<_}
 use mathlib.Core.Path.{_≡_, refl, sym, ap, _∙_}
 use mathlib.Core.List.{List, [], _∷_, _++_}
-use mathlib.Core.Bool.{Bool, true, false, _||_, _&&_, cond}
+use mathlib.Core.Bool.{Bool, true, false, _||_, _&&_, cond, or-false, or-assoc}
 use native.Mathlib.Omega.{arith}
 use lib.Dec.{eqb}
 use lib.ListN.{length, getD, set, length-set}
@@ -84,27 +84,19 @@ unfolding withMark
 byte-again byte slot mark m a b c d e p q r s = rw (p, q, r, s, e) refl
 
 -- what one record more at the end names and writes
-or-assoc : (a b d : Bool) → (a || (b || d)) ≡ ((a || b) || d)
-or-assoc true b d = refl
-or-assoc false b d = refl
-
-or-false-right : (b : Bool) → (b || false) ≡ b
-or-false-right true = refl
-or-false-right false = refl
-
 module _ (x : Step) (c : Cell) where
   names-more : (xs : List Step) → names (xs ++ (x ∷ [])) c ≡ (names xs c || sameCell (cellOf x) c)
   unfolding names
-  names-more [] = or-false-right (sameCell (cellOf x) c)
-  names-more (y ∷ ys) = ap (λ b. sameCell (cellOf y) c || b) (names-more ys) ∙ or-assoc (sameCell (cellOf y) c) _ _
+  names-more [] = or-false (sameCell (cellOf x) c)
+  names-more (y ∷ ys) = ap (λ b. sameCell (cellOf y) c || b) (names-more ys) ∙ sym (or-assoc (sameCell (cellOf y) c) _ _)
 
   writes-more : (xs : List Step)
       → writes (xs ++ (x ∷ [])) c ≡ (writes xs c || (isWrite (x .kind) && sameCell (cellOf x) c))
   unfolding writes
-  writes-more [] = or-false-right (isWrite (x .kind) && sameCell (cellOf x) c)
+  writes-more [] = or-false (isWrite (x .kind) && sameCell (cellOf x) c)
   writes-more (y ∷ ys) =
       let b = isWrite (y .kind) && sameCell (cellOf y) c in
-      ap (λ d. b || d) (writes-more ys) ∙ or-assoc b _ _
+      ap (λ d. b || d) (writes-more ys) ∙ sym (or-assoc b _ _)
 
 -- a cell's mark with one record more: at the record's cell, and elsewhere
 mark-there : (named written write : Bool)

@@ -2,7 +2,7 @@
 use Prim.Native.Nat.{ℕ, zero, suc, _+_, _-_, _/_, _%_, _^_, _<_}
 use mathlib.Core.Path.{_≡_, refl, sym, ap, _∙_}
 use mathlib.Core.List.{List, [], _∷_}
-use mathlib.Core.Bool.{Bool, true, false, not, _&&_, Bool·beq, cond, false≢true}
+use mathlib.Core.Bool.{Bool, true, false, not, _&&_, Bool·beq, cond}
 use mathlib.Core.Logic.{_⊎_, inl, inr}
 use native.Mathlib.Nat.{mod-lt, zero-lt-suc, eq-or-lt-of-le, le-of-suc-le-suc}
 use native.Mathlib.Omega.{arith}
@@ -12,6 +12,7 @@ use lib.Bits.{bitAnd, and-shr, and-mod, and-lt}
 use lib.Count.{ones, trailingZeros}
 use borrow.Author.Tests.{eqb-true, eq-eqb, ne-eqb}
 use Rattle.lbp16.specs.Answer.{accepted, refused}
+use Rattle.lbp16.proofs.BoolLaws.{and-true}
 use Rattle.panel.specs.Masks.{channels, names, those, named, lowest, none, outside, fails, tallyOf, started, reported}
 
 -- a test at every number below n
@@ -19,14 +20,10 @@ all : (ℕ → Bool) → ℕ → Bool
 all test zero = true
 all test (suc n) = test n && all test n
 
-both : (a b : Bool) → a && b ≡ true → (a ≡ true) × (b ≡ true)
-both true b h = (refl, h)
-both false b h = absurd (false≢true h)
-
 all-hold : (test : ℕ → Bool) (n : ℕ) → all test n ≡ true → (m : ℕ) → m < n → test m ≡ true
 unfolding all
 all-hold test zero e m h = absurd (omega arith)
-all-hold test (suc n) e m h = go (both (test n) (all test n) e) (eq-or-lt-of-le (le-of-suc-le-suc h)) (all-hold test n)
+all-hold test (suc n) e m h = go (and-true (test n) (all test n) e) (eq-or-lt-of-le (le-of-suc-le-suc h)) (all-hold test n)
   where
     go : (test n ≡ true) × (all test n ≡ true) → (m ≡ n) ⊎ (m < n) → (all test n ≡ true → (i : ℕ) → i < n → test i ≡ true) → test m ≡ true
     go q (inl z) rest = rw z (q .0)

@@ -1,5 +1,5 @@
 -- Laws of readings.
-use Prim.Native.Nat.{ℕ, zero, suc, _-_, _^_, _≤_, _<_}
+use Prim.Native.Nat.{ℕ, _-_, _^_, _≤_, _<_}
 use mathlib.Core.Path.{_≡_, refl}
 use mathlib.Core.Bool.{Bool, true, false, not, _&&_, _||_, true≢false, false≢true}
 use native.Mathlib.Omega.{arith}
@@ -8,12 +8,9 @@ use lib.Pow.{pow-mono, pow-pos}
 use lib.Ieee.{lt}
 use lib.Ieee.Scale.{finite}
 use borrow.Author.Tests.{eqb-false, ltb-false}
+use Rattle.lbp16.proofs.BoolLaws.{or-false, and-true}
 use Rattle.panel.specs.Reading.{refused, full, unreadable, boundsOf, badBounds, scaled, reading}
 use Rattle.panel.specs.declared.reading.Bounds.{Bounds}
-
-neither : (a b : Bool) → a || b ≡ false → (a ≡ false) × (b ≡ false)
-neither false b h = (refl, h)
-neither true b h = absurd (true≢false h)
 
 -- what a field that is not refused with 44 has
 pub record Readable (width value : ℕ) : Type 0 where
@@ -23,23 +20,19 @@ pub record Readable (width value : ℕ) : Type 0 where
   pub small : value < 2 ^ 24
 
 pub panel-width : (kind width : ℕ) → not (eqb kind 2) || eqb width 0 || ltb 24 width ≡ false → width ≤ 24
-panel-width kind width e = ltb-false _ _ (neither (not (eqb kind 2) || eqb width 0) (ltb 24 width) e .1)
-
-above-zero : (n : ℕ) → (n ≡ 0 → ⊥) → 1 ≤ n
-above-zero zero h = absurd (h refl)
-above-zero (suc n) h = omega arith
+panel-width kind width e = ltb-false _ _ (or-false (not (eqb kind 2) || eqb width 0) (ltb 24 width) e .1)
 
 module _ (kind width value : ℕ) where
   pub readable : unreadable kind width value ≡ false → Readable width value
   unfolding unreadable
   readable e =
-      let q = neither (not (eqb kind 2) || eqb width 0 || ltb 24 width) (ltb (full width) value) e in
+      let q = or-false (not (eqb kind 2) || eqb width 0 || ltb 24 width) (ltb (full width) value) e in
       let w : width ≤ 24 = panel-width kind width (q .0) in
       let v : value ≤ 2 ^ width - 1 = ltb-false _ _ (q .1) in
       let m : 2 ^ width ≤ 2 ^ 24 = pow-mono w in
       let p : 0 < 2 ^ width = pow-pos width in
-      let z = eqb-false width 0 (neither (not (eqb kind 2)) (eqb width 0) (neither _ (ltb 24 width) (q .0) .0) .1) in
-      record { least = above-zero width z; wide = w; full = v; small = omega arith }
+      let z = eqb-false width 0 (or-false (not (eqb kind 2)) (eqb width 0) (or-false _ (ltb 24 width) (q .0) .0) .1) in
+      record { least = omega (arith, z); wide = w; full = v; small = omega arith }
 
   pub other-field : not (eqb kind 2) || eqb width 0 || ltb 24 width ≡ true → unreadable kind width value ≡ true
   unfolding unreadable
@@ -62,11 +55,7 @@ module _ (b : Bounds) where
 
   pub finite-both : finite (b .minimum) && finite (b .maximum) ≡ true
       → (finite (b .minimum) ≡ true) × (finite (b .maximum) ≡ true)
-  finite-both = go (finite (b .minimum)) (finite (b .maximum))
-    where
-      go : (x y : Bool) → x && y ≡ true → (x ≡ true) × (y ≡ true)
-      go true y e = (refl, e)
-      go false y e = absurd (false≢true e)
+  finite-both = and-true (finite (b .minimum)) (finite (b .maximum))
 
   pub by-order : finite (b .minimum) && finite (b .maximum) ≡ true → badBounds b ≡ not (lt (b .minimum) (b .maximum))
   unfolding badBounds

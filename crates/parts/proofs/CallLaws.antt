@@ -14,9 +14,10 @@ use Rattle.cue.specs.declared.packer.Packer.{Packer}
 use Rattle.cue.proofs.GuardedLaws.{none-of}
 use Rattle.parts.specs.Taking.{Stopped, called, partTaken, answerBy, answered}
 use Rattle.parts.specs.State.{Held, heldPacking, unopened, pairAt, packerAt, standingOf, stateOf, badNumbers, badState, bytesOfState}
-use Rattle.parts.specs.Parts.{PartCall, untouched, leaves, partOf, partListed, partLeft}
+use Rattle.parts.specs.Parts.{PartCall, untouched, leaves, partOf, partLeft}
 use Rattle.parts.specs.Inside.{keptAt, meant, Sound, Ranged, Rooms, Stops, listedBy, outcomeLeft}
-use Rattle.parts.specs.declared.PartAnswer.{PartAnswer}
+use Rattle.packet.specs.Verdict.{verdictListed}
+use Rattle.packet.specs.declared.judge.Verdict.{Verdict}
 use Rattle.parts.specs.declared.Part.{Part}
 use Rattle.parts.specs.declared.call.Outcome.{Outcome}
 use Rattle.parts.specs.declared.state.Kept.{Kept}
@@ -85,13 +86,13 @@ module _ (state part : List ℕ) (last : Bool) (out : List ℕ) where
   x = partOf state part last out
 
   pub no-room : length out < 1476
-      → partLeft (PartAnswer.Refused (record { number = 26; place = 1476 })) 0 state out ≡ x
-  unfolding partOf untouched partListed partLeft
+      → partLeft (Verdict.Refused (record { number = 26; place = 1476 })) 0 state out ≡ x
+  unfolding partOf untouched verdictListed partLeft
   no-room h = rw (lt-ltb _ _ h) refl
 
   -- the answer as the caller gets it
   pub part-is : (c : Outcome) (state₂ out₂ : List ℕ) → outcomeLeft c state₂ out₂ ≡ x → (r : Part)
-      → (partListed (r .answer) ≡ listedBy (c .number) (c .value)) × (r .taken ≡ c .taken)
+      → (verdictListed (r .answer) ≡ listedBy (c .number) (c .value)) × (r .taken ≡ c .taken)
       → partLeft (r .answer) (r .taken) state₂ out₂ ≡ x
   unfolding partLeft outcomeLeft
   part-is c state₂ out₂ e r (a, t) = rw (a, t) e

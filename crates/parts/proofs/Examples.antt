@@ -32,7 +32,7 @@ unfolding Space.spaceOf Space.spaceNumber Space.areaRow Space.isAbsent Space.row
     Taking.unknownMark Taking.decidedAt Taking.faultedBy Taking.recordTaken Taking.byteTaken Taking.isGoing Taking.goesOn
     Taking.oneMore Taking.bytesTaken Taking.endTaken Taking.partTaken Taking.answerBy Taking.answered Taking.called
     State.unopened State.written State.heldTurned State.heldPacking State.pairAt State.packerAt State.standingOf State.stateOf
-    State.badNumbers State.badState State.standingByte State.padded State.packerBytes State.bytesOfState
+    State.badNumbers State.badState State.standingByte State.padded State.numberBytes State.packerBytes State.bytesOfState
     Parts.untouched Parts.leaves Parts.partOf Promise.freshState
 all = true
 

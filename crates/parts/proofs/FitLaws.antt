@@ -10,9 +10,10 @@ use lib.Seq.{length-take-le}
 use Rattle.lbp16.specs.Answer.{Answer}
 use Rattle.parts.specs.Taking.{Standing, going, ended, faulted, Taken, isGoing, called, answerBy, answered}
 use Rattle.parts.specs.State.{frameRoom, heldPacking, stateOf, badState}
-use Rattle.parts.specs.Parts.{PartCall, untouched, leaves, partOf, partListed, partLeft}
+use Rattle.parts.specs.Parts.{PartCall, untouched, leaves, partOf, partLeft}
 use Rattle.parts.specs.Promise.{bytesWritten}
-use Rattle.parts.specs.declared.PartAnswer.{PartAnswer}
+use Rattle.packet.specs.Verdict.{verdictListed}
+use Rattle.packet.specs.declared.judge.Verdict.{Verdict}
 use Rattle.parts.proofs.KeepLaws.{call-le}
 
 taken-least : {P : Type 0} (t : Taken P) (room : List ℕ) → bytesWritten (answered t) ≤ length (t .out ++ room)
@@ -51,19 +52,19 @@ module _ (state part : List ℕ) (last : Bool) (room : List ℕ) where
       (λ g. taken-least (called heldPacking (stateOf state) part last .left) _)
 
   -- the same of what the code answered and left
-  module _ (a : PartAnswer) (n : ℕ) (state₂ room₂ : List ℕ) (e : partLeft a n state₂ room₂ ≡ partOf state part last room) where
+  module _ (a : Verdict) (n : ℕ) (state₂ room₂ : List ℕ) (e : partLeft a n state₂ room₂ ≡ partOf state part last room) where
     pub answer-taken : n ≤ length part
     unfolding partLeft
     answer-taken = let t : n ≡ partOf state part last room .taken = ap (λ c. c .taken) e in rw t taken-fits
 
-    pub answer-written : (m : ℕ) → a ≡ PartAnswer.Accepted m → m ≤ length room₂
-    unfolding partLeft partListed bytesWritten
+    pub answer-written : (m : ℕ) → a ≡ Verdict.Accepted m → m ≤ length room₂
+    unfolding partLeft verdictListed bytesWritten
     answer-written m d =
-        let l : bytesWritten (partListed a) ≤ length room₂ = rw e′ at written-fits in
+        let l : bytesWritten (verdictListed a) ≤ length room₂ = rw e′ at written-fits in
         rw d at l
       where
         e′ : partOf state part last room ≡ partLeft a n state₂ room₂
         e′ = sym e
 
-    pub answer-front : (m : ℕ) → a ≡ PartAnswer.Accepted m → m ≡ length (take m room₂)
+    pub answer-front : (m : ℕ) → a ≡ Verdict.Accepted m → m ≡ length (take m room₂)
     answer-front m d = sym (length-take-le m room₂ (answer-written m d))

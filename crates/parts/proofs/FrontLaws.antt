@@ -2,94 +2,28 @@
 use Prim.Native.Nat.{ℕ, _+_, _≤_, _<_}
 use mathlib.Core.Path.{_≡_, refl, sym, _∙_}
 use mathlib.Core.List.{List, [], _∷_, _++_}
-use mathlib.Core.Bool.{Bool, true, false, not, _||_, _&&_, cond}
+use mathlib.Core.Bool.{Bool, true, false, _||_, cond, or-true}
 use native.Mathlib.Omega.{arith}
 use lib.Dec.{eqb, ltb}
-use lib.ListN.{length, take, drop, length-append, length-drop, List·getD-append}
-use lib.Seq.{take-append-le, drop-append-le}
+use lib.ListN.{length, length-append}
+use lib.Seq.{take-append-le}
 use borrow.Author.Tests.{eqb-true, eqb-false, ltb-true, ltb-false, lt-ltb, le-ltb, eq-eqb, ne-eqb}
-use Rattle.lbp16.specs.Space.{Space}
 use Rattle.lbp16.proofs.BoolLaws.{or-false}
-use Rattle.packet.specs.Step.{Kind, read, write, infoRead, carried, isWrite}
 use Rattle.packet.specs.Rules.{first}
-use Rattle.cue.specs.Records.{markAt, recordKind, recordSpace, recordBytes, recordStep, recordRefusals, valueBytes, upperHalf, mostRecords}
+use Rattle.cue.specs.Records.{markAt, recordKind, recordBytes, recordRefusals, mostRecords}
 use Rattle.packet.proofs.RuleLaws.{none-holds}
+use Rattle.cue.proofs.OwnBytesLaws.{same-kind, judged-alike}
 use Rattle.cue.proofs.PackingLaws.{record-bytes-le}
 use Rattle.parts.specs.Taking.{unknownMark, decidedAt}
 
-module _ (rest t : List ℕ) where
-  pub mark-front : 2 ≤ length rest → markAt (rest ++ t) ≡ markAt rest
-  unfolding markAt
-  mark-front h = rw take-append-le refl
-
-  pub kind-front : 2 ≤ length rest → recordKind (rest ++ t) ≡ recordKind rest
-  unfolding recordKind
-  kind-front h = rw (mark-front h) refl
-
-  pair-front : (i n : ℕ) → i + n ≤ length rest → take n (drop i (rest ++ t)) ≡ take n (drop i rest)
-  pair-front i n h =
-      rw (drop-append-le i rest t (omega arith), take-append-le n (drop i rest) t (rw length-drop (omega arith))) refl
-
-  space-front : 3 ≤ length rest → recordSpace (rest ++ t) ≡ recordSpace rest
-  unfolding recordSpace
-  space-front h = rw (List·getD-append rest t 0 2 (omega arith)) refl
-
-  -- a read has no value, and a write's is whole
-  bytes-front : (k : Kind) (s : Space) → recordBytes k ≤ length rest
-      → take (carried k s) (valueBytes (rest ++ t)) ≡ take (carried k s) (valueBytes rest)
-  unfolding carried recordBytes isWrite valueBytes
-  bytes-front read s h = refl
-  bytes-front infoRead s h = refl
-  bytes-front write s h = rw (pair-front 6 4 (omega arith)) refl
-
-  upper-front : (k : Kind) → recordBytes k ≤ length rest
-      → (isWrite k && not (eqb (upperHalf (rest ++ t)) 0)) ≡ (isWrite k && not (eqb (upperHalf rest) 0))
-  unfolding isWrite recordBytes upperHalf valueBytes
-  upper-front read h = refl
-  upper-front infoRead h = refl
-  upper-front write h = rw (pair-front 6 4 (omega arith), space-front (omega arith)) refl
-
-  module _ (h : recordBytes (recordKind rest) ≤ length rest) where
-    six : 6 ≤ length rest
-    six = omega (arith, record-bytes-le (recordKind rest))
-
-    pub step-front : recordStep (rest ++ t) ≡ recordStep rest
-    unfolding recordStep
-    step-front =
-        let l = six in
-        rw (
-          kind-front (omega arith),
-          space-front (omega arith),
-          pair-front 4 2 (omega arith),
-          bytes-front (recordKind rest) (recordSpace rest) h,
-        )
-        refl
-
-    pub whole-front : (index : ℕ) → first (recordRefusals index (rest ++ t)) ≡ first (recordRefusals index rest)
-    unfolding recordRefusals first
-    whole-front index =
-        let l = six in
-        let e : ltb (length (rest ++ t)) (recordBytes (recordKind rest)) ≡ false =
-        le-ltb (length (rest ++ t)) (recordBytes (recordKind rest)) (rw length-append (omega arith)) in
-        rw (
-          kind-front (omega arith),
-          mark-front (omega arith),
-          e,
-          le-ltb _ _ h,
-          step-front,
-          List·getD-append rest t 0 3 (omega arith),
-          upper-front (recordKind rest) h,
-        )
-        refl
+pub mark-front : (rest t : List ℕ) → 2 ≤ length rest → markAt (rest ++ t) ≡ markAt rest
+unfolding markAt
+mark-front rest t h = rw take-append-le refl
 
 -- Bytes of a record that has not yet shown whether it is good.
 abbrev pub Waiting : ℕ → List ℕ → Type 0
 Waiting index [] = Unit
 Waiting index (b ∷ bs) = length (b ∷ bs) < decidedAt index (b ∷ bs)
-
-or-true : (a : Bool) → (a || true) ≡ true
-or-true true = refl
-or-true false = refl
 
 module _ (index : ℕ) where
   -- by the tests that `decidedAt` makes
@@ -132,7 +66,7 @@ module _ (index : ℕ) where
   unfolding decidedAt unknownMark
   decided-front rest t h =
       let e : ltb (length (rest ++ t)) 2 ≡ false = le-ltb (length (rest ++ t)) 2 (rw length-append (omega arith)) in
-      rw (e, le-ltb (length rest) 2 h, mark-front rest t h, kind-front rest t h) refl
+      rw (e, le-ltb (length rest) 2 h, mark-front rest t h, same-kind rest t h) refl
 
   pub reaches : (c : List ℕ) (b : ℕ) → Waiting index c → length (c ++ (b ∷ [])) ≤ decidedAt index (c ++ (b ∷ []))
   reaches [] b w = decided-some (b ∷ [])
@@ -149,7 +83,7 @@ module _ (index : ℕ) where
       (λ m l. rw (eq-eqb index mostRecords m) refl)
       (λ _ s l. absurd (omega arith))
       (λ few s u l. rw (mark-front rest t s, u) refl)
-      (λ few s u l. whole-front rest t (omega arith) index)
+      (λ few s u l. judged-alike index index rest t (omega arith) few few)
 
   pub decided-whole : (rest : List ℕ) → length rest ≡ decidedAt index rest → first (recordRefusals index rest) ≡ 0
       → length rest ≡ recordBytes (recordKind rest)

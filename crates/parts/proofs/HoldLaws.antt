@@ -17,6 +17,7 @@ use Rattle.cue.proofs.Relations.{Good, Holds}
 use Rattle.cue.proofs.ReadingLaws.{passing}
 use Rattle.cue.proofs.PackingLaws.{Joining, joining, joined-steps, turn-cases}
 use Rattle.cue.proofs.RunAll.{good-split}
+use Rattle.cue.proofs.WalkLaws.{remains-all}
 use Rattle.cue.proofs.Demand3.{packets-hold}
 use Rattle.parts.specs.Rule.{none, lastOf, openAfter, goodThen, goodFrom, goodRecords, packetsBy, packetsOf, isUnlock}
 use Rattle.parts.specs.Rule.{packetRecords, recordsHeld, packetCount, countHeld}
@@ -166,7 +167,7 @@ whole-packets list = go (recordsOf list) refl
   where
     go : (v : Listed) → recordsOf list ≡ v
         → (dss : List (List Command)) × (packets (goodRecords list) ≡ packetsBy v (goodRecords list) ++ dss)
-    go (records xs) e = ([], rw (good-all (length list) 0 list xs e, append-nil) refl)
+    go (records xs) e = ([], rw (good-all (length list) 0 list xs (omega arith) (remains-all list xs e), append-nil) refl)
     go (refused n i) e = (lastOf (openAfter none (goodRecords list)), packets-are (goodRecords list))
 
 -- So packets that are out hold the first of the good records, in order.

@@ -1,13 +1,15 @@
 -- Laws of a list's records and packets, one record more.
-use Prim.Native.Nat.{ℕ, zero, suc, _+_, _<_}
-use mathlib.Core.Path.{_≡_, refl, ap, _∙_}
+use Prim.Native.Nat.{ℕ, zero, suc, _+_, _≤_, _<_}
+use mathlib.Core.Path.{_≡_, refl, sym, ap, _∙_}
 use mathlib.Core.List.{List, [], _∷_, _++_, append-assoc, append-nil}
 use native.Mathlib.Omega.{arith}
-use lib.ListN.{length, drop}
+use lib.ListN.{length, drop, length-drop}
 use Rattle.packet.specs.Step.{Step}
 use Rattle.packet.specs.Rules.{first}
 use Rattle.cue.specs.Records.{Listed, records, refused, recordsFrom, recordKind, recordBytes, recordStep, recordRefusals, withRecord}
 use Rattle.cue.specs.Packing.{Command, packFrom, packets}
+use Rattle.cue.proofs.PackingLaws.{record-bytes-le}
+use Rattle.cue.proofs.WalkLaws.{Remains, remains-none, remains-next}
 use Rattle.parts.specs.Rule.{Opened, none, some, closes, opens, lastOf, closedFrom, openAfter, goodThen, goodFrom}
 
 -- records before those of a list
@@ -86,22 +88,16 @@ module _ (fuel index : ℕ) where
   good-refused (b ∷ bs) n h e = rw e refl
 
 -- the good records of a list that is not refused are all
-pub good-all : (fuel index : ℕ) (rest : List ℕ) (xs : List Step) → recordsFrom fuel index rest ≡ records xs
+pub good-all : (fuel index : ℕ) (rest : List ℕ) (xs : List Step) → length rest ≤ fuel → Remains index rest xs
     → goodFrom fuel index rest ≡ xs
-unfolding recordsFrom goodFrom goodThen withRecord
-good-all zero index rest xs e = cc
-good-all (suc fuel) index [] xs e = cc
-good-all (suc fuel) index (b ∷ bs) xs e = go _ _ refl (good-all fuel (index + 1) _) e
-  where
-    rest : List ℕ
-    rest = b ∷ bs
-
-    ys : List Step
-    ys = goodFrom fuel (index + 1) (drop (recordBytes (recordKind rest)) rest)
-
-    go : (r : ℕ) (v : Listed) → first (recordRefusals index rest) ≡ r → ((zs : List Step) → v ≡ records zs → ys ≡ zs)
-        → Rattle.cue.specs.Records.listedAt r index (withRecord (recordStep rest) v) ≡ records xs
-        → goodThen r (recordStep rest) ys ≡ xs
-    go zero (refused m i) f more e = let z : _≡_ {A = ℕ} 0 1 = cc in absurd (omega arith)
-    go zero (records zs) f more e = let q = more zs refl in cc
-    go (suc r) v f more e = let z : _≡_ {A = ℕ} 0 1 = cc in absurd (omega arith)
+unfolding goodFrom
+good-all zero index [] xs h r = sym (remains-none r refl)
+good-all zero index (b ∷ bs) xs h r = absurd (omega arith)
+good-all (suc fuel) index [] xs h r = sym (remains-none r refl)
+good-all (suc fuel) index (b ∷ bs) xs h r =
+    let n = remains-next r (λ e. omega arith) in
+    let s = record-bytes-le (recordKind (b ∷ bs)) in
+    let shorter : length (drop (recordBytes (recordKind (b ∷ bs))) (b ∷ bs)) ≤ fuel = rw length-drop (omega arith) in
+    good-next fuel index (b ∷ bs) (omega arith) (n .fine)
+    ∙ ap (λ (ys : List Step). recordStep (b ∷ bs) ∷ ys) (good-all fuel (index + 1) _ (n .later) shorter (n .remains))
+    ∙ sym (n .same)

@@ -7,16 +7,17 @@ use native.Mathlib.Omega.{arith}
 use native.Mathlib.Numerals.{add-one}
 use lib.Dec.{eqb, ltb}
 use lib.ListN.{length, take, drop, getD, length-append, length-take, length-drop, drop-of-length-le}
-use lib.Seq.{take-all, drop-cons, drop-drop}
+use lib.Seq.{drop-cons, drop-drop}
 use borrow.Author.Tests.{eqb-true, ltb-true, ltb-false, ne-eqb}
 use Rattle.lbp16.proofs.BoolLaws.{and-true}
+use Rattle.packet.proofs.SliceLaws.{tail-whole}
 use Rattle.parts.specs.Taking.{Taken, Stopped, isGoing, goesOn, oneMore, byteTaken, bytesTaken}
 use Rattle.parts.specs.Taking.{faultedBy, endTaken, partTaken}
 use Rattle.parts.specs.State.{Held, heldPacking, standingOf}
 use Rattle.parts.specs.Inside.{Ranged, Rooms, Leaves, Stops, Going, moreBy, meant, startAt}
 use Rattle.parts.specs.declared.state.Kept.{Kept}
 use Rattle.parts.specs.declared.take.Stop.{Stop}
-use Rattle.parts.proofs.Reached.{goes-on}
+use Rattle.parts.proofs.Reached.{empty-is, goes-on}
 use Rattle.parts.proofs.TakeLaws.{front-length, front-fits}
 
 pub going-first : (k : Kept) (part room old : List ℕ) → Ranged k → Rooms room old
@@ -70,17 +71,9 @@ more-more : (n m : ℕ) (s : Stopped Held) → moreBy n (moreBy m s) ≡ moreBy 
 unfolding moreBy
 more-more n m s = let e : n + (m + s .taken) ≡ n + m + s .taken = omega arith in λ i. record { taken = e i; left = s .left }
 
-nothing-out : (l : List ℕ) → 0 ≡ length l → l ≡ []
-nothing-out [] e = refl
-nothing-out (a ∷ l) e = absurd (omega arith)
-
--- the rest of a part, as the code lends it
-pub lent-rest : (part : List ℕ) (at : ℕ) → take (length part - at) (drop at part) ≡ drop at part
-lent-rest part at = take-all (length part - at) (drop at part) (rw length-drop (omega arith))
-
 pub rest-within : (part : List ℕ) (at m : ℕ) → at ≤ length part → m ≤ length (take (length part - at) (drop at part))
     → at + m ≤ length part
-rest-within part at m h k = let w : m ≤ length part - at = rw (lent-rest, length-drop) at k in omega arith
+rest-within part at m h k = let w : m ≤ length part - at = rw (tail-whole, length-drop) at k in omega arith
 
 -- where nothing is handed out yet: the bytes taken, and after them one more or several
 module _ (start : Taken Held) (part old : List ℕ) (k : Kept) (at : ℕ) (room : List ℕ) (g : Going start part old k 0 at room old)
@@ -100,7 +93,7 @@ module _ (start : Taken Held) (part old : List ℕ) (k : Kept) (at : ℕ) (room 
     start-again : g .t ≡ startAt k room
     unfolding startAt
     start-again =
-        let e = nothing-out (g .t .out) (g .leaves .written) in
+        let e = empty-is (g .t .out) (sym (g .leaves .written)) in
         let s = g .leaves .state in
         λ i. record { out = e i; state = sym s i }
 
@@ -127,7 +120,7 @@ module _ (start : Taken Held) (part old : List ℕ) (k : Kept) (n at : ℕ) (roo
       let same : out ≡ old = rw (goes-on (g .t) goes .1) at (g .leaves .handed) in
       let z : n ≡ 0 = eqb-true _ _ (and-true (eqb (k .stands) 0) (eqb n 0) (a .1) .1) in
       let g₀ : Going start part old k 0 at room old = rw (z, same) at g in
-      let all : take (length part - at) (drop at part) ≡ drop at part = lent-rest part at in
+      let all : take (length part - at) (drop at part) ≡ drop at part = tail-whole at part in
       going-more start part old k at room g₀ k₂ n₂ m room₂ out₂ (rw (same, all) at q)
 
   pub going-last : (ltb at (length part) && (eqb (k .stands) 0 && eqb n 0)) ≡ false
@@ -146,7 +139,7 @@ module _ (at m s n : ℕ) (e : (ltb at m && (eqb s 0 && eqb n 0)) ≡ true) wher
   test-going = eqb-true _ _ (and-true (eqb s 0) (eqb n 0) (and-true (ltb at m) (eqb s 0 && eqb n 0) e .1) .0)
 
   pub some-left : (part : List ℕ) → length part ≡ m → 1 ≤ length (take (length part - at) (drop at part))
-  some-left part e = let h = test-within in rw (lent-rest, length-drop, e) (omega arith)
+  some-left part e = let h = test-within in rw (tail-whole, length-drop, e) (omega arith)
 
   pub fewer-left : (i : ℕ) → 1 ≤ i → m - (at + i) < m - at
   fewer-left i o = let h = test-within in omega arith

@@ -15,13 +15,14 @@ use Rattle.cue.specs.Records.{records, refused, recordsOf, recordsFrom, recordK
 use Rattle.cue.specs.Packing.{Command, packets}
 use Rattle.cue.specs.Output.{outputOf}
 use Rattle.cue.specs.Compile.{outputBytes}
+use Rattle.cue.proofs.OwnBytesLaws.{same-kind, same-step}
 use Rattle.cue.proofs.PackingLaws.{record-bytes-le}
 use Rattle.cue.proofs.WalkLaws.{records-next, records-end}
 use Rattle.cue.proofs.PackerLaws.{output-append}
 use Rattle.parts.specs.Taking.{State, Standing, going, ended, faulted, Taken, Stopped, decidedAt, byteTaken, recordTaken, faultedBy}
 use Rattle.parts.specs.Taking.{isGoing, goesOn, oneMore, bytesTaken, endTaken, partTaken, called, fresh}
 use Rattle.parts.specs.Rule.{Opened, none, closes, opens, lastOf, packingRule, closedFrom, openAfter, goodFrom, goodRecords}
-use Rattle.parts.proofs.FrontLaws.{Waiting, reaches, decided-number, decided-whole, cut-number, step-front, kind-front}
+use Rattle.parts.proofs.FrontLaws.{Waiting, reaches, decided-number, decided-whole, cut-number}
 use Rattle.parts.proofs.ListLaws.{withRecords, with-snoc, with-refused, with-records, closed-snoc, open-snoc, packets-are}
 use Rattle.parts.proofs.ListLaws.{good-next, records-refused, good-refused}
 
@@ -114,9 +115,9 @@ module _ (list left : List ℕ) (b : ℕ) (s : State Opened) (css : List (List C
     next e =
         let n = decided-whole (s .index) shown d e in
         let two : 2 ≤ length shown = omega (arith, record-bytes-le (recordKind shown)) in
-        let step : recordStep (shown ++ left) ≡ recordStep shown = step-front shown left (omega arith) in
+        let step : recordStep (shown ++ left) ≡ recordStep shown = same-step shown left (omega arith) in
         let past : drop (recordBytes (recordKind (shown ++ left))) (shown ++ left) ≡ left =
-        rw (kind-front shown left two) (drop-at shown left _ n) in
+        rw (same-kind shown left two) (drop-at shown left _ n) in
         go (h .fuel) step past (rw joined at (h .enough)) (rw joined at (h .listed)) (rw joined at (h .good))
       where
         x : Step

@@ -2,7 +2,7 @@
 use Prim.Native.Nat.{ℕ, zero, suc, _+_, _*_, _-_, _/_, _%_, _≤_, _<_}
 use mathlib.Core.Path.{_≡_, refl, sym, ap, _∙_}
 use mathlib.Core.List.{List, [], _∷_, _++_}
-use mathlib.Core.Bool.{Bool, true, false, _&&_}
+use mathlib.Core.Bool.{Bool, false, _&&_, and-false}
 use native.Mathlib.Omega.{arith}
 use native.Mathlib.Decide.{decLe}
 use native.Mathlib.Nat.{sub-zero}
@@ -10,7 +10,7 @@ use lib.Dec.{eqb, ltb}
 use lib.ListN.{length, take, drop, getD, length-append, drop-of-length-le}
 use lib.Seq.{drop-at, drop-cons}
 use borrow.Author.Tests.{eq-eqb, ne-eqb, le-ltb}
-use Rattle.lbp16.specs.Word.{bit}
+use Rattle.lbp16.proofs.WordLaws.{bit-read}
 use Rattle.packet.specs.Bytes.{number, bytesOf}
 use Rattle.packet.proofs.ByteLaws.{number-of-bytes}
 use Rattle.cue.specs.Summary.{Progress, summary}
@@ -19,7 +19,7 @@ use Rattle.cue.specs.declared.packer.Packer.{Packer}
 use Rattle.cue.proofs.GuardedLaws.{any-false}
 use Rattle.cue.proofs.PackerLaws.{Following}
 use Rattle.parts.specs.Taking.{State, Standing, going, ended, faulted}
-use Rattle.parts.specs.State.{Held, unopened, pairAt, packerAt, padded, packerBytes, standingByte, standingOf, stateOf}
+use Rattle.parts.specs.State.{Held, unopened, pairAt, packerAt, padded, numberBytes, packerBytes, standingByte, standingOf, stateOf}
 use Rattle.parts.specs.State.{badNumbers, badState, bytesOfState}
 use Rattle.parts.specs.Inside.{Alone, Sound}
 use Rattle.parts.proofs.StateLaws.{length-packer}
@@ -74,21 +74,16 @@ relocked-sound (Sound.alone a) =
 two-bytes : (n : ℕ) → n < 65536 → number (bytesOf 2 n) ≡ n
 two-bytes n h = number-of-bytes 2 n h
 
-bit-again : (b : Bool) → eqb (bit b) 1 ≡ b
-unfolding bit
-bit-again true = refl
-bit-again false = refl
-
 module _ (t : State Held) where
   abbrev p : Packer
   p = t .packet .packer
 
   packer-unopened : (u : Bool) → p ≡ summary Progress.none u → packerAt (bytesOfState t) ≡ relocked p
-  unfolding bytesOfState padded bytesOf packerAt pairAt packerBytes number unopened summary
+  unfolding bytesOfState padded bytesOf packerAt pairAt packerBytes number unopened summary numberBytes
   packer-unopened u e = rw e refl
 
   packer-alone : Alone p → p .address < 65536 → packerAt (bytesOfState t) ≡ relocked p
-  unfolding bytesOfState padded bytesOf packerAt pairAt packerBytes
+  unfolding bytesOfState padded bytesOf packerAt pairAt packerBytes numberBytes
   packer-alone a h =
       let n : eqb (p .packets) 0 ≡ false = rw (a .packets) refl in
       let size = two-bytes (p .packet) (omega (arith, a .packet)) in
@@ -97,8 +92,8 @@ module _ (t : State Held) where
         n,
         size,
         some,
-        bit-again,
-        bit-again,
+        bit-read,
+        bit-read,
         two-bytes (p .address) h,
         two-bytes (p .reply) (omega (arith, a .reply)),
         two-bytes (p .word) (omega (arith, a .word, a .packet)),
@@ -173,11 +168,7 @@ stands-middle : (k : Standing) → Known k → (ltb 1 (standingByte k) && ltb (s
 unfolding standingByte
 stands-middle going h = refl
 stands-middle ended h = refl
-stands-middle (faulted n) h = rw (le-ltb n 21 (h .0)) (go (ltb 1 n))
-  where
-    go : (b : Bool) → (b && false) ≡ false
-    go true = refl
-    go false = refl
+stands-middle (faulted n) h = rw (le-ltb n 21 (h .0)) (and-false (ltb 1 n))
 
 -- the numbers of a sound packer pass
 record Passes (p : Packer) : Type 0 where

@@ -23,9 +23,10 @@ use Rattle.cue.specs.declared.packer.Packer.{Packer}
 use Rattle.cue.proofs.ReadingLaws.{passing}
 use Rattle.parts.specs.Taking.{unknownMark, decidedAt, byteTaken, bytesTaken, oneMore, isGoing, goesOn, partTaken, called, answerBy, answered}
 use Rattle.parts.specs.State.{heldPacking, padded, pairAt, packerAt, standingOf, stateOf, badNumbers, bytesOfState, frameRoom}
-use Rattle.parts.specs.Parts.{leaves, partOf, partListed, partLeft}
+use Rattle.parts.specs.Parts.{leaves, partOf, partLeft}
 use Rattle.parts.specs.Inside.{keptAt, meant, Ranged, Leaves, Stops, listedBy, outcomeLeft, unfitTests, Marked, Waits, Single}
-use Rattle.parts.specs.declared.PartAnswer.{PartAnswer}
+use Rattle.packet.specs.Verdict.{verdictListed}
+use Rattle.packet.specs.declared.judge.Verdict.{Verdict}
 use Rattle.parts.specs.declared.call.Outcome.{Outcome}
 use Rattle.parts.specs.declared.state.Kept.{Kept}
 use Rattle.parts.proofs.TidyLaws.{number-below, shifted-below, longer, bytes-longer, collected-length, state-again}
@@ -266,8 +267,8 @@ one-is (a ∷ b ∷ part) e = absurd (omega arith)
 
 pub single-taken : (s part : List ℕ) (last : Bool) (out : List ℕ) (r : Bool) (s₂ : List ℕ) → Single r s (getD part 0 0 ∷ []) false s₂
     → frameRoom ≤ length out → r ≡ true → (length part ≡ 1) × (last ≡ false) × (length s ≡ 1504)
-    → partLeft (PartAnswer.Accepted 0) 1 s₂ out ≡ partOf s part last out
-unfolding partLeft partListed
+    → partLeft (Verdict.Accepted 0) 1 s₂ out ≡ partOf s part last out
+unfolding partLeft verdictListed
 single-taken s part last out r s₂ h wide t (n, l, _) = rw (l, one-is part n) (sym (h .taken t out wide))
 
 module _ {r : Bool} {s p : List ℕ} {l : Bool} {s₂ : List ℕ} (h : Single r s p l s₂) where

@@ -2,7 +2,7 @@
 use Prim.Native.Nat.{ℕ, _+_, _-_, _≤_}
 use mathlib.Core.Path.{_≡_, refl}
 use mathlib.Core.List.{List}
-use mathlib.Core.Bool.{Bool, true, false, _&&_, cond}
+use mathlib.Core.Bool.{Bool, true, false, _&&_, cond, and-false}
 use native.Mathlib.Omega.{arith}
 use lib.Dec.{eqb, ltb}
 use lib.ListN.{length}
@@ -133,11 +133,7 @@ alone-within q n rest room a u h k =
   where
     behind : (b : Bool) → (b ≡ true → 6 ≤ q .word) → (ltb (q .word) 6 && b) ≡ false
     behind true f = rw (le-ltb (q .word) 6 (f refl)) refl
-    behind false f = go (ltb (q .word) 6)
-      where
-        go : (l : Bool) → (l && false) ≡ false
-        go true = refl
-        go false = refl
+    behind false f = and-false (ltb (q .word) 6)
 
 -- writing keeps the room's length
 length-unlocked : (q : Packer) (room : List ℕ) → length (unlockedAt q room) ≡ length room

@@ -5,13 +5,13 @@ use mathlib.Core.List.{List, [], _∷_, _++_}
 use mathlib.Core.Bool.{Bool, true, false, cond}
 use native.Mathlib.Omega.{arith}
 use lib.Dec.{eqb}
-use lib.ListN.{length, take, drop, getD, replicate, length-take, List·getD-eq-default}
+use lib.ListN.{length, take, drop, getD, length-take, List·getD-eq-default}
 use lib.Seq.{drop-cons, getD-take, take-all}
 use Rattle.lbp16.specs.Word.{bit}
 use Rattle.packet.specs.Bytes.{bytesOf}
 use borrow.Author.Tests.{ne-eqb}
 use Rattle.cue.specs.declared.packer.Packer.{Packer}
-use Rattle.parts.specs.State.{unopened, pairAt, packerAt, padded, packerBytes, standingByte, standingOf, bytesOfState}
+use Rattle.parts.specs.State.{unopened, pairAt, packerAt, padded, numberBytes, packerBytes, standingByte, standingOf, bytesOfState}
 use Rattle.parts.specs.Inside.{keptAt, meant, Ranged}
 use Rattle.parts.specs.declared.state.Kept.{Kept}
 
@@ -47,29 +47,55 @@ module _ (s : List ℕ) where
   unfolding packerAt
   packer-some size address reply word e z a r w = rw (← e, ne-eqb size 0 z, ← a, ← r, ← w) refl
 
-  pub kept-is : length s ≡ 1504 → (low high : ℕ) (p : Packer) → low ≡ pairAt s 12 → high ≡ pairAt s 14 → p ≡ packerAt s
+  pub kept-is : (low high : ℕ) (bytes : List ℕ) (p : Packer) → bytes ≡ take 10 (drop 2 s) → low ≡ pairAt s 12 → high ≡ pairAt s 14 → p ≡ packerAt s
       → record {
         stands = getD s 0 0;
         collected = getD s 1 0;
-        bytes = padded 10 2 s;
+        bytes = bytes;
         index = low + 65536 * high;
         packer = p;
       }
       ≡ keptAt s
   unfolding keptAt
-  kept-is l low high p a b e = rw (a, b, e, ← padded-is 10 2 s (omega arith)) refl
+  kept-is low high bytes p d a b e = rw (d, a, b, e) refl
 
 -- putting a state together
-pub packer-zeros : (p : Packer) → p .packets ≡ 0 → replicate 12 0 ≡ packerBytes p
-unfolding packerBytes padded
-packer-zeros p e = rw e refl
+pub numbers-none : (p q : Packer) → p .packets ≡ 0
+    → q ≡ record {
+      write = false;
+      space = 0;
+      address = 0;
+      count = 0;
+      packet = 0;
+      reply = 0;
+      unlocked = false;
+      unlock = false;
+      frame = 0;
+      word = 0;
+      end = 0;
+      packets = 0;
+    }
+    → numberBytes q ≡ packerBytes p
+unfolding numberBytes packerBytes padded bytesOf bit
+numbers-none p q e f = rw (e, f) refl
 
-pub packer-put : (p : Packer) (w u : ℕ) → (p .packets ≡ 0 → ⊥) → w ≡ bit (p .write) → u ≡ bit (p .unlocked)
-    → w ∷ p .space ∷ p .address % 256 ∷ p .address / 256 % 256 ∷ p .count ∷ u ∷ p .packet % 256 ∷ p .packet / 256 % 256
-    ∷ p .reply % 256 ∷ p .reply / 256 % 256 ∷ p .word % 256 ∷ p .word / 256 % 256 ∷ []
+pub numbers-some : (p : Packer) → (p .packets ≡ 0 → ⊥) → numberBytes p ≡ packerBytes p
+unfolding packerBytes
+numbers-some p z = rw (ne-eqb (p .packets) 0 z) refl
+
+pub packer-put : (p q : Packer) (w u : ℕ) → numberBytes q ≡ packerBytes p → w ≡ bit (q .write) → u ≡ bit (q .unlocked)
+    → w ∷ q .space ∷ q .address % 256 ∷ q .address / 256 % 256 ∷ q .count ∷ u ∷ q .packet % 256 ∷ q .packet / 256 % 256
+    ∷ q .reply % 256 ∷ q .reply / 256 % 256 ∷ q .word % 256 ∷ q .word / 256 % 256 ∷ []
     ≡ packerBytes p
-unfolding packerBytes bytesOf
-packer-put p w u z a b = rw (ne-eqb (p .packets) 0 z, a, b) refl
+unfolding numberBytes bytesOf
+packer-put p q w u e a b = rw (a, b) e
+
+pub collected-put : (l : List ℕ) (a b c d e f g h i j : ℕ)
+    → a ≡ getD l 0 0 → b ≡ getD l 1 0 → c ≡ getD l 2 0 → d ≡ getD l 3 0 → e ≡ getD l 4 0
+    → f ≡ getD l 5 0 → g ≡ getD l 6 0 → h ≡ getD l 7 0 → i ≡ getD l 8 0 → j ≡ getD l 9 0
+    → a ∷ b ∷ c ∷ d ∷ e ∷ f ∷ g ∷ h ∷ i ∷ j ∷ [] ≡ padded 10 0 l
+unfolding padded
+collected-put l a b c d e f g h i j p q r s t u v w x y = rw (p, q, r, s, t, u, v, w, x, y) refl
 
 pub byte-there : (bytes : List ℕ) (n i : ℕ) → i < n → getD bytes i 0 ≡ getD (take n bytes) i 0
 byte-there bytes n i h = sym (getD-take n bytes i 0 h)
@@ -86,14 +112,13 @@ length-padded zero i l = refl
 length-padded (suc n) i l = ap suc (length-padded n (suc i) l)
 
 pub length-packer : (p : Packer) → length (packerBytes p) ≡ 12
-unfolding packerBytes bytesOf padded
+unfolding packerBytes numberBytes bytesOf padded
 length-packer p = go (eqb (p .packets) 0)
   where
     go : (b : Bool)
         → length
         (cond b (padded 12 0 [])
-        (bit (p .write) ∷ p .space ∷ bytesOf 2 (p .address) ++ (p .count ∷ bit (p .unlocked) ∷ bytesOf 2 (p .packet))
-        ++ bytesOf 2 (p .reply) ++ bytesOf 2 (p .word)))
+        (numberBytes p))
         ≡ 12
     go true = refl
     go false = refl

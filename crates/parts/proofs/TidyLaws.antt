@@ -4,15 +4,14 @@ use mathlib.Core.Path.{_≡_, refl, sym, ap, _∙_}
 use mathlib.Core.List.{List, [], _∷_, _++_, append-assoc}
 use native.Mathlib.Omega.{arith}
 use native.Mathlib.Nat.{lt-mul-div-succ}
-use lib.Dec.{eqb}
 use lib.Pow.{pow-add, pow-pos}
 use lib.ListN.{length, take, drop, getD, set, length-append, length-take, length-drop, take-append-drop, List·getD-eq-default, List·getD-append}
 use lib.Seq.{getD-append-add, set-append-left}
 use borrow.Author.Tests.{ne-eqb}
-use Rattle.lbp16.specs.Word.{bit}
+use Rattle.lbp16.proofs.WordLaws.{bit-written}
 use Rattle.packet.specs.Bytes.{number, bytesOf}
 use Rattle.parts.specs.Taking.{State}
-use Rattle.parts.specs.State.{Held, pairAt, packerAt, padded, packerBytes, stateOf, bytesOfState}
+use Rattle.parts.specs.State.{Held, pairAt, packerAt, padded, numberBytes, packerBytes, stateOf, bytesOfState}
 use Rattle.parts.proofs.StateLaws.{padded-is, padded-self, length-padded, standing-again}
 
 -- bytes that are 0 behind some
@@ -77,12 +76,6 @@ set-front a n p q r t i b m h =
     let e : 2 + i ≡ suc (suc i) = omega arith in
     rw e (simp append-assoc (rw (set-append-left p (q ++ (r ++ t)) i b h) refl))
 
-flag-again : (n : ℕ) → n ≤ 1 → bit (eqb n 1) ≡ n
-unfolding bit
-flag-again zero h = refl
-flag-again (suc zero) h = refl
-flag-again (suc (suc n)) h = absurd (omega arith)
-
 abbrev pub longer : State Held → ℕ → State Held
 longer t b =
     record { standing = t .standing; index = t .index; collected = t .collected ++ (b ∷ []); packet = t .packet }
@@ -127,12 +120,12 @@ module _ (s : List ℕ) (long : length s ≡ 1504) (byte : (i : ℕ) → getD s 
       rw (w, x, y, z) refl
 
   packer-bytes : (pairAt s 22 ≡ 0 → ⊥) → getD s 16 0 ≤ 1 → getD s 21 0 ≤ 1 → packerBytes (packerAt s) ≡ padded 12 16 s
-  unfolding packerBytes packerAt padded
+  unfolding packerBytes numberBytes packerAt padded
   packer-bytes z w u =
       rw (
         ne-eqb (pairAt s 22) 0 z,
-        flag-again (getD s 16 0) w,
-        flag-again (getD s 21 0) u,
+        bit-written (getD s 16 0) w,
+        bit-written (getD s 21 0) u,
         pair-bytes 18 (omega arith),
         pair-bytes 22 (omega arith),
         pair-bytes 24 (omega arith),

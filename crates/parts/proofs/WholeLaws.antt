@@ -12,22 +12,24 @@ use Rattle.lbp16.proofs.BoolLaws.{or-false}
 use Rattle.packet.specs.Rules.{first}
 use Rattle.packet.specs.Command.{pickKind}
 use Rattle.packet.proofs.RuleLaws.{none-holds}
+use Rattle.packet.proofs.SliceLaws.{tail-whole}
 use Rattle.cue.specs.Records.{recordKind, recordBytes, recordStep, recordRefusals, mostRecords}
 use Rattle.cue.specs.Records.{recordAt}
 use Rattle.cue.specs.Guarded.{turnedWithin, putWithin}
 use Rattle.cue.specs.declared.records.Record.{Record}
 use Rattle.cue.specs.declared.packer.Packer.{Packer}
 use Rattle.cue.proofs.ReadingLaws.{passing}
+use Rattle.cue.proofs.OwnBytesLaws.{same-kind, same-step}
 use Rattle.cue.proofs.PackingLaws.{record-bytes-le}
 use Rattle.parts.specs.Taking.{State, Taken, Stopped, going, unknownMark, decidedAt, recordTaken, byteTaken, bytesTaken, isGoing, goesOn, oneMore}
 use Rattle.parts.specs.State.{Held, heldPacking, standingOf}
 use Rattle.parts.specs.Inside.{Sound, Ranged, Rooms, Leaves, Going, Runs, moreBy, meant, startAt, plain}
 use Rattle.parts.specs.declared.state.Kept.{Kept}
 use Rattle.parts.specs.declared.take.Run.{Run}
-use Rattle.parts.proofs.FrontLaws.{mark-front, kind-front, step-front, decided-two, decided-front, decided-number}
+use Rattle.parts.proofs.FrontLaws.{mark-front, decided-two, decided-front, decided-number}
 use Rattle.parts.proofs.ByteLaws.{byte-at}
 use Rattle.parts.proofs.TakeLaws.{turns-open, record-leaves}
-use Rattle.parts.proofs.PartLaws.{going-first, going-byte, going-more, going-next, lent-rest}
+use Rattle.parts.proofs.PartLaws.{going-first, going-byte, going-more, going-next}
 
 one-more : (n : ℕ) (s : Stopped Held) → oneMore (moreBy n s) ≡ moreBy (suc n) s
 unfolding oneMore moreBy
@@ -97,7 +99,7 @@ module _ (index : ℕ) (packet : Held) where
     six = omega (arith, l, record-bytes-le (recordKind (front ++ tail)))
 
     kind : recordKind (front ++ tail) ≡ recordKind front
-    kind = kind-front front tail (omega (arith, six))
+    kind = same-kind front tail (omega (arith, six))
 
     known : unknownMark front ≡ false
     unfolding recordRefusals unknownMark
@@ -115,7 +117,7 @@ module _ (index : ℕ) (packet : Held) where
         ≡ moreBy (length front) (bytesTaken heldPacking (recordTaken heldPacking 0 (state []) (recordStep (front ++ tail))) tail)
     front-taken =
         let good : first (recordRefusals index front) ≡ 0 = sym (decided-number index front tail decided) ∙ e in
-        let step : recordStep (front ++ tail) ≡ recordStep front = step-front front tail (rw (← kind, l) (omega arith)) in
+        let step : recordStep (front ++ tail) ≡ recordStep front = same-step front tail (rw (← kind, l) (omega arith)) in
         rw step (go front refl good)
       where
         go : (f : List ℕ) → f ≡ front → first (recordRefusals index front) ≡ 0
@@ -208,7 +210,7 @@ pub runs-more : (p : Packer) (first : ℕ) (part room : List ℕ) (r : Run) (roo
     → Runs (r .packer) (r .index) (take (length part - r .taken) (drop (r .taken) part)) room₁ s room₂
     → Runs p first part room (record { taken = r .taken + s .taken; packer = s .packer; index = s .index }) room₂
 runs-more p first part room r room₁ h s room₂ j₀ =
-    let j : Runs (r .packer) (r .index) (drop (r .taken) part) room₁ s room₂ = rw (lent-rest part (r .taken)) at j₀ in
+    let j : Runs (r .packer) (r .index) (drop (r .taken) part) room₁ s room₂ = rw (tail-whole (r .taken) part) at j₀ in
     let w : s .taken ≤ length part - r .taken = rw length-drop at (j .within) in
     record {
       held = j .held;

@@ -7,7 +7,7 @@ use lib.Dec.{eqb, ltb, leb}
 use mathlib.Core.Bool.{Bool, true, false, not, _&&_}
 use Rattle.lbp16.specs.Answer.{Answer, accepted, refused}
 use Rattle.packet.specs.Bytes.{number}
-use Rattle.packet.specs.Command.{pickKind}
+use Rattle.packet.specs.Command.{limit, pickKind}
 use Rattle.packet.specs.Step.{Step}
 use Rattle.packet.specs.Rules.{first}
 use Rattle.cue.specs.Records.{readMark, writeMark, recordBytes, mostRecords, recordRefusals}
@@ -46,10 +46,10 @@ pub record Alone (p : Packer) : Type 0 where
   pub frame : p .frame ≡ 0
   pub end : p .end ≡ 4 + p .packet
   pub packets : p .packets ≡ 1
-  pub packet : p .packet ≤ 1472
+  pub packet : p .packet ≤ limit
   pub some : 1 ≤ p .packet
   pub word : p .word ≤ p .packet
-  pub reply : p .reply ≤ 1472
+  pub reply : p .reply ≤ limit
   pub count : p .count ≤ 127
   pub space : p .space ≤ 7
 
@@ -143,8 +143,8 @@ unfitTests s =
     ∷ leb mostRecords (pairAt s 12 + 65536 * pairAt s 14)
     ∷ ltb 7 (getD s 17 0)
     ∷ ltb 127 (getD s 20 0)
-    ∷ ltb 1472 (pairAt s 24)
-    ∷ ltb 1472 (pairAt s 22)
+    ∷ ltb limit (pairAt s 24)
+    ∷ ltb limit (pairAt s 22)
     ∷ ltb (pairAt s 22) (pairAt s 26)
     ∷ eqb (pairAt s 22) 0
     ∷ ltb 1 (getD s 16 0)

@@ -1,13 +1,14 @@
 -- A call of the compiler that is fed in parts, on the lent state and the lent room.
 use Prim.Native.Nat.{ℕ}
-use mathlib.Core.List.{List, [], _∷_, _++_}
+use mathlib.Core.List.{List, _++_}
 use mathlib.Core.Bool.{Bool, cond}
 use lib.ListN.{length, drop}
 use lib.Dec.{ltb}
-use Rattle.lbp16.specs.Answer.{Answer, accepted, refused, refusal}
+use Rattle.lbp16.specs.Answer.{Answer, refused}
+use Rattle.packet.specs.Verdict.{verdictListed}
+use Rattle.packet.specs.declared.judge.Verdict.{Verdict}
 use Rattle.parts.specs.Taking.{Stopped, isGoing, called, answered}
 use Rattle.parts.specs.State.{Held, heldPacking, frameRoom, badState, stateOf, bytesOfState}
-use Rattle.parts.specs.declared.PartAnswer.{PartAnswer}
 
 -- All that a call answers and leaves: `taken` bytes of the part were taken.
 pub record PartCall : Type 0 where
@@ -36,10 +37,6 @@ partOf state part last room =
     (cond (badState state) (untouched (refused 1 0) state room)
     (leaves (called heldPacking (stateOf state) part last) (isGoing (stateOf state .standing)) state room))
 
--- an answer of the code as the papers list it
-unfoldable pub partListed : PartAnswer → Answer
-partListed (PartAnswer.Accepted n) = accepted (n ∷ [])
-partListed (PartAnswer.Refused r) = refusal r
-
-unfoldable pub partLeft : PartAnswer → ℕ → List ℕ → List ℕ → PartCall
-partLeft a taken state room = record { answer = partListed a; taken = taken; state = state; room = room }
+-- what the code answers and leaves
+unfoldable pub partLeft : Verdict → ℕ → List ℕ → List ℕ → PartCall
+partLeft a taken state room = record { answer = verdictListed a; taken = taken; state = state; room = room }

@@ -18,6 +18,7 @@ use lib.Dec.{eqb, ltb}
 use Rattle.lbp16.specs.Word.{bit}
 use Rattle.packet.specs.Bytes.{number, bytesOf}
 use Rattle.packet.specs.Step.{Step}
+use Rattle.packet.specs.Command.{limit}
 use Rattle.cue.specs.Records.{mostRecords}
 use Rattle.cue.specs.Summary.{Progress, summary, turnedBy, wrote}
 use Rattle.cue.specs.Records.{brief}
@@ -105,7 +106,7 @@ badNumbers stands collected index p =
     ∷ ltb mostRecords index
     ∷ ltb 7 (p .space)
     ∷ ltb 127 (p .count)
-    ∷ ltb 1472 (p .reply)
+    ∷ ltb limit (p .reply)
     ∷ ltb frameRoom (p .end)
     ∷ ltb (p .packet) (p .word)
     ∷ []
@@ -125,11 +126,14 @@ unfoldable pub padded : ℕ → ℕ → List ℕ → List ℕ
 padded zero i l = []
 padded (suc n) i l = getD l i 0 ∷ padded n (suc i) l
 
+-- what is known of an open packet, and of none
+unfoldable pub numberBytes : Packer → List ℕ
+numberBytes p =
+    bit (p .write) ∷ p .space ∷ bytesOf 2 (p .address) ++ (p .count ∷ bit (p .unlocked) ∷ bytesOf 2 (p .packet))
+    ++ bytesOf 2 (p .reply) ++ bytesOf 2 (p .word)
+
 unfoldable pub packerBytes : Packer → List ℕ
-packerBytes p =
-    cond (eqb (p .packets) 0) (padded 12 0 [])
-    (bit (p .write) ∷ p .space ∷ bytesOf 2 (p .address) ++ (p .count ∷ bit (p .unlocked) ∷ bytesOf 2 (p .packet))
-    ++ bytesOf 2 (p .reply) ++ bytesOf 2 (p .word))
+packerBytes p = cond (eqb (p .packets) 0) (padded 12 0 []) (numberBytes p)
 
 -- The bytes that mean a state.
 unfoldable pub bytesOfState : State Held → List ℕ

@@ -1,4 +1,6 @@
 // A call that takes the state apart and puts it together again.
+use crate::STATE_BYTES;
+use crate::layout;
 use crate::single;
 use crate::state;
 use crate::state::Kept;
@@ -50,7 +52,7 @@ pub(crate) fn called(state: &mut [u8], part: &[u8], last: bool, out: &mut [u8]) 
     requires { ⌜ frameRoom ≤ length (now out) ⌝ }
     ensures { λ r. ⌜ outcomeLeft r (now (state .exit)) (now (out .exit)) ≡ partOf (now (state .entry)) (now (part .entry)) last (now (out .entry)) ⌝ }
 {
-    if state.len() != 1504 {
+    if state.len() != STATE_BYTES {
         return bad_state();
     }
     let kept = state::load(state);
@@ -67,7 +69,7 @@ pub(crate) fn called(state: &mut [u8], part: &[u8], last: bool, out: &mut [u8]) 
             taken: 1,
         };
     }
-    let stop = take::part_taken(kept, part, last, &mut state[28..], out);
+    let stop = take::part_taken(kept, part, last, &mut state[layout::OPEN..], out);
     let after = stop.kept;
     state::save(after, state);
     answered(after, stop.written, stop.taken)

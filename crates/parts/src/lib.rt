@@ -1,42 +1,46 @@
 // Compiling a cue list that comes in parts, cut anywhere. What is known between calls stands in a state that the caller
 // lends: 1,504 bytes, all 0 before the first call.
 use lbp16::Refusal;
+use packet::command::LIMIT;
+use packet::judge::Verdict;
 
 mod call;
+mod layout;
 mod single;
 mod state;
 mod take;
 
 use crate::call::Outcome;
 ghost use mathlib.Core.Path.{_≡_};
-ghost use Rattle.parts.specs.Parts.{partListed, partOf, partLeft};
+ghost use Rattle.packet.specs.Verdict.{verdictListed};
+ghost use Rattle.parts.specs.Parts.{partOf, partLeft};
 ghost use Rattle.parts.specs.Inside.{listedBy};
 ghost use Rattle.parts.specs.Promise.{Promised};
 
-// The bytes written, or why nothing was.
-pub enum PartAnswer {
-    Accepted(usize),
-    Refused(Refusal),
-}
+// The state's bytes.
+pub const STATE_BYTES: usize = 1504;
 
-// `taken` bytes of the part were taken.
+// Room for a packet behind its mark and length.
+pub const FRAME_ROOM: usize = LIMIT + 4;
+
+// The bytes written, or why nothing was; `taken` bytes of the part were taken.
 pub struct Part {
-    pub answer: PartAnswer,
+    pub answer: Verdict,
     pub taken: usize,
 }
 
 fn part_of(c: Outcome) -> Part
-    ensures { λ r. ⌜ (partListed (r .answer) ≡ listedBy (c .number) (c .value)) × (r .taken ≡ c .taken) ⌝ }
+    ensures { λ r. ⌜ (verdictListed (r .answer) ≡ listedBy (c .number) (c .value)) × (r .taken ≡ c .taken) ⌝ }
 {
     let taken = c.taken;
     if c.number == 0 {
         return Part {
-            answer: PartAnswer::Accepted(c.value as usize),
+            answer: Verdict::Accepted(c.value),
             taken,
         };
     }
     Part {
-        answer: PartAnswer::Refused(Refusal {
+        answer: Verdict::Refused(Refusal {
             number: c.number,
             place: c.value,
         }),
@@ -51,21 +55,21 @@ pub fn compile_part(state: &mut [u8], part: &[u8], last: bool, out: &mut [u8]) -
         ≡ partOf (now (state .entry)) (now (part .entry)) last (now (out .entry)) ⌝ }
     ensures promise { λ r. ⌜ Promised (now (state .exit)) ⌝ }
 {
-    if out.len() < 1476 {
+    if out.len() < FRAME_ROOM {
         return Part {
-            answer: PartAnswer::Refused(Refusal {
+            answer: Verdict::Refused(Refusal {
                 number: 26,
-                place: 1476,
+                place: FRAME_ROOM as u64,
             }),
             taken: 0,
         };
     }
-    if (part.len() != 1) | (last | (state.len() != 1504)) {
+    if (part.len() != 1) | (last | (state.len() != STATE_BYTES)) {
         return part_of(call::called(state, part, last, out));
     }
     if single::lengthened(state, part[0]) {
         return Part {
-            answer: PartAnswer::Accepted(0),
+            answer: Verdict::Accepted(0),
             taken: 1,
         };
     }

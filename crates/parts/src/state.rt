@@ -1,13 +1,17 @@
 // The lent state, taken apart and put together again; specs/State.antt has its layout.
+use crate::FRAME_ROOM;
+use crate::layout;
 use crate::take;
 use cue::packer::Packer;
+use cue::records::MOST;
 use packet::bytes;
+use packet::command::LIMIT;
 ghost use mathlib.Core.Path.{_≡_};
 ghost use Prim.Native.Nat.{_<_};
 ghost use lib.ListN.{length, take, drop, getD};
 ghost use Rattle.lbp16.specs.Word.{bit};
 ghost use Rattle.cue.specs.Guarded.{anyOf};
-ghost use Rattle.parts.specs.State.{packerAt, badNumbers, packerBytes, padded, bytesOfState};
+ghost use Rattle.parts.specs.State.{stateBytes, packerAt, badNumbers, numberBytes, packerBytes, bytesOfState};
 ghost use Rattle.parts.specs.Inside.{keptAt, meant, Ranged};
 
 // `stands`: 0 while bytes are taken, 1 after the list's end, otherwise a fault's number. `collected` of `bytes` are the
@@ -21,38 +25,46 @@ pub struct Kept {
 }
 
 fn packer_at(s: &[u8]) -> Packer
-    requires { ⌜ length (now s) ≡ 1504 ⌝ }
+    requires { ⌜ length (now s) ≡ stateBytes ⌝ }
     ensures { λ p. ⌜ p ≡ packerAt (now (s .entry)) ⌝ }
 {
-    let size = bytes::pair_at(s, 22) as usize;
+    let size = bytes::pair_at(s, layout::PACKET) as usize;
     if size == 0 {
         return Packer::empty();
     }
     Packer {
-        write: s[16] == 1,
-        space: s[17],
-        address: bytes::pair_at(s, 18),
-        count: s[20],
+        write: s[layout::WRITE] == 1,
+        space: s[layout::SPACE],
+        address: bytes::pair_at(s, layout::ADDRESS),
+        count: s[layout::COUNT],
         packet: size,
-        reply: bytes::pair_at(s, 24) as usize,
-        unlocked: s[21] == 1,
+        reply: bytes::pair_at(s, layout::REPLY) as usize,
+        unlocked: s[layout::UNLOCKED] == 1,
         unlock: false,
         frame: 0,
-        word: bytes::pair_at(s, 26) as usize,
+        word: bytes::pair_at(s, layout::WORD) as usize,
         end: 4 + size,
         packets: 1,
     }
 }
 
+// The bytes of the next record, with those behind the collected ones.
+fn bytes_at(s: &[u8]) -> [u8; 10]
+    requires { ⌜ length (now s) ≡ stateBytes ⌝ }
+    ensures { λ r. ⌜ r ≡ take 10 (drop 2 (now (s .entry))) ⌝ }
+{
+    [s[2], s[3], s[4], s[5], s[6], s[7], s[8], s[9], s[10], s[11]]
+}
+
 pub(crate) fn load(s: &[u8]) -> Kept
-    requires { ⌜ length (now s) ≡ 1504 ⌝ }
+    requires { ⌜ length (now s) ≡ stateBytes ⌝ }
     ensures { λ k. ⌜ k ≡ keptAt (now (s .entry)) ⌝ }
 {
     Kept {
-        stands: s[0] as u32,
-        collected: s[1] as usize,
-        bytes: [s[2], s[3], s[4], s[5], s[6], s[7], s[8], s[9], s[10], s[11]],
-        index: bytes::pair_at(s, 12) as usize + 65536 * bytes::pair_at(s, 14) as usize,
+        stands: s[layout::STANDS] as u32,
+        collected: s[layout::COLLECTED] as usize,
+        bytes: bytes_at(s),
+        index: bytes::pair_at(s, layout::INDEX) as usize + 65536 * bytes::pair_at(s, layout::INDEX_HIGH) as usize,
         packer: packer_at(s),
     }
 }
@@ -65,10 +77,10 @@ pub(crate) fn bad(k: Kept) -> bool
     (24 < k.stands)
         | (((1 < k.stands) & (k.stands < 21))
             | ((9 < k.collected)
-                | ((100000 < k.index)
+                | ((MOST < k.index)
                     | ((7 < p.space)
                         | ((127 < p.count)
-                            | ((1472 < p.reply) | ((1476 < p.end) | (p.packet < p.word))))))))
+                            | ((LIMIT < p.reply) | ((FRAME_ROOM < p.end) | (p.packet < p.word))))))))
 }
 
 // A byte that is collected, 0 behind the last.
@@ -84,11 +96,45 @@ fn byte_of(k: Kept, i: usize) -> u8
     0
 }
 
-fn collected_bytes(k: Kept) -> [u8; 10]
-    requires { ⌜ length (k .bytes) ≡ 10 ⌝ }
-    ensures { λ r. ⌜ r ≡ padded 10 0 (take (k .collected) (k .bytes)) ⌝ }
+fn flag(set: bool) -> u8
+    ensures { λ r. ⌜ r ≡ bit set ⌝ }
 {
-    [
+    if set { 1 } else { 0 }
+}
+
+// What the state keeps of a packer: its numbers, all 0 where no packet is open.
+fn shown(p: Packer) -> Packer
+    ensures { λ r. ⌜ numberBytes r ≡ packerBytes p ⌝ }
+{
+    if p.packets == 0 {
+        return Packer {
+            write: false,
+            space: 0,
+            address: 0,
+            count: 0,
+            packet: 0,
+            reply: 0,
+            unlocked: false,
+            unlock: false,
+            frame: 0,
+            word: 0,
+            end: 0,
+            packets: 0,
+        };
+    }
+    p
+}
+
+// The state's numbers; the open packet behind them stands there already.
+pub(crate) fn save(k: Kept, s: &mut [u8])
+    requires { ⌜ (length (now s) ≡ stateBytes) × Ranged k ⌝ }
+    ensures { λ _. ⌜ now (s .exit) ≡ bytesOfState (meant k (drop 28 (now (s .entry)))) ⌝ }
+{
+    let p = shown(k.packer);
+    let index = k.index;
+    let head = [
+        (k.stands % 256) as u8,
+        (k.collected % 256) as u8,
         byte_of(k, 0),
         byte_of(k, 1),
         byte_of(k, 2),
@@ -99,28 +145,14 @@ fn collected_bytes(k: Kept) -> [u8; 10]
         byte_of(k, 7),
         byte_of(k, 8),
         byte_of(k, 9),
-    ]
-}
-
-fn flag(set: bool) -> u8
-    ensures { λ r. ⌜ r ≡ bit set ⌝ }
-{
-    if set { 1 } else { 0 }
-}
-
-// What the state keeps of a packer.
-fn packer_bytes(p: Packer) -> [u8; 12]
-    ensures { λ r. ⌜ r ≡ packerBytes p ⌝ }
-{
-    if p.packets == 0 {
-        return [0u8; 12];
-    }
-    let address = p.address;
-    [
+        (index % 256) as u8,
+        (index / 256 % 256) as u8,
+        (index / 256 / 256 % 256) as u8,
+        (index / 256 / 256 / 256 % 256) as u8,
         flag(p.write),
         p.space,
-        (address % 256) as u8,
-        (address / 256 % 256) as u8,
+        (p.address % 256) as u8,
+        (p.address / 256 % 256) as u8,
         p.count,
         flag(p.unlocked),
         (p.packet % 256) as u8,
@@ -129,46 +161,6 @@ fn packer_bytes(p: Packer) -> [u8; 12]
         (p.reply / 256 % 256) as u8,
         (p.word % 256) as u8,
         (p.word / 256 % 256) as u8,
-    ]
-}
-
-// The state's numbers; the open packet behind them stands there already.
-pub(crate) fn save(k: Kept, s: &mut [u8])
-    requires { ⌜ (length (now s) ≡ 1504) × Ranged k ⌝ }
-    ensures { λ _. ⌜ now (s .exit) ≡ bytesOfState (meant k (drop 28 (now (s .entry)))) ⌝ }
-{
-    let b = collected_bytes(k);
-    let p = packer_bytes(k.packer);
-    let index = k.index;
-    let head = [
-        (k.stands % 256) as u8,
-        (k.collected % 256) as u8,
-        b[0],
-        b[1],
-        b[2],
-        b[3],
-        b[4],
-        b[5],
-        b[6],
-        b[7],
-        b[8],
-        b[9],
-        (index % 256) as u8,
-        (index / 256 % 256) as u8,
-        (index / 256 / 256 % 256) as u8,
-        (index / 256 / 256 / 256 % 256) as u8,
-        p[0],
-        p[1],
-        p[2],
-        p[3],
-        p[4],
-        p[5],
-        p[6],
-        p[7],
-        p[8],
-        p[9],
-        p[10],
-        p[11],
     ];
     take::put_front(&head, s);
 }

@@ -42,36 +42,25 @@ pub record Drafting (before out : List ℕ) (p : Draft) : Type 0 where
   pub sized : Sized p (length out)
   pub kept : Kept (p .end) before out
 
-pub draft-first : (out : List ℕ) (p : Draft) → Sized p 0 → Drafting out out p
-draft-first out p s =
-    let b = s .end in
-    record {
-      size = refl;
-      sized =
-          record {
-            count = s .count;
-            packet = s .packet;
-            reply = s .reply;
-            most = s .most;
-            end = omega arith;
-            frame = s .frame;
-            word = s .word;
-          };
-      kept = kept-none;
-    }
-
-pub draft-sums : {before out : List ℕ} {p : Draft} → Drafting before out p → Sized p (p .end)
-draft-sums d =
-    let s = d .sized in
+-- the same in another room that suffices
+sized-in : {p : Draft} {room : ℕ} (wide : ℕ) → p .end ≤ wide → Sized p room → Sized p wide
+sized-in wide h s =
     record {
       count = s .count;
       packet = s .packet;
       reply = s .reply;
       most = s .most;
-      end = omega arith;
+      end = h;
       frame = s .frame;
       word = s .word;
     }
+
+pub draft-first : (out : List ℕ) (p : Draft) → Sized p 0 → Drafting out out p
+draft-first out p s =
+    record { size = refl; sized = sized-in (length out) (omega (arith, s .end)) s; kept = kept-none }
+
+pub draft-sums : {before out : List ℕ} {p : Draft} → Drafting before out p → Sized p (p .end)
+draft-sums {before} {out} {p} d = sized-in (p .end) (omega arith) (d .sized)
 
 pub draft-again : {before out after : List ℕ} {p q : Draft} → Drafting before out p → p .end ≤ q .end → Sized q (length out)
     → length after ≡ length out → Kept (q .end) out after → Drafting before after q

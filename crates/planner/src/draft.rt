@@ -5,13 +5,11 @@ use lbp16::pointer::Pointer;
 use lbp16::pointer::SpacePointers;
 use lbp16::space;
 use packet::command::LIMIT;
+use tight::UNSET_ADDRESS;
 ghost use mathlib.Core.Path.{_≡_};
 ghost use mathlib.Core.Bool.{false};
 ghost use Prim.Native.Nat.{_+_, _≤_};
 ghost use Rattle.planner.specs.Inside.{Sized, Summed, Startable, Small};
-
-// A pointer that the packet has not set: no address is as high.
-const UNSET: u32 = 65537;
 
 // More than the packing rule's output can have.
 const MOST: usize = 2000000;
@@ -99,9 +97,9 @@ impl Draft {
             frame: 0,
             word: 0,
             end: 0,
-            pointer: UNSET,
+            pointer: UNSET_ADDRESS,
             single: 0,
-            pointers: all_at(UNSET),
+            pointers: all_at(UNSET_ADDRESS),
             singles: all_at(0),
         }
     }
@@ -218,9 +216,9 @@ fn closed(p: Draft) -> Draft
     q.unlocked = false;
     q.frame = p.end;
     q.end = p.end + 4;
-    q.pointer = UNSET;
+    q.pointer = UNSET_ADDRESS;
     q.single = 0;
-    q.pointers = all_at(UNSET);
+    q.pointers = all_at(UNSET_ADDRESS);
     q.singles = all_at(0);
     q
 }

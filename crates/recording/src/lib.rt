@@ -2,6 +2,7 @@
 use card::check;
 use lbp16::Refusal;
 use lbp16::pointer::Pointers;
+use packet::command::LIMIT;
 
 mod pair;
 
@@ -62,7 +63,7 @@ fn judgment_of(pair: Pair, packet: u64) -> Judgment
 }
 
 // Each packet runs on the state that the one before left.
-fn judge_parts(recording: &[u8], store: &mut [u8], p: Pointers, room: &mut [u8; 1472]) -> Judged
+fn judge_parts(recording: &[u8], store: &mut [u8], p: Pointers, room: &mut [u8; LIMIT]) -> Judged
     ensures { λ r. ⌜ left r (now (store .exit)) (now (room .exit)) ≡ judgedParts (now (recording .entry)) (now (store .entry)) p (now (room .entry)) ⌝ }
 {
     let mut pointers = p;
@@ -88,7 +89,7 @@ fn judge_parts(recording: &[u8], store: &mut [u8], p: Pointers, room: &mut [u8; 
 }
 
 // Judges a recording, and leaves the last reply that the card gave in the room.
-pub fn judge_in(recording: &[u8], store: &mut [u8], p: Pointers, room: &mut [u8; 1472]) -> Judged
+pub fn judge_in(recording: &[u8], store: &mut [u8], p: Pointers, room: &mut [u8; LIMIT]) -> Judged
     ensures { λ r. ⌜ left r (now (store .exit)) (now (room .exit)) ≡ judgedIn (now (recording .entry)) (now (store .entry)) p (now (room .entry)) ⌝ }
 {
     if check::bad_state(store, p) {
@@ -109,6 +110,6 @@ pub fn judge_in(recording: &[u8], store: &mut [u8], p: Pointers, room: &mut [u8;
 pub fn judge(recording: &[u8], store: &mut [u8], p: Pointers) -> Judged
     ensures { λ r. ⌜ saidBy r (now (store .exit)) ≡ judged (now (recording .entry)) (now (store .entry)) p ⌝ }
 {
-    let mut room = [0u8; 1472];
+    let mut room = [0u8; LIMIT];
     judge_in(recording, store, p, &mut room)
 }

@@ -95,8 +95,3 @@ records-from (skipped bs ∷ ss) a = records-from ss (a .2)
 pub records-few : (list : List ℕ) → keptCount (scan list) ≤ length (output list)
 unfolding output
 records-few list = records-from (scan list) (apart list)
-
--- a log of a shorter list is one of a longer
-pub spaced-wider : {n : ℕ} {log : List ℕ} (a b : ℕ) → a ≤ b → Spaced a n log → Spaced b n log
-spaced-wider a b h Spaced.none = Spaced.none
-spaced-wider a b h (Spaced.entry p q r s) = Spaced.entry p q (omega arith) (spaced-wider a b h s)

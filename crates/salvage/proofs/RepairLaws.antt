@@ -13,13 +13,13 @@ use borrow.Author.Tests.{eqb-true, eqb-false, lt-ltb, le-ltb}
 use Rattle.lbp16.specs.Answer.{Answer}
 use Rattle.packet.specs.Step.{Step}
 use Rattle.packet.specs.Rules.{first}
-use Rattle.cue.specs.Records.{recordRefusals, recordKind, recordBytes, recordStep, mostRecords}
-use Rattle.cue.specs.Records.{Listed, refused, records, recordsOf, recordsFrom, withRecord, listedAt}
+use Rattle.cue.specs.Records.{recordRefusals, recordBytes, recordStep, mostRecords}
+use Rattle.cue.specs.Records.{Listed, refused, records, recordsOf, recordsFrom, withRecord}
 use Rattle.cue.specs.Compile.{compiled}
 use Rattle.cue.specs.Compile
 use Rattle.cue.proofs.CompileLaws.{whole, accepted-exactly, compile-cases}
 use Rattle.cue.proofs.OwnBytesLaws.{same-kind, same-step, judged-alike, any-index}
-use Rattle.cue.proofs.WalkLaws.{records-next}
+use Rattle.cue.proofs.WalkLaws.{records-next, Remains, remains-all, remains-next}
 use Rattle.salvage.specs.Salvage.{stands, sizeAt, Stretch, kept, skipped, skip, scan, scanFrom}
 use Rattle.salvage.specs.Salvage.{keptBytes, logFrom, output, logged}
 use Rattle.salvage.proofs.ScanLaws.{by-scan, scan-kept, stands-passes, stands-whole, size-some, bytesOf, joined, covered}
@@ -100,35 +100,20 @@ one-more : (rest : List ℕ) → stands rest ≡ true → AllKept (scan (drop (s
 unfolding AllKept
 one-more rest e a = rw (scan-kept rest e) a
 
-good-kept : (fuel index : ℕ) (list : List ℕ) (xs : List Step) → recordsFrom fuel index list ≡ records xs → length list ≤ fuel
-    → AllKept (scan list)
-unfolding recordsFrom withRecord AllKept scan scanFrom sizeAt
-good-kept zero index [] xs e h = tt
-good-kept zero index (b ∷ bs) xs e h = absurd (omega arith)
-good-kept (suc fuel) index [] xs e h = tt
-good-kept (suc fuel) index (b ∷ bs) xs e h = go _ _ refl (good-kept fuel (index + 1) _) e
-  where
-    rest : List ℕ
-    rest = b ∷ bs
-
-    go : (r : ℕ) (v : Listed) → first (recordRefusals index rest) ≡ r
-        → ((ys : List Step) → v ≡ records ys → length
-        (drop (recordBytes (recordKind rest)) rest)
-        ≤
-        fuel
-        →
-        AllKept
-        (scan (drop (recordBytes (recordKind rest)) rest)))
-        → listedAt r index (withRecord (recordStep rest) v) ≡ records xs → AllKept (scan rest)
-    go zero (refused m i) f more e = let z : _≡_ {A = ℕ} 0 1 = cc in absurd (omega arith)
-    go zero (records ys) f more e =
-        one-more rest (passes-stands index rest f) (more ys refl (let n = size-some rest in rw length-drop (omega arith)))
-    go (suc r) v f more e = let z : _≡_ {A = ℕ} 0 1 = cc in absurd (omega arith)
+good-kept : (most index : ℕ) (rest : List ℕ) (xs : List Step) → length rest ≤ most → Remains index rest xs → AllKept (scan rest)
+unfolding AllKept scan scanFrom sizeAt
+good-kept zero index [] xs h r = tt
+good-kept zero index (b ∷ bs) xs h r = absurd (omega arith)
+good-kept (suc most) index [] xs h r = tt
+good-kept (suc most) index (b ∷ bs) xs h r =
+    let n = remains-next r (λ e. omega arith) in
+    let s = size-some (b ∷ bs) in
+    let shorter : length (drop (sizeAt (b ∷ bs)) (b ∷ bs)) ≤ most = rw length-drop (omega arith) in
+    one-more (b ∷ bs) (passes-stands index (b ∷ bs) (n .fine)) (good-kept most (index + 1) _ (n .later) shorter (n .remains))
 
 -- A good list comes out unchanged, with an empty log.
 pub good-unchanged : (list : List ℕ) (xs : List Step) → recordsOf list ≡ records xs → Unchanged list
-unfolding recordsOf
-good-unchanged list xs e = unchanged list (good-kept (length list) 0 list xs e (omega arith))
+good-unchanged list xs e = unchanged list (good-kept (length list) 0 list xs (omega arith) (remains-all list xs e))
 
 -- The records that are kept, as they stand in the output.
 pub keptSteps : List Stretch → List Step

@@ -1,7 +1,7 @@
 -- What packing and unpacking answer, by the tests that the code makes.
 use Prim.Native.Nat.{ℕ, zero, suc, _+_, _*_, _^_, _≤_, _<_}
 use mathlib.Core.Path.{_≡_, refl, sym, ap, _∙_}
-use mathlib.Core.Bool.{Bool, true, false, not, _||_, cond}
+use mathlib.Core.Bool.{Bool, true, false, not, _||_, cond, or-true}
 use mathlib.Core.List.{List, [], _∷_}
 use native.Mathlib.Omega.{arith}
 use lib.ListN.{length, getD, take, drop, set, length-take}
@@ -12,7 +12,7 @@ use Rattle.lbp16.specs.Answer.{Answer, accepted, refused}
 use Rattle.lbp16.proofs.BoolLaws.{or-false, and-true}
 use Rattle.sserial.specs.Table.{laid, checkedAt, tableAt, directed, bits, anyMiswide, overfull, standsIn}
 use Rattle.sserial.specs.Layout.{joined, wordsOf, packed, unpacked, inRange, fitting}
-use Rattle.sserial.specs.Calls.{noChannel, packedBy, packedTo, Outcome, unpackedBy, unpackedTo, counted}
+use Rattle.sserial.specs.Calls.{noChannel, packedBy, Outcome, unpackedBy, calledOn, counted}
 use Rattle.sserial.specs.Inside.{Each, AllWide, Packable, fieldsIn, fieldsLeft, chosen, rowsFrom, flat}
 use Rattle.sserial.specs.declared.table.Field.{Field}
 use Rattle.sserial.specs.declared.table.Direction.{Direction}
@@ -50,10 +50,6 @@ fitting-count [] (v ∷ vs) h = let z : _≡_ {A = ℕ} 0 1 = cc in absurd (omeg
 fitting-count (f ∷ fs) [] h = let z : _≡_ {A = ℕ} 0 1 = cc in absurd (omega arith)
 fitting-count (f ∷ fs) (v ∷ vs) h = ap suc (fitting-count fs vs (and-true (inRange f v) (fitting fs vs) h .1))
 
-or-true : (a b : Bool) → b ≡ true → (a || b) ≡ true
-or-true true b h = refl
-or-true false b h = h
-
 module _ (fs : List Field) (channel : ℕ) (values registers : List ℕ) where
   pub pack-refused : (noChannel channel registers || not (fitting fs values)) ≡ true
       → packedBy fs channel values registers ≡ record { answer = refused 40 0; left = registers }
@@ -64,7 +60,7 @@ module _ (fs : List Field) (channel : ℕ) (values registers : List ℕ) where
   no-channel-refused h = rw h refl
 
   pub unfit-refused : fitting fs values ≡ false → (noChannel channel registers || not (fitting fs values)) ≡ true
-  unfit-refused h = or-true (noChannel channel registers) _ (rw h refl)
+  unfit-refused h = rw (h, or-true (noChannel channel registers)) refl
 
   pub uncounted-refused : (length values ≡ length fs → ⊥) → (noChannel channel registers || not (fitting fs values)) ≡ true
   uncounted-refused n = go (fitting fs values) refl
@@ -161,26 +157,16 @@ module _ (m : List ℕ) (table : ℕ) (d : Direction) where
       chosen-is Inputs = k .inputs
       chosen-is Outputs = k .outputs
 
-  module _ (channel : ℕ) (values registers : List ℕ) where
-    pub packed-laid : Laid (tableAt m table)
-        → packedTo (checkedAt m table) d channel values registers ≡ packedBy (fieldsLeft d m table) channel values registers
-    unfolding checkedAt packedTo
-    packed-laid l = rw (laid-checked (tableAt m table) l, left-laid l) refl
+  -- a call by what the count answers
+  module _ (lent : List ℕ) (call : List Field → Outcome) where
+    pub called-laid : Laid (tableAt m table) → calledOn (checkedAt m table) d lent call ≡ call (fieldsLeft d m table)
+    unfolding checkedAt calledOn
+    called-laid l = rw (laid-checked (tableAt m table) l, left-laid l) refl
 
-    pub packed-refused : (n p : ℕ) → refused n p ≡ counted (checkedAt m table)
-        → packedTo (checkedAt m table) d channel values registers ≡ record { answer = refused n p; left = registers }
-    unfolding packedTo
-    packed-refused n p e = let r = refused-checked (checkedAt m table) n p e in rw (r .0, r .1) refl
-
-    pub unpacked-laid : Laid (tableAt m table)
-        → unpackedTo (checkedAt m table) d channel registers values ≡ unpackedBy (fieldsLeft d m table) channel registers values
-    unfolding checkedAt unpackedTo
-    unpacked-laid l = rw (laid-checked (tableAt m table) l, left-laid l) refl
-
-    pub unpacked-refused : (n p : ℕ) → refused n p ≡ counted (checkedAt m table)
-        → unpackedTo (checkedAt m table) d channel registers values ≡ record { answer = refused n p; left = values }
-    unfolding unpackedTo
-    unpacked-refused n p e = let r = refused-checked (checkedAt m table) n p e in rw (r .0, r .1) refl
+    pub called-refused : (n p : ℕ) → refused n p ≡ counted (checkedAt m table)
+        → calledOn (checkedAt m table) d lent call ≡ record { answer = refused n p; left = lent }
+    unfolding calledOn
+    called-refused n p e = let r = refused-checked (checkedAt m table) n p e in rw (r .0, r .1) refl
 
 -- the registers with the channel's row set and put back
 pub put-back : (fs : List Field) (channel : ℕ) (values registers words : List ℕ) (all next : List (List ℕ)) (after : List ℕ)

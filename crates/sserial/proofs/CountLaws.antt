@@ -1,7 +1,7 @@
 -- A table entry by entry, and what counting its fields answers.
 use Prim.Native.Nat.{ℕ, suc, _+_, _≤_, _<_}
 use mathlib.Core.Path.{_≡_, refl, sym, _∙_}
-use mathlib.Core.Bool.{Bool, true, false, _||_, cond}
+use mathlib.Core.Bool.{Bool, true, false, _||_, cond, or-true}
 use mathlib.Core.List.{List, [], _∷_}
 use native.Mathlib.Omega.{arith}
 use native.Mathlib.Nat.{add-zero, zero-add}
@@ -78,10 +78,6 @@ module _ (d : Direction) (s : Sum) (f : Field) where
           → Small (cond t (record { fields = s .fields + 1; bits = s .bits + f .width }) s)
       go true b = record { bits = b; fields = omega arith }
       go false b = h
-
-or-true : (p : Bool) → (p || true) ≡ true
-or-true true = refl
-or-true false = refl
 
 module _ (s : Sums) (f : Field) where
   -- a field counted now is a field that follows

@@ -39,7 +39,7 @@ unfolding field mode card good registers packed Table.textBytes Table.nulOf Tabl
     Table.tableAt Table.standsIn Table.directed Table.bits Table.anyMiswide Table.overfull Table.checked Table.checkedAt
     Layout.joined Layout.wordsOf Layout.isSigned Layout.valueOf Layout.bitsOf Layout.inRange Layout.packed
     Layout.unpacked Layout.fitting Calls.counted Calls.shown Calls.front Calls.indexed Calls.noChannel Calls.packedBy
-    Calls.packedTo Calls.unpackedBy Calls.unpackedTo
+    Calls.packedTo Calls.unpackedBy Calls.unpackedTo Calls.calledOn
 all = true
 
 counts : counted (checkedAt good 0) ≡ accepted (1 ∷ 3 ∷ [])

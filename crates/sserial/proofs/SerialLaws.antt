@@ -15,7 +15,7 @@ use borrow.Author.Tests.{eqb-true}
 use Rattle.sserial.specs.Table.{Table, unreadable, fields, Checked, laid, checked, checkedAt, tableAt, directed, bits, overfull}
 use Rattle.sserial.specs.Table as table
 use Rattle.sserial.specs.Layout.{joined, wordsOf, packed, unpacked, fitting}
-use Rattle.sserial.specs.Calls.{noChannel, packedBy, packedTo, Outcome, unpackedBy, unpackedTo, counted, indexed}
+use Rattle.sserial.specs.Calls.{noChannel, packedBy, packedTo, Outcome, unpackedBy, unpackedTo, calledOn, counted, indexed}
 use Rattle.sserial.specs.Inside.{Each, AllWide}
 use Rattle.sserial.specs.declared.table.Field.{Field}
 use Rattle.sserial.specs.declared.table.Direction.{Direction}
@@ -47,7 +47,7 @@ module _ (n : ℕ) (d : Direction) (channel index : ℕ) (values registers : Lis
       × (indexed (table.refused n) index ≡ refused n 0)
       × (packedTo (table.refused n) d channel values registers .answer ≡ refused n 0)
       × (unpackedTo (table.refused n) d channel registers values .answer ≡ refused n 0)
-  unfolding counted indexed packedTo unpackedTo
+  unfolding counted indexed packedTo unpackedTo calledOn
   refused-calls = (refl, refl, refl, refl)
 
 -- a table that is not refused
@@ -181,7 +181,7 @@ module _ (m : List ℕ) (at : ℕ) (d : Direction) (channel : ℕ) where
       → packedTo (checkedAt m at) d channel values registers .answer ≡ accepted []
       → unpackedTo (checkedAt m at) d channel (packedTo (checkedAt m at) d channel values registers .left) room
       ≡ record { answer = accepted []; left = values }
-  unfolding packedTo unpackedTo
+  unfolding packedTo unpackedTo calledOn
   values-back values registers room each long = go (checkedAt m at) refl
     where
       go : (k : Checked) → checkedAt m at ≡ k → packedTo k d channel values registers .answer ≡ accepted []
@@ -199,7 +199,7 @@ module _ (m : List ℕ) (at : ℕ) (d : Direction) (channel : ℕ) where
         answer = accepted [];
         left = sets other (3 * channel) (wordsOf 3 (joined (take 3 (drop (3 * channel) registers)) % 2 ^ bits (directed d fs)));
       }
-  unfolding packedTo unpackedTo
+  unfolding packedTo unpackedTo calledOn
   bits-kept fs registers room other e long h =
       rw e
       (registers-back (directed d fs) (laid-wide fs (fits m at fs e d) d) (laid-bits fs (fits m at fs e d) d) channel registers room other long (rw e at h))
@@ -214,7 +214,7 @@ kept-by false n p kept new h = let z : _≡_ {A = ℕ} 0 1 = cc in absurd (omega
 module _ (k : Checked) (d : Direction) (channel : ℕ) (values registers : List ℕ) where
   pub pack-refusal-changes-nothing : (n p : ℕ) → packedTo k d channel values registers .answer ≡ refused n p
       → packedTo k d channel values registers .left ≡ registers
-  unfolding packedTo packedBy
+  unfolding packedTo packedBy calledOn
   pack-refusal-changes-nothing n p = go k
     where
       go : (k : Checked) → packedTo k d channel values registers .answer ≡ refused n p
@@ -224,7 +224,7 @@ module _ (k : Checked) (d : Direction) (channel : ℕ) (values registers : List 
 
   pub unpack-refusal-changes-nothing : (n p : ℕ) → unpackedTo k d channel registers values .answer ≡ refused n p
       → unpackedTo k d channel registers values .left ≡ values
-  unfolding unpackedTo unpackedBy
+  unfolding unpackedTo unpackedBy calledOn
   unpack-refusal-changes-nothing n p = go k
     where
       go : (k : Checked) → unpackedTo k d channel registers values .answer ≡ refused n p
@@ -234,7 +234,7 @@ module _ (k : Checked) (d : Direction) (channel : ℕ) (values registers : List 
 
   pub other-words : (j : ℕ) → (j < 3 * channel) ⊎ (3 * channel + 3 ≤ j)
       → getD (packedTo k d channel values registers .left) j 0 ≡ getD registers j 0
-  unfolding packedTo packedBy
+  unfolding packedTo packedBy calledOn
   other-words j h = go k
     where
       put : (t : Bool) (n : ℕ)

@@ -1,7 +1,7 @@
 -- The fields of one direction one after the other: `fs` are those still to come, `fs₀` all of them.
 use Prim.Native.Nat.{ℕ, suc, _+_, _*_, _/_, _%_, _^_, _≤_, _<_}
 use mathlib.Core.Path.{_≡_, refl, sym, ap, ap₂, _∙_}
-use mathlib.Core.Bool.{Bool, true, false, _&&_}
+use mathlib.Core.Bool.{Bool, true, _&&_, and-true, and-assoc}
 use mathlib.Core.List.{List, [], _∷_, _++_, append-nil, append-assoc}
 use native.Mathlib.Omega.{arith}
 use native.Mathlib.Nat.{mul-comm, mul-assoc, mul-add, mul-zero}
@@ -29,14 +29,6 @@ none-left (f ∷ fs) h = absurd (omega arith)
 next-fits : (low : ℕ) {f : Field} {fs gs : List Field} → gs ≡ f ∷ fs → low + bits gs ≤ 96 → low + f .width + bits fs ≤ 96
 unfolding bits
 next-fits low e h = let d = rw e at h in omega arith
-
-and-assoc : (a b c : Bool) → ((a && b) && c) ≡ (a && (b && c))
-and-assoc true b c = refl
-and-assoc false b c = refl
-
-and-all : (a : Bool) → (a && true) ≡ a
-and-all true = refl
-and-all false = refl
 
 -- packing: j values are laid into the words below bit `low`
 pub record Packing (fs₀ : List Field) (vs : List ℕ) (fs : List Field) (words : List ℕ) (good : Bool) (low j : ℕ) : Type 0 where
@@ -115,7 +107,7 @@ module _ {fs₀ fs : List Field} {vs words : List ℕ} {good : Bool} {low j : �
       let d : drop j vs ≡ [] = rw k (drop-length vs) in
       let s : joined words + 2 ^ low * 0 ≡ packed fs₀ vs = rw e at (h .sum) in
       let p : joined words ≡ packed fs₀ vs = let z = mul-zero (2 ^ low) in omega arith in
-      (sym (and-all good) ∙ (rw (e, d) at (h .fits)), sym (rw (h .three, p) at (words-joined words (h .each))))
+      (sym (and-true good) ∙ (rw (e, d) at (h .fits)), sym (rw (h .three, p) at (words-joined words (h .each))))
 
 -- unpacking: j values of the number n are read, from the bits below `low`
 pub record Reading (fs₀ : List Field) (n : ℕ) (fs : List Field) (values : List ℕ) (low j : ℕ) : Type 0 where

@@ -50,6 +50,11 @@ pub record Outcome : Type 0 where
   pub answer : Answer
   pub left : List ℕ
 
+-- A call on a table's fields of one direction; where the table is refused, what was lent stays.
+unfoldable pub calledOn : Checked → Direction → List ℕ → (List Field → Outcome) → Outcome
+calledOn (refused n) d lent call = record { answer = Answer.refused n 0; left = lent }
+calledOn (laid fs) d lent call = call (directed d fs)
+
 -- The fields of one direction into one channel. All 96 bits of the channel are written; unused ones are 0.
 unfoldable pub packedBy : List Field → ℕ → List ℕ → List ℕ → Outcome
 packedBy fs channel values registers =
@@ -58,8 +63,7 @@ packedBy fs channel values registers =
     (record { answer = accepted []; left = sets registers (3 * channel) (wordsOf 3 (packed fs values)) })
 
 unfoldable pub packedTo : Checked → Direction → ℕ → List ℕ → List ℕ → Outcome
-packedTo (refused n) d channel values registers = record { answer = Answer.refused n 0; left = registers }
-packedTo (laid fs) d channel values registers = packedBy (directed d fs) channel values registers
+packedTo k d channel values registers = calledOn k d registers (λ fs. packedBy fs channel values registers)
 
 -- the fields of one direction from one channel
 unfoldable pub unpackedBy : List Field → ℕ → List ℕ → List ℕ → Outcome
@@ -69,8 +73,7 @@ unpackedBy fs channel registers values =
     (record { answer = accepted []; left = unpacked fs (joined (take 3 (drop (3 * channel) registers))) })
 
 unfoldable pub unpackedTo : Checked → Direction → ℕ → List ℕ → List ℕ → Outcome
-unpackedTo (refused n) d channel registers values = record { answer = Answer.refused n 0; left = values }
-unpackedTo (laid fs) d channel registers values = unpackedBy (directed d fs) channel registers values
+unpackedTo k d channel registers values = calledOn k d values (λ fs. unpackedBy fs channel registers values)
 
 unfoldable pub callListed : CallAnswer → Answer
 callListed CallAnswer.Done = accepted []

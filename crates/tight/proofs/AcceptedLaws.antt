@@ -2,7 +2,7 @@
 use Prim.Native.Nat.{ℕ, zero, suc, _+_, _*_, _≤_}
 use mathlib.Core.Path.{_≡_, refl, sym, ap, _∙_}
 use mathlib.Core.List.{List, [], _∷_, _++_}
-use mathlib.Core.Bool.{Bool, true, false, not, _||_, _&&_, cond}
+use mathlib.Core.Bool.{Bool, false, not, _||_, _&&_, cond, or-assoc}
 use native.Mathlib.Omega.{arith}
 use native.Mathlib.Nat.{suc-mul}
 use lib.Dec.{eqb}
@@ -26,11 +26,7 @@ use Rattle.tight.specs.Tight.{infoStep}
 any-joined : (f : Step → Bool) (ss ts : List Step) → anyStep f (ss ++ ts) ≡ (anyStep f ss || anyStep f ts)
 unfolding anyStep
 any-joined f [] ts = refl
-any-joined f (s ∷ ss) ts = rw (any-joined f ss ts) (assoc (f s) (anyStep f ss) (anyStep f ts))
-  where
-    assoc : (a b c : Bool) → (a || (b || c)) ≡ ((a || b) || c)
-    assoc true b c = refl
-    assoc false b c = refl
+any-joined f (s ∷ ss) ts = rw (any-joined f ss ts) (sym (or-assoc (f s) (anyStep f ss) (anyStep f ts)))
 
 -- What none of the steps does, none of their parts does.
 pub any-split : (f : Step → Bool) (ss ts : List Step) → anyStep f (ss ++ ts) ≡ false → (anyStep f ss ≡ false) × (anyStep f ts ≡ false)

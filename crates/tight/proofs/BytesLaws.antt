@@ -2,7 +2,7 @@
 use Prim.Native.Nat.{ℕ, _+_, _≤_, _<_}
 use mathlib.Core.Path.{_≡_, refl}
 use mathlib.Core.List.{List, [], _∷_}
-use mathlib.Core.Bool.{Bool, true, false, _&&_}
+use mathlib.Core.Bool.{true, false, _&&_, and-false}
 use native.Mathlib.Omega.{arith}
 use native.Mathlib.Numerals.{add-one}
 use lib.Dec.{eqb}
@@ -11,16 +11,12 @@ use lib.Seq.{drop-cons}
 use borrow.Author.Tests.{eq-eqb, ne-eqb}
 use Rattle.tight.specs.Tight.{sameBytes}
 
-and-none : (b : Bool) → (b && false) ≡ false
-and-none true = refl
-and-none false = refl
-
 pub other-lengths : (a b : List ℕ) → (length a ≡ length b → ⊥) → false ≡ sameBytes a b
 unfolding sameBytes
 other-lengths [] [] h = absurd (h refl)
 other-lengths [] (y ∷ ys) h = refl
 other-lengths (x ∷ xs) [] h = refl
-other-lengths (x ∷ xs) (y ∷ ys) h = rw (← other-lengths xs ys (λ e. h (omega arith)), and-none)
+other-lengths (x ∷ xs) (y ∷ ys) h = rw (← other-lengths xs ys (λ e. h (omega arith)), and-false)
 
 -- from the byte with this index on
 module _ (a b : List ℕ) (i : ℕ) where

@@ -27,7 +27,7 @@ use Rattle.cue.proofs.PackingLaws.{space-again}
 use Rattle.cue.proofs.Relations.{Does}
 use Rattle.tight.specs.Tight.{none, steps, doneBy, infoStep, plainOnly, packetDoes}
 use Rattle.tight.specs.Unset.{among, usesFrom, usesUnset}
-use Rattle.tight.specs.Inside.{unsetSpaces, unset, fromUnset}
+use Rattle.tight.specs.Inside.{unsetAddress, unsetSpaces, unset, fromUnset}
 use Rattle.tight.proofs.AcceptedLaws.{plain-next, info-same}
 
 -- no info read among the steps
@@ -48,7 +48,7 @@ Agree set p q = (s : Space) → among s set ≡ true → pointerOf p false s ≡
 
 -- those of the spaces not set are still as `unset` has them
 abbrev Unset : List Space → Pointers → Type 0
-Unset set p = (s : Space) → isAbsent s ≡ false → among s set ≡ false → pointerOf p false s ≡ 65537
+Unset set p = (s : Space) → isAbsent s ≡ false → among s set ≡ false → pointerOf p false s ≡ unsetAddress
 
 -- Setting one more keeps both.
 set-alike : (p q : Pointers) (s : Space) (n : ℕ)
@@ -78,8 +78,8 @@ unset-on set p t n h s present a =
     let (e, a) = or-false (eqb (spaceNumber s) (spaceNumber t)) (among s set) a in
     with-pointer-other p false false t s n (λ _. other-space s t e) ∙ h s present a
 
--- 65,537 is no multiple of an element size
-unset-misaligned : (s : Space) → isAbsent s ≡ false → misaligned (row s) 65537 ≡ true
+-- it is no multiple of an element size
+unset-misaligned : (s : Space) → isAbsent s ≡ false → misaligned (row s) unsetAddress ≡ true
 unfolding misaligned row isAbsent
 unset-misaligned registers e = refl
 unset-misaligned eeprom e = refl
@@ -179,7 +179,7 @@ uses-set set p f rest h plain pass = go (f .address) (among t set) refl refl
     go false true e n = refl
     go false false e n =
         let present = pass .present in
-        let aligned : misaligned (row t) 65537 ≡ false =
+        let aligned : misaligned (row t) unsetAddress ≡ false =
         rw (row-plain (kindOf f) t plain, plain, e, h t present n) at (pass .aligned) in
         let z : _≡_ {A = ℕ} 0 1 = cc (unset-misaligned t present) in
         absurd (omega arith)

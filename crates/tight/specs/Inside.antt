@@ -17,11 +17,20 @@ use Rattle.cue.specs.Output.{Front}
 use Rattle.tight.specs.Tight.{unlocks, sameStep, Doing, none, steps, doneBy, packetDoes}
 use Rattle.tight.specs.declared.walk.Taken.{Taken}
 
--- Pointers that no command may use: an address of 65,537 is no multiple of any element size, so a command that takes its
+-- where a pointer stands that its packet has not set
+abbrev pub unsetAddress : ℕ
+unsetAddress = 65537
+
+-- Pointers that no command may use: that address is no multiple of any element size, so a command that takes its
 -- address from one of these before its packet has set it is refused.
 unfoldable pub unsetSpaces : SpacePointers
 unsetSpaces =
-    record { registers = pointer 65537; eeprom = pointer 65537; status = pointer 65537; information = pointer 65537 }
+    record {
+      registers = pointer unsetAddress;
+      eeprom = pointer unsetAddress;
+      status = pointer unsetAddress;
+      information = pointer unsetAddress;
+    }
 
 unfoldable pub unset : Pointers
 unset = record { plain = unsetSpaces; info = unsetSpaces }

@@ -11,6 +11,9 @@ ghost use Rattle.tight.specs.Tight.{checked, checkListed};
 ghost use Rattle.tight.specs.Tight;
 ghost use Rattle.tight.specs.Demand3.{TightDemand3};
 
+// Where a pointer stands that its packet has not set: no multiple of any element's size, and above every address.
+pub const UNSET_ADDRESS: u32 = 65537;
+
 // The packet count, or that the proposal is rejected, or why the list was refused.
 pub enum TightAnswer {
     Accepted(u64),

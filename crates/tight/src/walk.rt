@@ -1,5 +1,6 @@
 // A proposal's packets gone through beside the list's records.
 use crate::TightAnswer;
+use crate::UNSET_ADDRESS;
 use cue::frame;
 use cue::frame::Frame;
 use cue::records;
@@ -37,7 +38,7 @@ pub enum Taken {
 fn unset() -> Pointers
     ensures { λ r. ⌜ r ≡ unset ⌝ }
 {
-    let p = Pointer::new(65537);
+    let p = Pointer::new(UNSET_ADDRESS);
     let spaces = SpacePointers {
         registers: p,
         eeprom: p,

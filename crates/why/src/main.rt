@@ -1,6 +1,8 @@
 // Why a packet is refused: a captured packet on standard input, from a fresh card or from the pointers in the file named.
+use card::check::STORE_BYTES;
 use libc::STDIN_FILENO;
 use libc::STDOUT_FILENO;
+use packet::command::LIMIT;
 use wording::given;
 
 fn put(room: &[u8], said: usize) {
@@ -22,13 +24,13 @@ fn main() {
     let fd = os::open_read(&path[..n]);
     let mut file = [0u8; 33];
     let k = io::read_full(fd, &mut file);
-    let mut packet = [0u8; 1473];
+    let mut packet = [0u8; LIMIT + 1];
     let taken = io::read_full(STDIN_FILENO, &mut packet);
     say(
         0 <= fd,
         &file[..k],
         &packet[..taken],
-        &[0; 65728],
+        &[0; STORE_BYTES],
         &mut [0; 16384],
     );
 }

@@ -7,8 +7,8 @@ use Rattle.head.proofs.part.head_part.Tie as tie
 compile-part-requires : tie.Need-compile-part-requires
 compile-part-requires c κs = search needs
 
-numbers-of-requires : tie.Need-numbers-of-requires
-numbers-of-requires c κs = search needs
+of-verdict-requires : tie.Need-of-verdict-requires
+of-verdict-requires c κs = search needs
 
 same-length : tie.Need-same-length
 same-length c = search needs
@@ -20,14 +20,14 @@ returns : tie.Need-returns
 unfolding exportPart
 returns c =
     let done = c .before .before .before .before .before .compile-part .ensures in
-    (part-left _ _ _ _ _ _ (done .0) (c .numbers-of .ensures), done .1)
+    (part-left _ _ _ _ _ _ (done .0) (c .of-verdict .ensures), done .1)
 
 pub head-part-spec : {M : Type 1} → statement M
 head-part-spec =
     tie.close
     (tie.spec
     compile-part-requires
-    numbers-of-requires
+    of-verdict-requires
     same-length
     same-length-2
     returns)

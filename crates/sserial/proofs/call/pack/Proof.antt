@@ -3,9 +3,9 @@ use Rattle.sserial.proofs.call.pack.Statement.{statement}
 use Rattle.sserial.proofs.call.pack.Tie as tie
 use mathlib.Core.Path.{sym}
 use Rattle.sserial.specs.Table.{checkedAt}
-use Rattle.sserial.specs.Calls.{tableListed, callListed}
+use Rattle.sserial.specs.Calls.{tableListed, callListed, packedTo}
 use Rattle.sserial.proofs.CheckedLaws.{accepted-checked}
-use Rattle.sserial.proofs.CallLaws.{packable, packed-laid, packed-refused}
+use Rattle.sserial.proofs.CallLaws.{packable, called-laid, called-refused}
 
 count-fields-requires : tie.Need-count-fields-requires
 count-fields-requires c κs = search needs
@@ -29,19 +29,19 @@ pack-fields-requires c κs =
     (c .before .fields-of .ensures)
 
 returns : tie.Need-returns
-unfolding tableListed callListed
-returns c = sym (packed-refused _ _ _ _ _ _ _ _ (rw (c .before .answer .given .1) at (c .before .before .before .count-fields .ensures)))
+unfolding tableListed callListed packedTo
+returns c = sym (called-refused _ _ _ _ _ _ _ (rw (c .before .answer .given .1) at (c .before .before .before .count-fields .ensures)))
 
 same-length : tie.Need-same-length
 same-length c = search needs
 
 returns-2 : tie.Need-returns-2
-unfolding tableListed checkedAt
+unfolding tableListed checkedAt packedTo
 returns-2 c =
     let at-answer2 = c .before .before .before .before .before .before in
     let at-count-fields = at-answer2 .before .before in
     rw
-    (packed-laid _ _ _ _ _ _
+    (called-laid _ _ _ _ _
     (accepted-checked _ _ _ (rw (at-answer2 .answer2 .given .1) at (at-count-fields .count-fields .ensures)) .laid))
     (c .before .before .pack-fields .ensures)
 
