@@ -26,7 +26,8 @@ fn unfit(s: &[u8]) -> bool
     requires { ⌜ length (now s) ≡ stateBytes ⌝ }
     ensures { λ b. ⌜ b ≡ anyOf (unfitTests (now (s .entry))) ⌝ }
 {
-    let index = bytes::pair_at(s, layout::INDEX) as usize + 65536 * bytes::pair_at(s, layout::INDEX_HIGH) as usize;
+    let index = bytes::pair_at(s, layout::INDEX) as usize
+        + 65536 * bytes::pair_at(s, layout::INDEX_HIGH) as usize;
     let size = bytes::pair_at(s, layout::PACKET);
     let reply = bytes::pair_at(s, layout::REPLY);
     let word = bytes::pair_at(s, layout::WORD);
@@ -36,7 +37,9 @@ fn unfit(s: &[u8]) -> bool
                 | ((127 < s[layout::COUNT])
                     | ((MOST_BYTES < reply)
                         | ((MOST_BYTES < size)
-                            | ((size < word) | ((size == 0) | ((1 < s[layout::WRITE]) | (1 < s[layout::UNLOCKED])))))))))
+                            | ((size < word)
+                                | ((size == 0)
+                                    | ((1 < s[layout::WRITE]) | (1 < s[layout::UNLOCKED])))))))))
 }
 
 // The eight bytes behind the record's mark, as a number.

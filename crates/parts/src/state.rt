@@ -64,7 +64,8 @@ pub(crate) fn load(s: &[u8]) -> Kept
         stands: s[layout::STANDS] as u32,
         collected: s[layout::COLLECTED] as usize,
         bytes: bytes_at(s),
-        index: bytes::pair_at(s, layout::INDEX) as usize + 65536 * bytes::pair_at(s, layout::INDEX_HIGH) as usize,
+        index: bytes::pair_at(s, layout::INDEX) as usize
+            + 65536 * bytes::pair_at(s, layout::INDEX_HIGH) as usize,
         packer: packer_at(s),
     }
 }
@@ -80,7 +81,8 @@ pub(crate) fn bad(k: Kept) -> bool
                 | ((MOST < k.index)
                     | ((7 < p.space)
                         | ((127 < p.count)
-                            | ((LIMIT < p.reply) | ((FRAME_ROOM < p.end) | (p.packet < p.word))))))))
+                            | ((LIMIT < p.reply)
+                                | ((FRAME_ROOM < p.end) | (p.packet < p.word))))))))
 }
 
 // A byte that is collected, 0 behind the last.
