@@ -22,7 +22,7 @@ ghost use Rattle.spi.specs.Spi.{burstRefusals, runBurst, burstLeft, most
 
 const READ: u8 = 0xA;
 
-const WRITE: u8 = 0xB;
+pub const WRITE: u8 = 0xB;
 
 // The fields of a header word, high bits first; the four lowest bits are unused.
 pub struct Header {
@@ -106,7 +106,7 @@ fn out_of_place(h: Header) -> bool
 }
 
 // The lowest number of refusals 1 and 31 to 35 whose condition holds, 0 if none does.
-fn refusal_of(words: &[u32], store: &[u8], answer: &[u32]) -> u32
+pub fn refusal_of(words: &[u32], store: &[u8], answer: &[u32]) -> u32
     ensures { λ r. ⌜ r ≡ first (burstRefusals (now (words .entry)) (now (store .entry)) (now (answer .entry))) ⌝ }
 {
     let h = header_of(first_word(words));

@@ -23,7 +23,7 @@ use Rattle.packet.proofs.JudgeLaws.{accepted-past}
 use Rattle.packet.proofs.RefusalLaws.{all-passed, reaches-keeps}
 use Rattle.tight.specs.Tight.{infoStep}
 
-any-joined : (f : Step → Bool) (ss ts : List Step) → anyStep f (ss ++ ts) ≡ (anyStep f ss || anyStep f ts)
+pub any-joined : (f : Step → Bool) (ss ts : List Step) → anyStep f (ss ++ ts) ≡ (anyStep f ss || anyStep f ts)
 unfolding anyStep
 any-joined f [] ts = refl
 any-joined f (s ∷ ss) ts = rw (any-joined f ss ts) (sym (or-assoc (f s) (anyStep f ss) (anyStep f ts)))

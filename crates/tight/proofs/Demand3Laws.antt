@@ -15,7 +15,7 @@ use Rattle.tight.proofs.MixedLaws.{mixed-without, without-append}
 use Rattle.tight.proofs.CheckedLaws.{AcceptedAll, SetAll, accepted-is, no-info}
 
 -- Accepted packets without info commands that use no pointer before they set it hold their steps, unlock writes left out.
-done-holds : {ps : List (List ℕ)} {ss : List Step} → AcceptedAll ps ss → SetAll ps → NoInfo ss → Holds ps (withoutUnlocks ss)
+pub done-holds : {ps : List (List ℕ)} {ss : List Step} → AcceptedAll ps ss → SetAll ps → NoInfo ss → Holds ps (withoutUnlocks ss)
 unfolding withoutUnlocks
 done-holds AcceptedAll.none SetAll.none i = Holds.none
 done-holds (AcceptedAll.more {p = p} {end = end} {ss = us} short judged accepts) (SetAll.more set sets) i =
