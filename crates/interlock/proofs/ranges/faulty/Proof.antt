@@ -1,0 +1,21 @@
+use borrow.Author.Needs.{needs}
+use Rattle.interlock.proofs.ranges.faulty.Statement.{statement}
+use Rattle.interlock.proofs.ranges.faulty.Tie as tie
+use mathlib.Core.Path.{refl}
+use Rattle.interlock.specs.Guard.{faulty}
+
+add-end : tie.Need-add-end
+add-end c = search needs
+
+shares-requires : tie.Need-shares-requires
+shares-requires c κs = search needs
+
+shares-requires-2 : tie.Need-shares-requires-2
+shares-requires-2 c κs = search needs
+
+returns : tie.Need-returns
+unfolding faulty
+returns c = rw (c .shares2 .ensures, c .before .shares .ensures) refl
+
+pub faulty-spec : {M : Type 1} → statement M
+faulty-spec = tie.close (tie.spec add-end shares-requires shares-requires-2 returns)

@@ -1,0 +1,5 @@
+pub mod Guard
+pub mod Guarded
+pub mod Spared
+pub mod Vetted
+pub mod Inside
