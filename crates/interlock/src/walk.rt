@@ -1,0 +1,61 @@
+// The walk over a packet's commands for writes of protected bytes. It asks no rule.
+use crate::ranges;
+use lbp16::pointer::Pointers;
+use lbp16::word::Fields;
+use packet::command;
+use packet::judge;
+ghost use mathlib.Core.Path.{_≡_};
+ghost use mathlib.Core.Bool.{cond};
+ghost use mathlib.Core.List.{List};
+ghost use Prim.Native.Nat.{ℕ, _*_, _≤_};
+ghost use Rattle.lbp16.specs.Pointer.{pointersOf};
+ghost use Rattle.packet.specs.Command.{addressUsed, stepsAt};
+ghost use Rattle.packet.specs.Judge.{Carried, accepted, judge};
+ghost use Rattle.interlock.specs.Guard.{protected};
+ghost use Rattle.interlock.specs.Guarded.{protectedPlace};
+
+// The bytes from the first element to the end of the furthest: with increment elements stand one behind the other.
+pub(crate) fn span(increment: bool, count: u8, element: u32) -> u64
+    requires { ⌜ element ≤ 4 ⌝ }
+    ensures { λ r. ⌜ (r ≡ cond increment (count * element) element) × (r ≤ 1020) ⌝ }
+{
+    let one = element as u64;
+    if increment { count as u64 * one } else { one }
+}
+
+// Whether a command that uses the address `used` writes a protected byte: one look at each range for all its elements.
+fn writes_protected(guard: &[u32], f: Fields, used: u32) -> bool
+    ensures { λ r. ⌜ ((p : Pointers) (rest : List ℕ) → used ≡ addressUsed p f rest
+        → r ≡ protected (now (guard .entry)) (stepsAt p f rest)) ⌝ }
+{
+    if !f.write | (f.count == 0) {
+        return false;
+    }
+    let row = command::row_of(f);
+    let place = row.place as u64 + used as u64;
+    ranges::touches(guard, place, span(f.increment, f.count, row.element))
+}
+
+// The offset of the first command of an accepted packet that writes a protected byte, the packet's length if none does. Of any other
+// packet it is some offset.
+pub(crate) fn protected_place(packet: &[u8], pointers: &[u32], guard: &[u32]) -> usize
+    ensures { λ r. ⌜ ((end : Carried) → judge (pointersOf (now (pointers .entry))) (now (packet .entry)) ≡ accepted end
+        → r ≡ protectedPlace (now (guard .entry)) (pointersOf (now (pointers .entry))) (now (packet .entry))) ⌝ }
+{
+    let mut rest = packet;
+    let mut p = Pointers::from_list(pointers);
+    while 0 < rest.len() {
+        let f = command::fields_at(rest);
+        let used = command::address_used(p, f, rest);
+        if writes_protected(guard, f, used) {
+            return packet.len() - rest.len();
+        }
+        p = command::pointers_after(p, f, used);
+        let k = command::command_bytes(f);
+        if rest.len() < k {
+            return packet.len();
+        }
+        rest = &rest[k..];
+    }
+    packet.len()
+}
