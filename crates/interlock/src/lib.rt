@@ -5,15 +5,22 @@ mod walk;
 use card::check;
 use card::run;
 use card::run::RanList;
+use card::spi;
+use card::spi::BurstAnswer;
+use lbp16::Refusal;
 use packet::command;
 use packet::judge;
 use packet::judge::Verdict;
+use packet::rule;
 ghost use mathlib.Core.Path.{_≡_};
-ghost use Prim.Native.Nat.{_≤_};
+ghost use mathlib.Core.List.{[], _∷_};
+ghost use Prim.Native.Nat.{ℕ, _≤_};
+ghost use Rattle.lbp16.specs.Answer.{Answer};
 ghost use Rattle.packet.specs.Verdict.{answerTo, verdictListed};
 ghost use Rattle.card.specs.Run.{checkedList, ranList, mostElements};
-ghost use Rattle.interlock.specs.Guard.{soundness};
-ghost use Rattle.interlock.specs.Guarded.{guardedCheck, guardedRun};
+ghost use Rattle.card.specs.Spi.{burstListed, burstLeft, mostInBurst};
+ghost use Rattle.interlock.specs.Guard.{soundness, protected};
+ghost use Rattle.interlock.specs.Guarded.{guardedCheck, guardedRun, promised, guardedBurst};
 ghost use Rattle.interlock.specs.Inside.{insteadOf};
 
 // The number of a guard's ranges, or 70 and the index of the earliest pair at fault.
@@ -84,4 +91,36 @@ pub fn run(
         answer: held_back(packet, store, pointers, place),
         elements: 0,
     }
+}
+
+// Whether a burst that writes promises an element with a protected byte.
+fn promises_protected(words: &[u32], guard: &[u32]) -> bool
+    ensures { λ r. ⌜ r ≡ protected (now (guard .entry)) (promised (now (words .entry))) ⌝ }
+{
+    if words.len() == 0 {
+        return false;
+    }
+    let h = spi::header_of(words[0]);
+    if (h.command != spi::WRITE) | (h.count == 0) {
+        return false;
+    }
+    ranges::touches(guard, h.address as u64, walk::span(h.increment, h.count, 4))
+}
+
+// What the plain burst answers and leaves, but for one that would be accepted and promises to write a protected byte.
+pub fn burst(words: &[u32], store: &mut [u8], answer: &mut [u32], guard: &[u32]) -> BurstAnswer
+    ensures left { λ r. ⌜ burstLeft r (now (store .exit)) (now (answer .exit))
+        ≡ guardedBurst (now (guard .entry)) (now (words .entry)) (now (store .entry)) (now (answer .entry)) ⌝ }
+    ensures bounded { λ r. ⌜ ((n : ℕ) → burstListed r ≡ Answer.accepted (n ∷ []) → n ≤ mostInBurst) ⌝ }
+{
+    let sound = ranges::soundness(guard);
+    if let Verdict::Refused(refusal) = sound {
+        return BurstAnswer::Refused(refusal);
+    }
+    if !promises_protected(words, guard) {
+        return spi::burst(words, store, answer);
+    }
+    let plain = spi::refusal_of(words, store, answer);
+    let number = rule::first_of(plain == 0, 71, plain);
+    BurstAnswer::Refused(Refusal { number, place: 0 })
 }
