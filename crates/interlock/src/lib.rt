@@ -7,6 +7,8 @@ use card::run;
 use card::run::RanList;
 use card::spi;
 use card::spi::BurstAnswer;
+use cue::CompileAnswer;
+use cue::plan;
 use lbp16::Refusal;
 use packet::command;
 use packet::judge;
@@ -20,7 +22,7 @@ ghost use Rattle.packet.specs.Verdict.{answerTo, verdictListed};
 ghost use Rattle.card.specs.Run.{checkedList, ranList, mostElements};
 ghost use Rattle.card.specs.Spi.{burstListed, burstLeft, mostInBurst};
 ghost use Rattle.interlock.specs.Guard.{soundness, protected};
-ghost use Rattle.interlock.specs.Guarded.{guardedCheck, guardedRun, promised, guardedBurst};
+ghost use Rattle.interlock.specs.Guarded.{guardedCheck, guardedRun, promised, guardedBurst, guardedList};
 ghost use Rattle.interlock.specs.Inside.{insteadOf};
 
 // The number of a guard's ranges, or 70 and the index of the earliest pair at fault.
@@ -123,4 +125,22 @@ pub fn burst(words: &[u32], store: &mut [u8], answer: &mut [u32], guard: &[u32])
     let plain = spi::refusal_of(words, store, answer);
     let number = rule::first_of(plain == 0, 71, plain);
     BurstAnswer::Refused(Refusal { number, place: 0 })
+}
+
+// The number of a cue list's records, or the compiler's refusal, or 71 and the first record that writes a protected byte.
+pub fn list(list: &[u8], guard: &[u32]) -> Verdict
+    ensures { λ r. ⌜ verdictListed r ≡ guardedList (now (guard .entry)) (now (list .entry)) ⌝ }
+{
+    let sound = ranges::soundness(guard);
+    let Verdict::Accepted(_) = sound else {
+        return sound;
+    };
+    let answer = plan::plan(list);
+    match answer {
+        CompileAnswer::Refused(r) => Verdict::Refused(r),
+        CompileAnswer::Compiled {
+            bytes: _,
+            packets: _,
+        } => walk::records_held(list, guard),
+    }
 }

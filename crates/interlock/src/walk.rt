@@ -1,18 +1,25 @@
-// The walk over a packet's commands for writes of protected bytes. It asks no rule.
+// The walks for writes of protected bytes, over a packet's commands and over a list's records. They ask no rule.
 use crate::ranges;
+use cue::records;
+use cue::records::Record;
 use lbp16::pointer::Pointers;
+use lbp16::space;
 use lbp16::word::Fields;
 use packet::command;
 use packet::judge;
+use packet::judge::Verdict;
 ghost use mathlib.Core.Path.{_≡_};
 ghost use mathlib.Core.Bool.{cond};
 ghost use mathlib.Core.List.{List};
 ghost use Prim.Native.Nat.{ℕ, _*_, _≤_};
 ghost use Rattle.lbp16.specs.Pointer.{pointersOf};
+ghost use Rattle.packet.specs.Step.{Step};
 ghost use Rattle.packet.specs.Command.{addressUsed, stepsAt};
 ghost use Rattle.packet.specs.Judge.{Carried, accepted, judge};
-ghost use Rattle.interlock.specs.Guard.{protected};
-ghost use Rattle.interlock.specs.Guarded.{protectedPlace};
+ghost use Rattle.packet.specs.Verdict.{verdictListed};
+ghost use Rattle.cue.specs.Records.{records, recordsOf, brief};
+ghost use Rattle.interlock.specs.Guard.{writesProtected, protected};
+ghost use Rattle.interlock.specs.Guarded.{protectedPlace, recordsHeld};
 
 // The bytes from the first element to the end of the furthest: with increment elements stand one behind the other.
 pub(crate) fn span(increment: bool, count: u8, element: u32) -> u64
@@ -58,4 +65,35 @@ pub(crate) fn protected_place(packet: &[u8], pointers: &[u32], guard: &[u32]) ->
         rest = &rest[k..];
     }
     packet.len()
+}
+
+fn record_protected(guard: &[u32], r: Record) -> bool
+    ensures { λ b. ⌜ ((x : Step) → r ≡ brief x → b ≡ writesProtected (now (guard .entry)) x) ⌝ }
+{
+    if !r.write {
+        return false;
+    }
+    let row = space::row_of(r.space);
+    let place = row.place as u64 + r.address as u64;
+    ranges::touches(guard, place, row.element as u64)
+}
+
+// The first record of a good list that writes a protected byte, as 71, or the number of records.
+pub(crate) fn records_held(list: &[u8], guard: &[u32]) -> Verdict
+    requires { ⌜ ((xs : List Step) × (recordsOf (now list) ≡ records xs)) ⌝ }
+    ensures { λ r. ⌜ ((xs : List Step) → recordsOf (now (list .entry)) ≡ records xs
+        → verdictListed r ≡ recordsHeld (now (guard .entry)) 0 xs) ⌝ }
+{
+    let mut rest = list;
+    let mut index: usize = 0;
+    while rest.len() != 0 {
+        let r = records::record_at(rest);
+        if record_protected(guard, r) {
+            return judge::refused(71, index);
+        }
+        let n = records::record_bytes(r.write);
+        rest = &rest[n..];
+        index += 1;
+    }
+    Verdict::Accepted(index as u64)
 }
