@@ -16,11 +16,12 @@ use Rattle.packet.specs.Step.{Kind, Step, carried, isWrite, storeAfter, valuesR
 use Rattle.packet.specs.Rules.{Rule, first, anyStep}
 use Rattle.packet.specs.Command.{pickKind, payload, elements}
 use Rattle.packet.proofs.RuleLaws.{Numbered}
-use Rattle.card.specs.Spi.{Burst, headerOf, firstWord, bytesOfWords, burstKind, burstSteps, came, burstRefusals, burstOutcome, burstWords, runBurst}
-use Rattle.card.specs.Spi.{writeCommand, burstListed, burstLeft, mostInBurst}
-use Rattle.card.specs.declared.spi.BurstAnswer.the-variants.{Refused}
-use Rattle.card.specs.declared.spi.Header.{Header}
-use Rattle.card.proofs.SpiLaws.{sound}
+use Rattle.spi.specs.Spi.{Burst, headerOf, firstWord, bytesOfWords, burstKind, burstSteps, came, burstRefusals, burstOutcome, burstWords, runBurst}
+use Rattle.packet.specs.Verdict.{verdictListed}
+use Rattle.spi.specs.Spi.{writeCommand, burstLeft, mostInBurst}
+use Rattle.packet.specs.declared.judge.Verdict.the-variants.{Refused}
+use Rattle.spi.specs.declared.Header.{Header}
+use Rattle.spi.proofs.SpiLaws.{sound}
 use Rattle.interlock.specs.Guard.{soundness, touches, writesProtected, protected}
 use Rattle.interlock.specs.Guarded.{promised, guardedRefusals, burstBy, guardedBurst}
 use Rattle.interlock.proofs.BlockLaws.{read-elements, block}
@@ -124,8 +125,8 @@ module _ (guard words store room : List ℕ) where
 pub refused-left : (guard words store room : List ℕ) (r : Refusal)
     → guardedBurst guard words store room ≡ record { answer = Answer.refused (r .number) (r .place); store = store; room = room }
     → (burstLeft (Refused r) store room ≡ guardedBurst guard words store room)
-    × ((n : ℕ) → burstListed (Refused r) ≡ Answer.accepted (n ∷ []) → n ≤ mostInBurst)
-unfolding burstLeft burstListed
+    × ((n : ℕ) → verdictListed (Refused r) ≡ Answer.accepted (n ∷ []) → n ≤ mostInBurst)
+unfolding burstLeft verdictListed
 refused-left guard words store room r e = (sym e, λ n q. let z : _≡_ {A = ℕ} 0 1 = cc in absurd (omega arith))
 
 -- the promised elements, by one look at each range

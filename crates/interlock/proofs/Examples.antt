@@ -8,7 +8,7 @@ use Rattle.lbp16.specs.Pointer.{fresh}
 use Rattle.lbp16.specs.Info
 use Rattle.packet.specs.Bytes
 use Rattle.packet.specs.Command
-use Rattle.card.specs.Spi
+use Rattle.spi.specs.Spi
 use Rattle.cue.proofs.Examples.{all}
 use Rattle.interlock.specs.Guard
 use Rattle.interlock.specs.Guard.{soundness}

@@ -15,11 +15,11 @@ use Rattle.lbp16.specs.declared.pointer.Pointers.{Pointers}
 use Rattle.packet.specs.Step.{Step, isInfo}
 use Rattle.packet.specs.Rules.{anyStep}
 use Rattle.packet.specs.Command.{fieldsAt, kindOf, headerBytes, commandBytes, addressUsed, stride, stepsAt, pointersAfter}
-use Rattle.packet.specs.Command.{numberOf, found, commandAt, Progress}
 use Rattle.packet.specs.Judge.{Carried, accepted, begin, carry, judgeFrom, judge}
-use Rattle.packet.specs.Verdict.{start, progressOf}
 use Rattle.packet.proofs.SliceLaws.{tail-whole}
-use Rattle.packet.proofs.CommandLaws.{Passed, advanced-used}
+use Rattle.packet.specs.Inside.{Passed}
+use Rattle.packet.proofs.CommandLaws.{command-some, advanced-used}
+use Rattle.packet.proofs.ProgressLaws.{Progress, start, progressOf, progressAfter, numberAt}
 use Rattle.packet.proofs.JudgeLaws.{accepted-past}
 use Rattle.packet.proofs.LoopLaws.{At, at-begin, at-accepted, at-passed, Turn, at-step}
 use Rattle.interlock.specs.Guard.{protected}
@@ -27,14 +27,9 @@ use Rattle.interlock.specs.Guarded.{placeFrom, protectedPlace}
 use Rattle.interlock.proofs.RangeLaws.{or-left, or-right}
 use Rattle.interlock.proofs.BlockLaws.{protected-joined}
 
--- a command has some bytes
-pub command-some : (f : Fields) (k : ℕ) → k ≡ commandBytes f → 2 ≤ k
-unfolding commandBytes headerBytes
-command-some f k e = rw e (go (f .address) _)
-  where
-    go : (b : Bool) (n : ℕ) → 2 ≤ cond b 4 2 + n
-    go true n = omega arith
-    go false n = omega arith
+-- a command has some bytes, as the code has their number
+pub some-bytes : (f : Fields) (k : ℕ) → k ≡ commandBytes f → 2 ≤ k
+some-bytes f k e = rw e (command-some f)
 
 -- one command of the walk, and its end
 place-turn : (guard : List ℕ) (fuel : ℕ) (p : Pointers) (place : ℕ) (rest : List ℕ) → length rest ≤ fuel → 0 < length rest
@@ -81,7 +76,7 @@ tells-from guard (suc fuel) c [] end l e h =
     ap (λ (d : Carried). protected guard (d .steps)) (sym q) ∙ h ∙ sym (ap not (eq-eqb _ _ z))
 tells-from guard (suc fuel) c (b ∷ bs) end l e h =
     let (next, on) = accepted-past fuel c b bs end e in
-    let two = command-some (fieldsAt rest) k refl in
+    let two = some-bytes (fieldsAt rest) k refl in
     let fewer : length (drop k rest) ≤ fuel = rw length-drop (omega arith) in
     go (protected guard steps) refl on (next .whole) (tells-from guard fuel (carry c rest) (drop k rest) end fewer on)
   where
@@ -169,16 +164,15 @@ module _ {guard packet : List ℕ} {p pointers : Pointers} {rest : List ℕ} (w 
       abbrev s : Walking guard packet p pointers rest
       s = w .here end a
 
-      none : numberOf (commandAt (s .g) (s .place) rest .found .which) ≡ 0
+      none : numberAt (s .g) rest ≡ 0
       none = at-accepted rest (s .at) more end a
 
       pass : Passed (s .c .pointers) (progressOf (s .c) .unlocked) (progressOf (s .c) .reply) (fieldsAt rest) rest
       unfolding progressOf
       pass = rw (s .at .progress) at (at-passed rest (s .at) more none)
 
-      turn : (k : ℕ) → k ≡ commandBytes f → Turn p packet (s .c) (commandAt (s .g) (s .place) rest .next) (s .place) k rest
-      unfolding commandAt found
-      turn k b = at-step (s .at) more (commandAt (s .g) (s .place) rest) _ k refl refl none (b ∙ ap commandBytes read)
+      turn : (k : ℕ) → k ≡ commandBytes f → Turn p packet (s .c) (progressAfter (s .g) (fieldsAt rest) rest) (s .place) k rest
+      turn k b = at-step (s .at) more k none (b ∙ ap commandBytes read)
 
       -- a command of an accepted packet is whole
       pub walk-whole : (k : ℕ) → k ≡ commandBytes f → k ≤ length rest
@@ -206,7 +200,7 @@ module _ {guard packet : List ℕ} {p pointers : Pointers} {rest : List ℕ} (w 
     unfolding carry pointersAfter
     walk-next h used u after v k b l =
         let left = w .left in
-        let two = command-some f k b in
+        let two = some-bytes f k b in
         record {
           left = rw (length-take, length-drop) (omega arith);
           here =
@@ -217,7 +211,7 @@ module _ {guard packet : List ℕ} {p pointers : Pointers} {rest : List ℕ} (w 
               rw (u, read, s .pointed, advanced-used _ _ _ (fieldsAt rest) rest (pass end a)) at v in
               record {
                 c = carry (s .c) rest;
-                g = commandAt (s .g) (s .place) rest .next;
+                g = progressAfter (s .g) (fieldsAt rest) rest;
                 place = s .place + k;
                 at = turn end a k b .again;
                 pointed = on;

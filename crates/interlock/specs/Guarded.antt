@@ -14,7 +14,7 @@ use Rattle.packet.specs.Command.{fieldsAt, commandBytes, stepsAt, pointersAfter
 use Rattle.packet.specs.Judge.{Verdict, refused, accepted}
 use Rattle.packet.specs.Verdict.{answerTo}
 use Rattle.card.specs.Run.{Outcome, outcome, runVerdict, checkedList, ListOutcome, asList}
-use Rattle.card.specs.Spi.{Burst, headerOf, firstWord, burstSteps, burstRefusals, burstOutcome}
+use Rattle.spi.specs.Spi.{Burst, headerOf, firstWord, burstSteps, burstRefusals, burstOutcome}
 use Rattle.cue.specs.Records.{Listed, recordsOf}
 use Rattle.cue.specs.Records
 use Rattle.interlock.specs.Guard.{soundness, writesProtected, protected}

@@ -5,8 +5,6 @@ mod walk;
 use card::check;
 use card::run;
 use card::run::RanList;
-use card::spi;
-use card::spi::BurstAnswer;
 use cue::CompileAnswer;
 use cue::plan;
 use lbp16::Refusal;
@@ -20,7 +18,7 @@ ghost use Prim.Native.Nat.{ℕ, _≤_};
 ghost use Rattle.lbp16.specs.Answer.{Answer};
 ghost use Rattle.packet.specs.Verdict.{answerTo, verdictListed};
 ghost use Rattle.card.specs.Run.{checkedList, ranList, mostElements};
-ghost use Rattle.card.specs.Spi.{burstListed, burstLeft, mostInBurst};
+ghost use Rattle.spi.specs.Spi.{burstLeft, mostInBurst};
 ghost use Rattle.interlock.specs.Guard.{soundness, protected};
 ghost use Rattle.interlock.specs.Guarded.{guardedCheck, guardedRun, promised, guardedBurst, guardedList};
 ghost use Rattle.interlock.specs.Inside.{insteadOf};
@@ -110,21 +108,21 @@ fn promises_protected(words: &[u32], guard: &[u32]) -> bool
 }
 
 // What the plain burst answers and leaves, but for one that would be accepted and promises to write a protected byte.
-pub fn burst(words: &[u32], store: &mut [u8], answer: &mut [u32], guard: &[u32]) -> BurstAnswer
+pub fn burst(words: &[u32], store: &mut [u8], answer: &mut [u32], guard: &[u32]) -> Verdict
     ensures left { λ r. ⌜ burstLeft r (now (store .exit)) (now (answer .exit))
         ≡ guardedBurst (now (guard .entry)) (now (words .entry)) (now (store .entry)) (now (answer .entry)) ⌝ }
-    ensures bounded { λ r. ⌜ ((n : ℕ) → burstListed r ≡ Answer.accepted (n ∷ []) → n ≤ mostInBurst) ⌝ }
+    ensures bounded { λ r. ⌜ ((n : ℕ) → verdictListed r ≡ Answer.accepted (n ∷ []) → n ≤ mostInBurst) ⌝ }
 {
     let sound = ranges::soundness(guard);
     if let Verdict::Refused(refusal) = sound {
-        return BurstAnswer::Refused(refusal);
+        return Verdict::Refused(refusal);
     }
     if !promises_protected(words, guard) {
         return spi::burst(words, store, answer);
     }
     let plain = spi::refusal_of(words, store, answer);
     let number = rule::first_of(plain == 0, 71, plain);
-    BurstAnswer::Refused(Refusal { number, place: 0 })
+    Verdict::Refused(Refusal { number, place: 0 })
 }
 
 // The number of a cue list's records, or the compiler's refusal, or 71 and the first record that writes a protected byte.

@@ -5,7 +5,7 @@ use mathlib.Core.Path.{sym, _∙_}
 use native.Mathlib.Omega.{arith}
 use lib.ListN.{length, length-take, length-drop}
 use Rattle.lbp16.specs.Pointer.{pointersOf}
-use Rattle.interlock.proofs.PlaceLaws.{command-some, Walk, walk-begin, walk-end, walk-whole, walk-found, walk-next}
+use Rattle.interlock.proofs.PlaceLaws.{some-bytes, Walk, walk-begin, walk-end, walk-whole, walk-found, walk-next}
 
 abbrev Inv-loop : tie.InvT-loop
 Inv-loop packet pointers guard rest₀ p₀ rest p = Walk guard packet (pointersOf pointers) p rest
@@ -66,7 +66,7 @@ part-rest-end c = search needs
 
 loop-less : tie.Need-loop-less Inv-loop μ-loop
 loop-less c =
-    let two = command-some _ _ (c .before .before .command-bytes .ensures) in
+    let two = some-bytes _ _ (c .before .before .command-bytes .ensures) in
     let whole = c .before .if2 .left in
     simp (length-take, length-drop) (omega arith)
 
