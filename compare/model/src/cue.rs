@@ -2,6 +2,7 @@
 
 use crate::store::Space;
 use crate::Refusal;
+use std::ops::Range;
 
 /// The most records that a list may have.
 pub const MOST_RECORDS: u64 = 100_000;
@@ -32,12 +33,17 @@ impl Record {
         }
     }
 
+    /// The bytes of the store that its element stands in.
+    pub fn cell(&self) -> Range<usize> {
+        let first = self.space.place(self.address);
+        first..first + self.space.element() as usize
+    }
+
     /// Does the record alone: a read adds the element's bytes to `values`, a write changes the
     /// element and nothing else.
     pub fn run(&self, store: &mut [u8], values: &mut Vec<u8>) {
-        let first = self.space.place(self.address);
-        let element = self.space.element() as usize;
-        let cell = &mut store[first..first + element];
+        let cell = &mut store[self.cell()];
+        let element = cell.len();
         match self.action {
             Action::Read => values.extend_from_slice(cell),
             Action::Write(value) => cell.copy_from_slice(&value.to_le_bytes()[..element]),

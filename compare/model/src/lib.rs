@@ -6,6 +6,7 @@
 
 pub mod area;
 pub mod cue;
+pub mod guard;
 pub mod independent;
 pub mod packet;
 pub mod packing;

@@ -139,6 +139,13 @@ impl Command<'_> {
         bytes
     }
 
+    /// The bytes of the store that it writes, unless it reads.
+    pub(crate) fn written(&self) -> Option<Range<usize>> {
+        let start = self.area.space.start();
+        let cells = self.cells();
+        matches!(self.action, Action::Write(_)).then(|| start + cells.start..start + cells.end)
+    }
+
     /// The bytes of the area that the elements stand in.
     fn cells(&self) -> Range<usize> {
         let first = self.address as usize;
@@ -175,6 +182,11 @@ impl<'a> Walk<'a> {
 
     pub(crate) fn at_end(&self) -> bool {
         self.rest.is_empty()
+    }
+
+    /// The offset of the next command.
+    pub(crate) fn place(&self) -> u64 {
+        self.place
     }
 
     /// The next command, or the lowest number that it is refused with.

@@ -2,6 +2,7 @@
 
 use crate::store::{Space, STORE_BYTES};
 use crate::{Refusal, HIGHEST_COUNT};
+use std::ops::Range;
 
 const READ: u8 = 0xA;
 const WRITE: u8 = 0xB;
@@ -38,6 +39,17 @@ impl Header {
             | u32::from(self.increment) << 11
             | u32::from(self.count) << 4)
     }
+
+    pub(crate) fn is_write(self) -> bool {
+        self.command == WRITE
+    }
+
+    /// The bytes of the store that the promised elements stand in.
+    pub(crate) fn cells(self) -> Range<usize> {
+        let first = Space::Registers.place(self.address.into());
+        let elements = if self.increment { self.count } else { 1 };
+        first..first + 4 * usize::from(elements)
+    }
 }
 
 fn is_command(command: u8) -> bool {
@@ -49,11 +61,7 @@ fn is_command(command: u8) -> bool {
 /// `answer` has as many words as are sent. A burst that was cut short, with fewer words than its
 /// header promises, does those that came.
 pub fn burst(words: &[u32], store: &mut [u8], answer: &mut [u32]) -> Result<u64, Refusal> {
-    if store.len() != STORE_BYTES || answer.len() != words.len() {
-        return Err(Refusal::whole(1));
-    }
-    let header = check(words).map_err(Refusal::whole)?;
-
+    let header = start(words, store, answer)?;
     let step = if header.increment { 4 } else { 0 };
     let first = Space::Registers.place(header.address.into());
     let places = (0..usize::from(header.count)).map(|k| first + k * step);
@@ -71,6 +79,14 @@ pub fn burst(words: &[u32], store: &mut [u8], answer: &mut [u32]) -> Result<u64,
     Ok(words[1..].len() as u64)
 }
 
+/// The header of a good burst with rooms of the right lengths.
+pub(crate) fn start(words: &[u32], store: &[u8], answer: &[u32]) -> Result<Header, Refusal> {
+    if store.len() != STORE_BYTES || answer.len() != words.len() {
+        return Err(Refusal::whole(1));
+    }
+    check(words).map_err(Refusal::whole)
+}
+
 /// The header of a good burst, or the lowest number that it is refused with.
 fn check(words: &[u32]) -> Result<Header, u32> {
     let header = Header::from_word(*words.first().ok_or(31u32)?);
@@ -80,14 +96,11 @@ fn check(words: &[u32]) -> Result<Header, u32> {
     if header.count == 0 {
         return Err(33);
     }
-    let count = u32::from(header.count);
-    if words.len() > 1 + count as usize {
+    if words.len() > 1 + usize::from(header.count) {
         return Err(34);
     }
     // All that is promised must be in the space, whether it came or not.
-    let address = u32::from(header.address);
-    let elements = if header.increment { count } else { 1 };
-    if address % 4 != 0 || address + 4 * elements > Space::Registers.bytes() {
+    if !header.address.is_multiple_of(4) || header.cells().end > Space::Registers.bytes() as usize {
         return Err(35);
     }
     Ok(header)
