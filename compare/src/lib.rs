@@ -22,6 +22,7 @@ pub mod rng;
 pub mod salvage;
 pub mod shows;
 pub mod sserial;
+pub mod state;
 pub mod tally;
 pub mod tight;
 pub mod trace;

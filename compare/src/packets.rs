@@ -3,9 +3,9 @@
 
 use crate::drafts;
 use crate::info;
-use crate::lent::Lent;
 use crate::reasons::{Card, Reasons};
 use crate::rng::Rng;
+use crate::state::{Rooms, State};
 use crate::tally::Tally;
 use crate::{
     hex, numbers, packet_count, same_answer, same_count, same_input, status_cell, wrapped, Answer,
@@ -14,7 +14,7 @@ use crate::{
 use head::exports;
 use model::area::{Area, POINTERS};
 use model::packet::{check, run};
-use model::store::{Space, COUNT_ADDRESS, STORE_BYTES, UNLOCK_ADDRESS, UNLOCK_VALUE};
+use model::store::{Space, UNLOCK_ADDRESS, UNLOCK_VALUE};
 use model::PACKET_BYTES;
 
 const ENDINGS: [u32; 13] = [0, 1, 2, 3, 4, 5, 6, 7, 8, 9, 10, 11, 12];
@@ -82,9 +82,7 @@ const LATER: [&str; 10] = [
 pub fn compare(seed: u64, count: u64) -> Outcome {
     let mut part = Part {
         rng: Rng::new(seed),
-        store: Lent::new("store", STORE_BYTES, 0),
-        pointers: Lent::new("pointers", POINTERS, 0),
-        reply: Lent::new("reply", PACKET_BYTES, 0),
+        card: State::default(),
         tally: Tally::new("packets", &ENDINGS, &SITUATIONS),
         checks: Tally::new("checks", &ENDINGS, &CHECK_SITUATIONS),
         reasons: Reasons::default(),
@@ -93,7 +91,7 @@ pub fn compare(seed: u64, count: u64) -> Outcome {
     for case in 0..count {
         if case % 4_096 == 0 {
             let rng = &mut part.rng;
-            part.store.change(|store| rng.fill(store));
+            part.card.store.change(|store| rng.fill(store));
         }
         let result = part.case();
         result.map_err(|what| format!("packet {case}: {what}"))?;
@@ -103,58 +101,34 @@ pub fn compare(seed: u64, count: u64) -> Outcome {
 
 struct Part {
     rng: Rng,
-    store: Lent<u8>,
-    pointers: Lent<u32>,
-    reply: Lent<u8>,
+    card: State,
     tally: Tally,
     checks: Tally,
     reasons: Reasons,
     info: Tally,
 }
 
-/// The lengths of what is lent.
-#[derive(PartialEq, Eq)]
-struct Rooms {
-    store: usize,
-    pointers: usize,
-    reply: usize,
-}
-
-impl Rooms {
-    const RIGHT: Rooms = Rooms {
-        store: STORE_BYTES,
-        pointers: POINTERS,
-        reply: PACKET_BYTES,
-    };
-}
-
 impl Part {
     fn case(&mut self) -> Result<(), String> {
-        self.change_card();
-        let pointers = self.card_pointers();
-        let packet = drafts::packet(&mut self.rng, pointers);
-        self.spoil_pointer();
-        let rooms = self.rooms();
         let rng = &mut self.rng;
-        self.reply.change(|reply| rng.fill(reply));
-        let (checked, ran) = self
-            .check_and_run(&packet, &rooms)
-            .map_err(|what| self.describe(&what, &packet, &rooms))?;
+        self.card.change(rng);
+        let pointers = self.card.card_pointers();
+        let packet = drafts::packet(rng, pointers);
+        self.card.spoil_pointer(rng);
+        let rooms = Rooms::any(rng);
+        self.card.reply.change(|reply| rng.fill(reply));
+        let (checked, ran) = self.check_and_run(&packet, &rooms).map_err(|what| {
+            let what = self.card.describe(&what, &rooms);
+            format!("{what}\npacket of {}", hex(&packet))
+        })?;
         self.count_check(checked, &rooms);
         self.count(&packet, ran);
         if rooms == Rooms::RIGHT {
-            let before = self.pointers.before().first_chunk();
+            let before = self.card.pointers.before().first_chunk();
             let before = *before.expect("eight pointers");
             info::count(&mut self.info, &packet, before, ran);
         }
-
-        // A refused pointer is only good for one case.
-        let pointers = match ran.0 {
-            0 => self.card_pointers(),
-            _ => pointers,
-        };
-        self.store.keep();
-        self.pointers.put(0, &pointers);
+        self.card.keep(ran.0 != 0, pointers);
         Ok(())
     }
 
@@ -172,8 +146,8 @@ impl Part {
     }
 
     fn check(&mut self, packet: &[u8], rooms: &Rooms) -> Result<Answer, String> {
-        let (library_store, model_store) = self.store.lend(rooms.store);
-        let (library_pointers, model_pointers) = self.pointers.lend(rooms.pointers);
+        let (library_store, model_store) = self.card.store.lend(rooms.store);
+        let (library_pointers, model_pointers) = self.card.pointers.lend(rooms.pointers);
         let lent = packet.to_vec();
         let answer = head::check(&lent, library_store, library_pointers);
         let expected = check(packet, model_store, model_pointers);
@@ -181,26 +155,26 @@ impl Part {
         let answer = wrapped(&answer, |&length| length as u64);
         same_answer(answer, expected)
             .and_then(|()| same_input(&lent, packet))
-            .and_then(|()| self.compare(true))
+            .and_then(|()| self.card.compare(true))
             .map_err(|what| format!("check: {what}"))?;
         Ok(expected)
     }
 
     fn why(&mut self, packet: &[u8], rooms: &Rooms, checked: Answer) -> Result<(), String> {
-        let (store, _) = self.store.lend(rooms.store);
-        let (pointers, _) = self.pointers.lend(rooms.pointers);
+        let (store, _) = self.card.store.lend(rooms.store);
+        let (pointers, _) = self.card.pointers.lend(rooms.pointers);
         let card = Card { store, pointers };
         let reasons = &mut self.reasons;
         reasons
             .case(&mut self.rng, packet, &card, checked)
-            .and_then(|()| self.compare(true))
+            .and_then(|()| self.card.compare(true))
             .map_err(|what| format!("why: {what}"))
     }
 
     fn run(&mut self, packet: &[u8], rooms: &Rooms) -> Result<Answer, String> {
-        let (library_store, model_store) = self.store.lend(rooms.store);
-        let (library_pointers, model_pointers) = self.pointers.lend(rooms.pointers);
-        let (library_reply, model_reply) = self.reply.lend(rooms.reply);
+        let (library_store, model_store) = self.card.store.lend(rooms.store);
+        let (library_pointers, model_pointers) = self.card.pointers.lend(rooms.pointers);
+        let (library_reply, model_reply) = self.card.reply.lend(rooms.reply);
         let lent = packet.to_vec();
         let (number, value, elements) =
             exports::run(&lent, library_store, library_pointers, library_reply);
@@ -213,105 +187,10 @@ impl Part {
             return Err(format!("{elements} elements moved"));
         }
         same_input(&lent, packet)?;
-        self.compare(expected.0 != 0)?;
+        self.card.compare(expected.0 != 0)?;
         self.tally
             .situation(ALL_ELEMENTS, elements == MOST_ELEMENTS);
         Ok(expected)
-    }
-
-    fn compare(&mut self, unchanged: bool) -> Result<(), String> {
-        self.store.compare(unchanged)?;
-        self.pointers.compare(unchanged)?;
-        self.reply.compare(unchanged)
-    }
-
-    fn describe(&self, what: &str, packet: &[u8], rooms: &Rooms) -> String {
-        format!(
-            "{what}\nstore of {} bytes, reply room of {}, {} pointers: {:?}\npacket of {}",
-            rooms.store,
-            rooms.reply,
-            rooms.pointers,
-            &self.pointers.before()[..rooms.pointers],
-            hex(packet)
-        )
-    }
-
-    fn card_pointers(&self) -> [u32; POINTERS] {
-        let model = self.pointers.model().first_chunk();
-        *model.expect("eight pointers")
-    }
-
-    /// Now and then changes some cells and pointers, as nobody else does between packets.
-    fn change_card(&mut self) {
-        let rng = &mut self.rng;
-        if rng.one_in(4) {
-            let bytes = rng.number().to_le_bytes();
-            let at = match rng.coin() {
-                true => rng.below(256),
-                false => rng.between(65_500, STORE_BYTES - bytes.len()),
-            };
-            self.store.put(at, &bytes);
-        }
-        if rng.one_in(8) {
-            let value = rng.pick(&[UNLOCK_VALUE, UNLOCK_VALUE, 0xFFFF, 0x0100, 0x0001]);
-            let cell = status_cell(UNLOCK_ADDRESS);
-            self.store.put(cell.start, &value.to_le_bytes());
-        }
-        if rng.one_in(8) {
-            let any = rng.number() as u16;
-            let value = rng.pick(&[any, any, 0xFFFF, 0xFFFE, 0x00FF]);
-            let cell = status_cell(COUNT_ADDRESS);
-            self.store.put(cell.start, &value.to_le_bytes());
-        }
-        for area in Area::ALL {
-            if self.rng.one_in(8) {
-                let pointer = good_pointer(&mut self.rng, area);
-                self.pointers.put(area.index(), &[pointer]);
-            }
-        }
-    }
-
-    /// Now and then puts one pointer above its area's size.
-    fn spoil_pointer(&mut self) {
-        if !self.rng.one_in(60) {
-            return;
-        }
-        let area = self.rng.pick(&Area::ALL);
-        let size = area.bytes();
-        let more = self.rng.between(1, 200_000) as u32;
-        let element = area.element();
-        let above = [
-            size + 1,
-            size + element,
-            size + more,
-            u32::MAX,
-            u32::MAX - 1,
-        ];
-        let pointer = self.rng.pick(&above);
-        self.pointers.put(area.index(), &[pointer]);
-    }
-
-    /// The lengths of what is lent: now and then wrong ones.
-    fn rooms(&mut self) -> Rooms {
-        let rng = &mut self.rng;
-        let mut rooms = Rooms::RIGHT;
-        if rng.one_in(50) {
-            let faults = rng.between(1, 7);
-            let wrong = |length: usize, rng: &mut Rng| {
-                let lengths = [0, 1, length - 1, length + 1, length / 2, length + 32];
-                rng.pick(&lengths)
-            };
-            if faults & 1 != 0 {
-                rooms.store = wrong(STORE_BYTES, rng);
-            }
-            if faults & 2 != 0 {
-                rooms.reply = wrong(PACKET_BYTES, rng);
-            }
-            if faults & 4 != 0 {
-                rooms.pointers = wrong(POINTERS, rng);
-            }
-        }
-        rooms
     }
 
     fn count_check(&mut self, (number, _): Answer, rooms: &Rooms) {
@@ -333,11 +212,11 @@ impl Part {
 
     fn count_accepted(&mut self, packet: &[u8], length: u64) {
         let eeprom = Space::Eeprom.start()..Space::Status.start();
-        let changed = self.store.before()[eeprom.clone()] != self.store.model()[eeprom];
-        let count = packet_count(self.store.before());
-        let count_after = packet_count(self.store.model());
-        let before = self.pointers.before();
-        let after = self.pointers.model();
+        let changed = self.card.store.before()[eeprom.clone()] != self.card.store.model()[eeprom];
+        let count = packet_count(self.card.store.before());
+        let count_after = packet_count(self.card.store.model());
+        let before = self.card.pointers.before();
+        let after = self.card.pointers.model();
         let at = |area: &Area| area.index();
         let moved_to_end =
             |area: &Area| after[at(area)] == area.bytes() && before[at(area)] != area.bytes();
@@ -358,12 +237,12 @@ impl Part {
     }
 
     fn count_refused(&mut self, packet: &[u8], number: u32, place: u64) {
-        let cell = &self.store.before()[status_cell(UNLOCK_ADDRESS)];
+        let cell = &self.card.store.before()[status_cell(UNLOCK_ADDRESS)];
         let stale = cell == UNLOCK_VALUE.to_le_bytes();
         let unlock = UNLOCK_VALUE.to_le_bytes();
         let before_it = &packet[..place as usize];
         let unlocked = before_it.windows(2).any(|bytes| bytes == unlock);
-        let huge = self.pointers.before()[..POINTERS].contains(&u32::MAX);
+        let huge = self.card.pointers.before()[..POINTERS].contains(&u32::MAX);
         let tally = &mut self.tally;
         tally.situation(STALE_UNLOCK, number == 10 && stale && !unlocked);
         tally.situation(EEPROM_KEPT, number == 10 && unlocked);
@@ -372,20 +251,5 @@ impl Part {
         if (3..=12).contains(&number) {
             tally.situation(LATER[number as usize - 3], place > 0);
         }
-    }
-}
-
-/// A pointer that no rule turns away: aligned or not, in the area or at its end.
-pub(crate) fn good_pointer(rng: &mut Rng, area: Area) -> u32 {
-    let size = area.bytes();
-    let element = area.element();
-    match rng.below(8) {
-        0 => 0,
-        1 => size,
-        2 => size - element,
-        3 => size - 1,
-        4 => rng.pick(&[0x18, 0x1A, 0x1E, 0x20]).min(size),
-        5 => rng.below(size as usize + 1) as u32,
-        _ => element * rng.below((size / element) as usize) as u32,
     }
 }

@@ -4,7 +4,7 @@ use super::{File, Lent, Room};
 use crate::recordings::{self, Recording};
 use crate::rng::Rng;
 use crate::words::{to_bytes, FIELDS};
-use crate::{bursts, cues, drafts, numbers, packets, status_cell};
+use crate::{bursts, cues, drafts, numbers, state, status_cell};
 use model::area::{Area, POINTERS};
 use model::packet::{check, run};
 use model::packing::compile;
@@ -18,9 +18,17 @@ use model::PACKET_BYTES;
 const SPARE: usize = 32;
 
 pub struct Card {
-    store: Vec<u8>,
-    pointers: Vec<u32>,
-    reply: Vec<u8>,
+    pub(super) store: Vec<u8>,
+    pub(super) pointers: Vec<u32>,
+    pub(super) reply: Vec<u8>,
+}
+
+/// A packet, the lengths of store, pointers and reply that are lent with it, and the pointers to go on
+/// with where it is refused.
+pub(super) struct Drawn {
+    pub packet: Vec<u8>,
+    pub rooms: [usize; 3],
+    pub good: Vec<u32>,
 }
 
 impl Card {
@@ -36,27 +44,39 @@ impl Card {
 
     pub fn packets(&mut self, file: &mut File, count: usize) {
         for _ in 0..count {
-            self.change(&mut file.rng);
-            let good = self.pointers.clone();
-            let front = *self.pointers.first_chunk().expect("eight pointers");
-            let packet = drafts::packet(&mut file.rng, front);
-            if file.rng.one_in(60) {
-                let area = file.rng.pick(&Area::ALL);
-                self.pointers[area.index()] = file.rng.pick(&[area.bytes() + 1, u32::MAX]);
-            }
-            let wrong = file.rng.one_in(50);
-            let mut room = |length: usize| match wrong && file.rng.coin() {
-                true => file
-                    .rng
-                    .pick(&[0, 1, length - 1, length + 1, length + SPARE]),
-                false => length,
-            };
-            let rooms = [room(STORE_BYTES), room(POINTERS), room(PACKET_BYTES)];
+            let Drawn {
+                packet,
+                rooms,
+                good,
+            } = self.drawn(&mut file.rng);
             self.check(file, &packet, rooms);
             self.why(file, &packet, rooms);
             if !self.run(file, &packet, rooms) {
                 self.pointers = good;
             }
+        }
+    }
+
+    /// A packet for the card as it is now, which may have been changed.
+    pub(super) fn drawn(&mut self, rng: &mut Rng) -> Drawn {
+        self.change(rng);
+        let good = self.pointers.clone();
+        let front = *self.pointers.first_chunk().expect("eight pointers");
+        let packet = drafts::packet(rng, front);
+        if rng.one_in(60) {
+            let area = rng.pick(&Area::ALL);
+            self.pointers[area.index()] = rng.pick(&[area.bytes() + 1, u32::MAX]);
+        }
+        let wrong = rng.one_in(50);
+        let mut room = |length: usize| match wrong && rng.coin() {
+            true => rng.pick(&[0, 1, length - 1, length + 1, length + SPARE]),
+            false => length,
+        };
+        let rooms = [room(STORE_BYTES), room(POINTERS), room(PACKET_BYTES)];
+        Drawn {
+            packet,
+            rooms,
+            good,
         }
     }
 
@@ -78,7 +98,7 @@ impl Card {
         }
         for area in Area::ALL {
             if rng.one_in(8) {
-                self.pointers[area.index()] = packets::good_pointer(rng, area);
+                self.pointers[area.index()] = state::good_pointer(rng, area);
             }
         }
     }
@@ -153,17 +173,8 @@ impl Card {
     pub fn bursts(&mut self, file: &mut File, count: usize) {
         for _ in 0..count {
             let words = bursts::any(&mut file.rng);
-            let store = match file.rng.one_in(30) {
-                true => file
-                    .rng
-                    .pick(&[0, 65_536, STORE_BYTES - 1, STORE_BYTES + 1]),
-                false => STORE_BYTES,
-            };
-            let room = match file.rng.one_in(30) {
-                true => words.len() + file.rng.between(1, 4),
-                false => words.len(),
-            };
-            let before: Vec<u32> = (0..room).map(|_| file.rng.word()).collect();
+            let store = burst_store(&mut file.rng);
+            let before = burst_room(&mut file.rng, words.len());
             let (mut answer, old) = (before.clone(), self.store.clone());
             let done = burst(&words, &mut self.store[..store], &mut answer);
             let (number, value) = numbers(&done, |&elements| elements);
@@ -235,4 +246,21 @@ impl Card {
         }
         recording
     }
+}
+
+/// The length of a burst's store: now and then a wrong one.
+pub(super) fn burst_store(rng: &mut Rng) -> usize {
+    match rng.one_in(30) {
+        true => rng.pick(&[0, 65_536, STORE_BYTES - 1, STORE_BYTES + 1]),
+        false => STORE_BYTES,
+    }
+}
+
+/// Room for a burst's answer: now and then too much.
+pub(super) fn burst_room(rng: &mut Rng, words: usize) -> Vec<u32> {
+    let room = match rng.one_in(30) {
+        true => words + rng.between(1, 4),
+        false => words,
+    };
+    (0..room).map(|_| rng.word()).collect()
 }
