@@ -45,7 +45,7 @@
  */
 
 /* The head controller: LBP16 packets and SPI bursts on a card store, command words and burst headers, cue lists, recorded
- * shows, and the fields and readings of daughter cards.
+ * shows, guards over cells that nothing may write, and the fields and readings of daughter cards.
  *
  * Every function but head_panel_report, which refuses nothing and returns nothing, returns 0 if it accepts, else the
  * number of the refusal.
@@ -62,7 +62,8 @@
  *   - head_table, head_field, head_pack and head_unpack give 41, then 42, then 40;
  *   - head_salvage gives 26, then 27; head_panel_reading 44, then 45, then 46;
  *   - 26 of head_compile and head_tighten, and 50 and 51, are given only where the lists are good;
- *   - head_judge gives 1, then the first fault in the recording.
+ *   - head_judge gives 1, then the first fault in the recording;
+ *   - the functions with a guard give 70 before all else, and 71 only where all else is good.
  *
  * What a caller owes:
  *   - A buffer is given as a pointer and then its number of elements (bytes, or numbers of 32 or of 64 bits). This number has
@@ -520,6 +521,101 @@ uint32_t head_judge(const uint8_t *show, uint64_t show_length,
                     uint8_t *store, uint64_t store_length,
                     uint32_t *pointers, uint64_t pointers_length,
                     uint64_t *index, uint64_t *place);
+
+/* The interlock: a guard names bytes of the store that no packet, burst or list may write, whatever it holds. It is numbers of
+ * 32 bits, two for each range: its first byte in the store, and its number of bytes. A register at address a is the range a, 4;
+ * a cell at address a of space 2 the range 65,536 + a, 2. A range of no bytes protects nothing.
+ *
+ * The guard is lent to each call and is not changed. After any calls of head_guarded_run and head_guarded_spi with the same
+ * guard, on any store and pointers, every protected byte is as it was before them.
+ *
+ *   70  the guard is not sound: half a pair at the end, a pair beyond the 64th, first byte plus bytes above 65,728 (whatever
+ *       the sum), or a byte of the unlock cell (0x1A of space 6) or of the packet count (0x0A of space 6), which every accepted
+ *       packet changes. The place is the index of the earliest pair at fault, from 0. This comes before all else, 1 too.
+ *   71  a write to a protected cell, by what would otherwise be accepted. Writing the value that stands there is a write. A
+ *       read is never refused for the guard. */
+
+/* The most ranges that a guard may have. */
+#define HEAD_GUARD_RANGES 64
+
+/* Says whether a guard is sound.
+ *
+ *   guard  two numbers for each range, guard_length numbers in all; may be empty
+ *   value  takes the number of ranges, or the refusal's place
+ *
+ *   70  as above
+ */
+uint32_t head_guard(const uint32_t *guard, uint64_t guard_length, uint64_t *value);
+
+/* Checks one packet with a guard: what head_guarded_run would answer, with a reply room of 1,472 bytes. Nothing is changed.
+ *
+ *   packet, store, pointers, value  as in head_check
+ *   guard                           as in head_guard
+ *
+ * Returns what head_check returns, with the same value, but for these:
+ *
+ *   70  as above, before all else
+ *   71  head_check accepts the packet, and it writes a protected byte; the place is the offset of the first command that does
+ */
+uint32_t head_guarded_check(const uint8_t *packet, uint64_t packet_length,
+                            const uint8_t *store, uint64_t store_length,
+                            const uint32_t *pointers, uint64_t pointers_length,
+                            const uint32_t *guard, uint64_t guard_length,
+                            uint64_t *value);
+
+/* Runs one packet on the store with a guard.
+ *
+ *   packet, store, pointers, reply, value, elements  as in head_run
+ *   guard                                            as in head_guard
+ *
+ * Does and returns what head_run does, but for these, which change nothing:
+ *
+ *   70  as above, before all else
+ *   71  head_run would accept the packet, and it writes a protected byte; the place is the offset of the first command that
+ *       does
+ */
+uint32_t head_guarded_run(const uint8_t *packet, uint64_t packet_length,
+                          uint8_t *store, uint64_t store_length,
+                          uint32_t *pointers, uint64_t pointers_length,
+                          uint8_t *reply, uint64_t reply_length,
+                          const uint32_t *guard, uint64_t guard_length,
+                          uint64_t *value, uint64_t *elements);
+
+/* Runs one SPI burst on space 0 of the store with a guard.
+ *
+ *   words, store, answer, value  as in head_spi
+ *   guard                        as in head_guard
+ *
+ * Does and returns what head_spi does, but for these, which change nothing:
+ *
+ *   70  as above, before all else
+ *   71  head_spi would accept the burst, which is a write, and a cell that its header counts is protected, whether its word
+ *       came or not; place 0
+ */
+uint32_t head_guarded_spi(const uint32_t *words, uint64_t words_length,
+                          uint8_t *store, uint64_t store_length,
+                          uint32_t *answer, uint64_t answer_length,
+                          const uint32_t *guard, uint64_t guard_length,
+                          uint64_t *value);
+
+/* Holds a cue list against a guard, before the show. Nothing is changed but *value.
+ *
+ *   list   the records, list_length bytes; may be empty
+ *   guard  as in head_guard
+ *   value  takes the number of records, or the refusal's place
+ *
+ * Returns 0 exactly if the guard is sound, the list is good and no record writes a protected byte. Then every packet of
+ * head_compile's output for the list, and of every output that head_tight_check accepts for it, is accepted by
+ * head_guarded_run with this guard, from any store and pointers that 1 does not turn away. Of a list that is refused with 71
+ * head_guarded_run refuses a packet.
+ *
+ *   70        as above, before all else
+ *   21 to 24  as head_compile refuses the list
+ *   71        the list is good, and a record writes a protected byte; the place is the first that does
+ */
+uint32_t head_guarded_list(const uint8_t *list, uint64_t list_length,
+                           const uint32_t *guard, uint64_t guard_length,
+                           uint64_t *value);
 
 #ifdef __cplusplus
 }

@@ -379,6 +379,79 @@ static void lamp_panel(void)
     IS(bits, 0x42C80000);
 }
 
+static void guards(void)
+{
+    /* The EEPROM's cell 0x22, a register's last byte, and a range of no bytes in the unlock cell. */
+    static const uint32_t guard[] = { EEPROM + 0x22, 2, 0x1007, 1, UNLOCK, 0 };
+    static const uint32_t past[] = { 0, 4, 0xFFFFFFFF, 1 };
+    static const uint32_t count[] = { COUNT + 1, 1 };
+    static const uint32_t none[2 * HEAD_GUARD_RANGES + 2] = { 0 };
+    uint64_t value = 99;
+
+    IS(head_guard(guard, 6, &value), 0);
+    IS(value, 3);
+    IS(head_guard(guard, 0, &value), 0);
+    IS(value, 0);
+    IS(head_guard(guard, 5, &value), 70);
+    IS(value, 2);
+    IS(head_guard(past, 4, &value), 70);
+    IS(value, 1);
+    IS(head_guard(count, 2, &value), 70);
+    IS(value, 0);
+    IS(head_guard(none, 2 * HEAD_GUARD_RANGES, &value), 0);
+    IS(value, HEAD_GUARD_RANGES);
+    IS(head_guard(none, 2 * HEAD_GUARD_RANGES + 2, &value), 70);
+    IS(value, HEAD_GUARD_RANGES);
+}
+
+static void guarded(void)
+{
+    static const uint32_t cell[] = { EEPROM + 0x22, 2 }, beside[] = { EEPROM + 0x24, 2, 0x1008, 4 };
+    static const uint32_t unmoved[HEAD_POINTERS] = { 0 };
+    static const uint32_t words[] = { 0x1000B830, 1, 2 };
+    uint32_t answer[] = { 9, 9, 9 };
+    uint64_t value = 99, elements = 99;
+
+    /* P7's packet writes the cell with its second command; without the unlock it is refused as without the guard. */
+    memset(store, 0, sizeof store);
+    memset(before, 0, sizeof before);
+    memset(pointers, 0, sizeof pointers);
+    IS(head_guarded_check(UNLOCKED, store, sizeof store, pointers, HEAD_POINTERS, cell, 2, &value), 71);
+    IS(value, 6);
+    IS(head_guarded_run(UNLOCKED, store, sizeof store, pointers, HEAD_POINTERS, reply, sizeof reply, cell, 2, &value, &elements), 71);
+    IS(value, 6);
+    IS(elements, 0);
+    IS(head_guarded_check(LOCKED, store, sizeof store, pointers, HEAD_POINTERS, cell, 2, &value), 10);
+    IS(head_guarded_run(UNLOCKED, store, 0, pointers, HEAD_POINTERS, reply, sizeof reply, cell, 1, &value, &elements), 70);
+    IS(value, 0);
+    SAME(store, before, sizeof store);
+    SAME(pointers, unmoved, sizeof pointers);
+    IS(head_guarded_run(UNLOCKED, store, sizeof store, pointers, HEAD_POINTERS, reply, sizeof reply, beside, 4, &value, &elements), 0);
+    IS(elements, 3);
+    memcpy(before + EEPROM + 0x20, p7_output + 14, 4);
+    before[COUNT] = 1;
+    SAME(store, before, sizeof store);
+
+    /* Three registers are promised and two came. */
+    IS(head_guarded_spi(words, 3, store, sizeof store, answer, 3, beside, 4, &value), 71);
+    IS(value, 0);
+    IS(answer[1], 9);
+    SAME(store, before, sizeof store);
+    IS(head_guarded_spi(words, 3, store, sizeof store, answer, 3, cell, 2, &value), 0);
+    IS(value, 2);
+    IS(answer[1], 0);
+    before[0x1000] = 1;
+    before[0x1004] = 2;
+    SAME(store, before, sizeof store);
+
+    IS(head_guarded_list(p7, sizeof p7, beside, 4, &value), 0);
+    IS(value, 2);
+    IS(head_guarded_list(p7, sizeof p7, cell, 2, &value), 71);
+    IS(value, 1);
+    IS(head_guarded_list(too_wide, sizeof too_wide, cell, 2, &value), 24);
+    IS(value, 1);
+}
+
 int main(void)
 {
     packets();
@@ -393,6 +466,8 @@ int main(void)
     recordings();
     daughter_cards();
     lamp_panel();
+    guards();
+    guarded();
     printf("%lu answers, %lu wrong\n", checked, wrong);
     return wrong != 0;
 }

@@ -9,6 +9,7 @@
 static uint8_t store[HEAD_STORE_BYTES], reply[HEAD_REPLY_BYTES], packet[HEAD_REPLY_BYTES];
 static uint8_t show[8 + 2 * HEAD_REPLY_BYTES], fields[HEAD_FIELDS];
 static uint32_t pointers[HEAD_POINTERS], words[128], answer[128];
+static uint32_t guard[128], ranges;
 static uint64_t value, elements;
 static uint32_t length, refused, expected, moved;
 static int well;
@@ -36,6 +37,12 @@ static void report(const char *name, void (*call)(void), uint32_t times)
 static void run(void)
 {
     refused = head_run(packet, length, store, sizeof store, pointers, HEAD_POINTERS, reply, sizeof reply, &value, &elements);
+}
+
+static void guarded_run(void)
+{
+    refused = head_guarded_run(packet, length, store, sizeof store, pointers, HEAD_POINTERS, reply, sizeof reply, guard, 2 * ranges,
+                               &value, &elements);
 }
 
 static void check(void)
@@ -107,12 +114,27 @@ static void record(void)
     memcpy(show + 8 + sizeof packet, reply, sizeof reply);
 }
 
+/* The packet with guards of 4 and of 64 ranges, of 4 bytes each, that it does not write. */
+static void report_guarded(const char *with_4, const char *with_64)
+{
+    for (uint32_t k = 0; k < 64; k++) {
+        guard[2 * k] = 0x8000 + 8 * k;
+        guard[2 * k + 1] = 4;
+    }
+    ranges = 4;
+    report(with_4, guarded_run, 40);
+    ranges = 64;
+    report(with_64, guarded_run, 40);
+}
+
 static void words_of_4(void)
 {
     blocks(0x4280, 114, 0);
     report_run("reads368", 1472);
+    report_guarded("reads368guard4", "reads368guard64");
     blocks(0xC280, 111, 4);
     report_run("writes365", 1460);
+    report_guarded("writes365guard4", "writes365guard64");
     blocks(0x4200, 114, 0);
     report_run("reads368still", 1472);
     blocks(0xC200, 111, 4);
@@ -154,9 +176,11 @@ static void small(void)
     report_run("small100", 400);
     singles(0x4280, 0, 368);
     report_run("small368", 1472);
+    report_guarded("small368guard4", "small368guard64");
     report("check368", check, 40);
     singles(0xC280, 4, 184);
     report_run("small184", 736);
+    report_guarded("small184guard4", "small184guard64");
 }
 
 static void refusals(void)
@@ -169,6 +193,18 @@ static void refusals(void)
     expected = 11;
     report_run("refused184", 1471);
     expected = 0;
+}
+
+/* The packet with most writes, each of one element without an address, which a guard takes most for. */
+static void most_writes(void)
+{
+    pointers[2] = 0;
+    for (length = 0; length < HEAD_REPLY_BYTES;) {
+        put(0x9901);
+        put(0);
+    }
+    report("writes368of2", run, 10);
+    report_guarded("writes368of2guard4", "writes368of2guard64");
 }
 
 /* The packet that takes most: info reads of one element without an address. */
@@ -208,6 +244,7 @@ int program(const uint8_t *file)
     small();
     refusals();
     bursts();
+    most_writes();
     longest();
     return well;
 }

@@ -4,7 +4,7 @@
 #include "head.h"
 #include "machine.h"
 
-enum { PLAIN = 5, ANSWERS = 3, LENT = 4, NUMBERS = 70, MARGIN = 64, SHOWN = 10, EMPTY = 0xC3 };
+enum { PLAIN = 5, ANSWERS = 3, LENT = 5, NUMBERS = 72, MARGIN = 64, SHOWN = 10, EMPTY = 0xC3 };
 
 /* A call as it is made: what is given, answered and lent. */
 struct call {
@@ -147,6 +147,31 @@ static uint32_t judge(struct call *c)
     return head_judge(LENT_(0), LENT_(1), LENT_(2), &c->answer[0], &c->answer[1]);
 }
 
+static uint32_t guard(struct call *c)
+{
+    return head_guard(LENT_(0), &c->answer[0]);
+}
+
+static uint32_t guarded_check(struct call *c)
+{
+    return head_guarded_check(LENT_(0), LENT_(1), LENT_(2), LENT_(3), &c->answer[0]);
+}
+
+static uint32_t guarded_run(struct call *c)
+{
+    return head_guarded_run(LENT_(0), LENT_(1), LENT_(2), LENT_(3), LENT_(4), &c->answer[0], &c->answer[1]);
+}
+
+static uint32_t guarded_spi(struct call *c)
+{
+    return head_guarded_spi(LENT_(0), LENT_(1), LENT_(2), LENT_(3), &c->answer[0]);
+}
+
+static uint32_t guarded_list(struct call *c)
+{
+    return head_guarded_list(LENT_(0), LENT_(1), &c->answer[0]);
+}
+
 /* The exports, in the file's order. */
 static const struct {
     const char *name;
@@ -158,6 +183,8 @@ static const struct {
     {"head_salvage", salvage}, {"head_table", table}, {"head_field", field}, {"head_pack", pack},
     {"head_unpack", unpack}, {"head_panel_start", panel_start}, {"head_panel_report", panel_report},
     {"head_panel_reading", panel_reading}, {"head_part", part}, {"head_independent", independent}, {"head_judge", judge},
+    {"head_guard", guard}, {"head_guarded_check", guarded_check}, {"head_guarded_run", guarded_run},
+    {"head_guarded_spi", guarded_spi}, {"head_guarded_list", guarded_list},
 };
 enum { EXPORTS = sizeof exports / sizeof exports[0] };
 
@@ -177,6 +204,7 @@ ROOM(pointers, 512);
 ROOM(words, 4096);
 ROOM(answer, 4096);
 ROOM(numbers, 65536);
+ROOM(guards, 2048);
 
 #define ROOM_(name, shift) {name[0] + (shift), name[1] + (shift), sizeof name[0] - 2 * MARGIN}
 static const struct room {
@@ -185,6 +213,7 @@ static const struct room {
 } rooms[] = {
     ROOM_(input, SHIFT), ROOM_(second, SHIFT), ROOM_(output, SHIFT), ROOM_(store, SHIFT), ROOM_(reply, SHIFT),
     ROOM_(state, SHIFT), ROOM_(pointers, 0), ROOM_(words, 0), ROOM_(answer, 0), ROOM_(numbers, 0),
+    ROOM_(guards, 0),
 };
 enum { ROOMS = sizeof rooms / sizeof rooms[0] };
 

@@ -182,7 +182,7 @@ impl Part {
 }
 
 /// Fills words so that neighbours differ.
-fn vary(words: &mut [u32], start: u32) {
+pub(crate) fn vary(words: &mut [u32], start: u32) {
     let mut value = start;
     for word in words {
         *word = value;

@@ -38,6 +38,12 @@ impl Tally {
         self.calls += 1;
     }
 
+    /// How often an ending was met so far.
+    pub fn met(&self, number: u32) -> u64 {
+        let known = self.endings.iter().find(|(ending, _)| *ending == number);
+        known.expect("an ending that can arise").1
+    }
+
     /// The calls that no other tally counts.
     pub fn own_calls(&self) -> u64 {
         match self.apart {
@@ -83,7 +89,7 @@ fn named(ending: u32) -> String {
 pub fn print_endings(tallies: &[Tally]) {
     println!("\nendings met, by refusal number; 0 is accepted");
     for tally in tallies {
-        print!("{:<12}{:>8} ", tally.part, tally.calls);
+        print!("{:<15}{:>8} ", tally.part, tally.calls);
         for (ending, count) in &tally.endings {
             print!("  {ending}: {count}");
         }

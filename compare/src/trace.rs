@@ -3,6 +3,7 @@
 use model::area::{Area, POINTERS};
 use model::store::Space;
 use model::words::Fields;
+use std::ops::Range;
 
 /// A command and the state that it was met in.
 pub struct Command {
@@ -21,6 +22,17 @@ impl Command {
     pub fn reaches(&self, address: u32) -> bool {
         let end = self.address + self.moved().max(self.area.element());
         (self.address..end).contains(&address)
+    }
+
+    /// The bytes of the store that its elements stand in, unless it reads an info area.
+    pub fn cells(&self) -> Range<usize> {
+        let first = self.area.space.place(self.address);
+        first..first + self.moved().max(self.area.element()) as usize
+    }
+
+    /// The bytes of the store that it writes, if it does.
+    pub fn written(&self) -> Option<Range<usize>> {
+        self.fields.write.then(|| self.cells())
     }
 
     /// How far its pointer moves.

@@ -15,6 +15,7 @@
 
 mod card;
 mod fields;
+mod interlock;
 mod lists;
 
 use crate::rng::Rng;
@@ -28,7 +29,7 @@ pub const EMPTY: u8 = 0xC3;
 pub const UNWRITTEN: u64 = 0xA5A5_A5A5_A5A5_A5A5;
 
 /// The exports, each with all numbers that it can return.
-pub const EXPORTS: [(&str, &[u32]); 22] = [
+pub const EXPORTS: [(&str, &[u32]); 27] = [
     ("head_check", &[0, 1, 2, 3, 4, 5, 6, 7, 8, 9, 10, 11, 12]),
     ("head_run", &[0, 1, 2, 3, 4, 5, 6, 7, 8, 9, 10, 11, 12]),
     ("head_why", &[0, 1, 2, 3, 4, 5, 6, 7, 8, 9, 10, 11, 12, 13]),
@@ -51,9 +52,20 @@ pub const EXPORTS: [(&str, &[u32]); 22] = [
     ("head_part", &[0, 1, 21, 22, 23, 24, 26]),
     ("head_independent", &[0, 21, 22, 23, 24, 51]),
     ("head_judge", &[0, 1, 61, 62, 63, 64, 65]),
+    ("head_guard", &[0, 70]),
+    (
+        "head_guarded_check",
+        &[0, 1, 2, 3, 4, 5, 6, 7, 8, 9, 10, 11, 12, 70, 71],
+    ),
+    (
+        "head_guarded_run",
+        &[0, 1, 2, 3, 4, 5, 6, 7, 8, 9, 10, 11, 12, 70, 71],
+    ),
+    ("head_guarded_spi", &[0, 1, 31, 32, 33, 34, 35, 70, 71]),
+    ("head_guarded_list", &[0, 21, 22, 23, 24, 70, 71]),
 ];
 
-/// The rooms that the player has. Only the last two kinds hold numbers above a byte.
+/// The rooms that the player has. Those from the pointers on hold numbers above a byte.
 #[derive(Clone, Copy)]
 pub enum Room {
     Input,
@@ -66,9 +78,10 @@ pub enum Room {
     Words,
     Answer,
     Numbers,
+    Guard,
 }
 
-const ROOMS: usize = 10;
+const ROOMS: usize = 11;
 
 /// A room as it is lent: its bytes before and after the call.
 pub struct Lent {
@@ -137,6 +150,7 @@ pub fn file(seed: u64, size: usize) -> Result<(Vec<u8>, String), String> {
         card.packets(&mut file, 16);
         card.bursts(&mut file, 12);
         card.recordings(&mut file, 6);
+        interlock::some(&mut file, &mut card, 12);
         lists::some(&mut file, 6)?;
         fields::some(&mut file, 12);
     }

@@ -3,6 +3,7 @@
 
 mod hostmot2;
 mod options;
+mod protect;
 mod signals;
 
 use head::why::sentence;
@@ -107,6 +108,7 @@ struct Card {
     store: Vec<u8>,
     pointers: [u32; POINTERS],
     reply: [u8; PACKET_BYTES],
+    guard: Vec<u32>,
     hostmot2: bool,
 }
 
@@ -132,6 +134,7 @@ impl Card {
             store,
             pointers: [0; POINTERS],
             reply: [0; PACKET_BYTES],
+            guard: options.guard.clone(),
             hostmot2: options.hostmot2,
         })
     }
@@ -141,7 +144,7 @@ impl Card {
             return Ending::Outside(&hostmot2::FLASH_ANSWER);
         }
         let (store, pointers) = (&mut self.store, &mut self.pointers);
-        match head::run(packet, store, pointers, &mut self.reply) {
+        match head::guarded_run(packet, store, pointers, &mut self.reply, &self.guard) {
             Ok(ran) => Ending::Accepted(&self.reply[..ran.length]),
             Err(refusal) => Ending::Refused(refusal),
         }

@@ -1,14 +1,19 @@
 //! What the program is called with.
 
+use crate::protect;
 use std::net::{IpAddr, Ipv4Addr, SocketAddr};
 use std::path::PathBuf;
 
 pub const USAGE: &str =
-    "usage: card [--address IP] [--port N] [--store FILE] [--save FILE] [--hostmot2]
+    "usage: card [--address IP] [--port N] [--store FILE] [--save FILE] [--protect SPACE:FIRST-LAST]...
+            [--hostmot2]
   --address IP   where it is reached, 127.0.0.1 unless told otherwise
   --port N       the UDP port, 27181 unless told otherwise; 0 for any that is free
   --store FILE   begins with the store in this file, all 0 unless told otherwise
   --save FILE    writes the store to this file when it is stopped
+  --protect SPACE:FIRST-LAST
+                 lets no packet write the bytes at these addresses of space 0, 2, 6 or 7, both
+                 included, decimal or with 0x: --protect 0:0x1000-0x1003 for register 0x1000
   --hostmot2     shows what tools look for in a HostMot2 board";
 
 /// LBP16's port.
@@ -18,6 +23,8 @@ pub struct Options {
     pub address: SocketAddr,
     pub store: Option<PathBuf>,
     pub save: Option<PathBuf>,
+    /// Two numbers for each range that no packet may write: its first byte in the store, its bytes.
+    pub guard: Vec<u32>,
     pub hostmot2: bool,
 }
 
@@ -27,8 +34,10 @@ pub fn read(mut words: impl Iterator<Item = String>) -> Result<Option<Options>, 
         address: SocketAddr::new(IpAddr::V4(Ipv4Addr::LOCALHOST), PORT),
         store: None,
         save: None,
+        guard: Vec::new(),
         hostmot2: false,
     };
+    let mut protected = Vec::new();
     while let Some(word) = words.next() {
         let mut value = |what: &str| words.next().ok_or(format!("{word} needs {what}"));
         match word.as_str() {
@@ -36,11 +45,17 @@ pub fn read(mut words: impl Iterator<Item = String>) -> Result<Option<Options>, 
             "--port" => options.address.set_port(port(&value("a number")?)?),
             "--store" => options.store = Some(value("a file")?.into()),
             "--save" => options.save = Some(value("a file")?.into()),
+            "--protect" => {
+                let text = value("SPACE:FIRST-LAST")?;
+                options.guard.extend(protect::range(&text)?);
+                protected.push(text);
+            }
             "--hostmot2" => options.hostmot2 = true,
             "--help" => return Ok(None),
             _ => return Err(format!("no option '{word}' here")),
         }
     }
+    protect::sound(&options.guard, &protected)?;
     Ok(Some(options))
 }
 

@@ -25,6 +25,7 @@
 use std::error::Error;
 use std::fmt;
 
+pub mod guard;
 pub mod header;
 pub mod independent;
 pub mod panel;
@@ -35,6 +36,7 @@ pub mod sserial;
 pub mod tight;
 pub mod why;
 
+pub use guard::{guard, guarded_check, guarded_list, guarded_run, guarded_spi};
 pub use header::{header, header_word, Header};
 pub use independent::{independent, Dependent};
 pub use recording::{judge, Verdict};
@@ -59,7 +61,7 @@ pub struct Refusal {
     /// Which rule was broken: never 0.
     pub number: u32,
     /// The offset of the refused command, the number of the refused record, the bytes needed
-    /// (refusal 26), the log entries needed (27), or 0.
+    /// (refusal 26), the log entries needed (27), the pair of a guard (70), or 0.
     pub place: u64,
 }
 

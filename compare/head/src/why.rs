@@ -1,5 +1,6 @@
 //! Why a packet is refused.
 
+use crate::guard::{PROTECTED, UNSOUND};
 use crate::{fields_of, Fields, Refusal};
 use std::fmt;
 
@@ -50,10 +51,14 @@ pub fn why(packet: &[u8], store: &[u8], pointers: &[u32]) -> Option<Reason> {
     (number != 0).then_some(reason)
 }
 
-/// The rule of a packet's refusal in a sentence.
+/// The rule of a packet's refusal in a sentence, of a guarded run's too.
 pub fn sentence(number: u32) -> &'static str {
     let index = (number as usize).wrapping_sub(1);
-    SENTENCES.get(index).unwrap_or(&"not a rule for packets")
+    match number {
+        UNSOUND => "the guard is not sound",
+        PROTECTED => "a write to a protected cell",
+        _ => SENTENCES.get(index).unwrap_or(&"not a rule for packets"),
+    }
 }
 
 /// From refusal 1 on, in the words of the program `why`.

@@ -270,3 +270,78 @@ fn tighter_packets() {
     let refused = head::tighten(&list, &mut out[..403]).unwrap_err();
     assert_eq!((refused.number, refused.place), (26, 404));
 }
+
+#[test]
+fn guards() {
+    assert_eq!(head::guard(&[]), Ok(0));
+    assert_eq!(head::guard(&[0x1000, 4, 65_728, 0]), Ok(2));
+    let refused = |place| Err(Refusal { number: 70, place });
+    assert_eq!(head::guard(&[0x1000]), refused(0));
+    assert_eq!(head::guard(&[0x1000, 4, u32::MAX, 1]), refused(1));
+    assert_eq!(head::guard(&[65_675, 1]), refused(0));
+    assert_eq!(head::guard(&[0, 0].repeat(65)), refused(64));
+}
+
+#[test]
+fn guarded_packets() {
+    let mut store = vec![0xEE; STORE_BYTES];
+    let mut pointers = [0; POINTERS];
+    let mut reply = [0xEE; PACKET_BYTES];
+    let guard = [0x1007, 1];
+    // The second register's last byte is protected.
+    let packet = [0x82, 0xC2, 0x00, 0x10, 1, 2, 3, 4, 5, 6, 7, 8];
+    let refused = |number, place| Err(Refusal { number, place });
+    let checked = head::guarded_check(&packet, &store, &pointers, &guard);
+    assert_eq!(checked, refused(71, 0));
+    let answer = head::guarded_run(&packet, &mut store, &mut pointers, &mut reply, &guard);
+    assert_eq!(answer.map(|ran| ran.length), refused(71, 0));
+    assert!(store.iter().all(|&byte| byte == 0xEE));
+    assert_eq!(pointers, [0; POINTERS]);
+    // A fault of its own comes first, and 70 before all.
+    let faulty = [&packet[..], &[0x80, 0x02]].concat();
+    let checked = head::guarded_check(&faulty, &store, &pointers, &guard);
+    assert_eq!(checked, refused(7, 12));
+    let checked = head::guarded_check(&faulty, &store[1..], &pointers, &[0]);
+    assert_eq!(checked, refused(70, 0));
+    // One register is not protected, and the other is read.
+    let packet = [0x81, 0xC2, 0x00, 0x10, 1, 2, 3, 4, 0x81, 0x02];
+    assert_eq!(
+        head::guarded_check(&packet, &store, &pointers, &guard),
+        Ok(4)
+    );
+    let answer = head::guarded_run(&packet, &mut store, &mut pointers, &mut reply, &guard);
+    assert_eq!(answer, ran(4, 2));
+    assert_eq!(store[0x1000..0x1005], [1, 2, 3, 4, 0xEE]);
+}
+
+#[test]
+fn guarded_bursts() {
+    let mut store = vec![0; STORE_BYTES];
+    let mut answer = [7; 2];
+    let refused = |number| Err(Refusal { number, place: 0 });
+    // Three registers are promised, and the word of the third did not come.
+    let words = [0x1000_B830, 1];
+    let burst = head::guarded_spi(&words, &mut store, &mut answer, &[0x100B, 1]);
+    assert_eq!(burst, refused(71));
+    assert_eq!(answer, [7; 2]);
+    let burst = head::guarded_spi(&words, &mut store, &mut answer, &[0x100C, 1]);
+    assert_eq!(burst, Ok(1));
+    assert_eq!(store[0x1000], 1);
+    let read = [0x1000_A830, 0];
+    let burst = head::guarded_spi(&read, &mut store, &mut answer, &[0, 65_536]);
+    assert_eq!(burst, Ok(1));
+    assert_eq!(answer, [0, 1]);
+    let burst = head::guarded_spi(&[], &mut store, &mut [], &[0, 65_536]);
+    assert_eq!(burst, refused(31));
+}
+
+#[test]
+fn guarded_lists() {
+    let list = b"RD\0\0\x04\0WR\x02\0\x20\0\x01\0\0\0";
+    assert_eq!(head::guarded_list(list, &[4, 4, 65_570, 2]), Ok(2));
+    let refused = |number, place| Err(Refusal { number, place });
+    assert_eq!(head::guarded_list(list, &[65_569, 1]), refused(71, 1));
+    let cut = head::guarded_list(&list[..15], &[65_569, 1]);
+    assert_eq!(cut, refused(22, 1));
+    assert_eq!(head::guarded_list(b"?", &[65_690, 1]), refused(70, 0));
+}

@@ -15,6 +15,8 @@ use std::hint::black_box;
 use std::process::ExitCode;
 use std::time::{Duration, Instant};
 
+#[path = "bench/guarded.rs"]
+mod guarded;
 #[path = "bench/parts.rs"]
 mod parts;
 #[path = "bench/tight.rs"]
@@ -79,6 +81,7 @@ fn main() -> ExitCode {
 
 fn all_cases() -> Vec<Case> {
     let mut cases = packet_cases();
+    cases.extend(guarded::cases());
     cases.extend(burst_cases());
     cases.extend(lists::cases());
     cases.extend(parts::cases());
@@ -94,6 +97,7 @@ fn count(name: &str, times: &str) -> Result<(), String> {
     let named = |cases: Vec<Case>| cases.into_iter().find(|case| case.name == name);
     // The lists take long to make, so they are made last.
     let case = named(packet_cases())
+        .or_else(|| named(guarded::cases()))
         .or_else(|| named(burst_cases()))
         .or_else(|| named(lists::cases()))
         .or_else(|| named(parts::cases()))

@@ -27,6 +27,7 @@ const PARTS: &[Part] = &[
     Part("parts", 6_000, compare::parts::compare),
     Part("recordings", 8_000, compare::recordings::compare),
     Part("tight", 6_000, compare::tight::compare),
+    Part("interlock", 80_000, compare::interlock::compare),
 ];
 
 struct Options {

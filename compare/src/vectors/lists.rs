@@ -1,10 +1,10 @@
-//! Cue lists: compiled, tightened, checked, salvaged, in pairs and in parts.
+//! Cue lists: compiled, tightened, checked, held against guards, salvaged, in pairs and in parts.
 //!
 //! Two things are the library's own, as it was made for this machine: the planner's output, which the implementation's
 //! checker must accept, since the planner is free in its method; and the state between parts, whose bytes only the library
 //! knows.
 
-use super::{File, Lent, Room};
+use super::{interlock, File, Lent, Room};
 use crate::proposals::CHANGES;
 use crate::{cues, independent, numbers, salvage};
 use head::parts::{exports, STATE_BYTES};
@@ -21,6 +21,8 @@ pub fn some(file: &mut File, count: usize) -> Result<(), String> {
         compiled(file, &list);
         tightened(file, &list)?;
         checked(file, &list);
+        interlock::vetted(file, &list);
+        pair(file, &list, &[]);
         salvaged(file);
         let [first, second] = independent::pair(&mut file.rng);
         if first.len() + second.len() < SHORT {
@@ -46,6 +48,7 @@ pub fn long(file: &mut File) -> Result<(), String> {
         check(file, &list, &rule[..bytes]);
         pair(file, &list, &record);
         pair(file, &record, &list);
+        interlock::vet(file, &list, &[0, 8]);
     }
     long_in_parts(file, &record)
 }

@@ -27,6 +27,47 @@ fn called_wrongly() {
 }
 
 #[test]
+fn cells_that_cannot_be_protected() {
+    let wrong = |words: &[&str], line: &str| assert_eq!(fails(words), (2, line.to_string()));
+    wrong(&["--protect"], "card: --protect needs SPACE:FIRST-LAST");
+    for text in [
+        "here", "0:", "0:1", "0:1-", "0:-2", ":1-2", "0:1-2-3", "0:+1-2", "0:1 - 2",
+    ] {
+        let line = format!("card: '{text}' is not SPACE:FIRST-LAST in numbers");
+        wrong(&["--protect", text], &line);
+    }
+    for text in ["0:a-b", "0:0x-1", "0:0x1G-0x20", "0:1-4294967296"] {
+        let line = format!("card: '{text}' is not SPACE:FIRST-LAST in numbers");
+        wrong(&["--protect", text], &line);
+    }
+    let line = "card: '1:0-3': a card has spaces 0, 2, 6 and 7";
+    wrong(&["--protect", "1:0-3"], line);
+    let line = "card: '0:4-3': the first address is above the last";
+    wrong(&["--protect", "0:4-3"], line);
+    let line = "card: '0:0xFFFC-0x10000': space 0 has 65536 bytes";
+    wrong(&["--protect", "0:0xFFFC-0x10000"], line);
+    let line = "card: '7:0-32': space 7 has 32 bytes";
+    wrong(&["--protect", "7:0-32"], line);
+}
+
+#[test]
+fn guards_that_are_not_sound() {
+    let refused = |words: &[&str], text: &str, place: usize| {
+        let (exit, line) = fails(words);
+        let expected = format!("card: '{text}': refused 70 at {place}: the guard is not sound: ");
+        assert_eq!(exit, 2);
+        assert!(line.starts_with(&expected), "{line}");
+    };
+    // The packet count and the unlock cell, by one byte of them.
+    refused(&["--protect", "6:0-31"], "6:0-31", 0);
+    let words = ["--protect", "0:0-3", "--protect", "6:11-0x0C"];
+    refused(&words, "6:11-0x0C", 1);
+    refused(&["--protect", "6:0x1A-0x1A"], "6:0x1A-0x1A", 0);
+    let many = ["--protect", "0:0-3"].repeat(65);
+    refused(&many, "0:0-3", 64);
+}
+
+#[test]
 fn usage_when_asked() {
     let output = run(Command::new(env!("CARGO_BIN_EXE_card")).arg("--help"));
     assert!(output.status.success());

@@ -50,6 +50,45 @@ fn answers_and_logs() {
 }
 
 #[test]
+fn protected_cells() {
+    let words = [
+        "--protect",
+        "0:0x1004-4103",
+        "--protect",
+        "2:32-0x21",
+        "--port",
+        "0",
+    ];
+    let card = Card::start(&words);
+    let socket = client(&card);
+    let send = |packet: &[u8], expected: &str| {
+        socket.send(packet).unwrap();
+        let line = card.line();
+        assert!(line.ends_with(expected), "{line}");
+    };
+    let refused = "refused 71 at 0: a write to a protected cell";
+    send(&[0x81, 0xC2, 0x00, 0x10, 1, 2, 3, 4], "accepted, no reply");
+    send(&[0x81, 0xC2, 0x04, 0x10, 1, 2, 3, 4], refused);
+    // Two registers, the second of them protected.
+    send(&[0x82, 0xC2, 0x00, 0x10, 5, 6, 7, 8, 1, 2, 3, 4], refused);
+    // The EEPROM's cell 0x20, behind the unlock.
+    let unlocked = [
+        0x01, 0xD9, 0x1A, 0x00, 0x02, 0x5A, 0x81, 0xC9, 0x20, 0x00, 1, 2,
+    ];
+    send(&unlocked, "refused 71 at 6: a write to a protected cell");
+    // Another fault behind it is named instead.
+    let faulty = [&unlocked[..], &[0x80, 0x02]].concat();
+    send(&faulty, "refused 7 at 12: count 0, no element is named");
+    // Both are read, and as they were.
+    let read = [0x82, 0x42, 0x00, 0x10, 0x81, 0x49, 0x20, 0x00];
+    send(
+        &read,
+        "accepted, reply of 10 bytes, 01 02 03 04 00 00 00 00 00 00",
+    );
+    assert_eq!(reply(&socket), [1, 2, 3, 4, 0, 0, 0, 0, 0, 0]);
+}
+
+#[test]
 fn no_packet_stops_it() {
     let mut card = Card::start(&["--port", "0", "--hostmot2"]);
     let socket = client(&card);
