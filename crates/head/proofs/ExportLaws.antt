@@ -11,19 +11,19 @@ use borrow.Author.Tests.{eqb-true, not-false}
 use Rattle.lbp16.specs.Answer.{Answer}
 use Rattle.lbp16.specs.Pointer.{pointersOf}
 use Rattle.lbp16.proofs.BoolLaws.{or-false}
-use Rattle.packet.specs.Verdict.{answerTo, verdictListed}
+use Rattle.packet.specs.Verdict.{verdictListed}
 use Rattle.packet.specs.Counts.{elementsMoved}
 use Rattle.packet.specs.declared.judge.Verdict.{Verdict}
-use Rattle.card.specs.Run.{checkedList, ListOutcome, asList, runList, ranList}
+use Rattle.card.specs.Run.{ListOutcome, asList, runList, ranList}
 use Rattle.card.specs.declared.run.RanList.{RanList}
-use Rattle.spi.specs.Spi.{runBurst, burstLeft, mostInBurst}
+use Rattle.spi.specs.Spi.{Burst, runBurst, burstLeft, mostInBurst}
 use Rattle.card.proofs.RunLaws.{CheckRefused, RunRefused, refusals-listed}
 use Rattle.spi.proofs.SpiLaws.{burst-refused-in-table}
 use Rattle.cue.specs.Compile.{compiled, compileListed, left}
 use Rattle.cue.specs.declared.CompileAnswer.{CompileAnswer}
 use Rattle.cue.proofs.CompileLaws.{RefusedList, refused-numbers}
-use Rattle.head.specs.Exports.{numberOf, valueOf, countOf, numbersOf, spiLeft, exportSpi, compileLeft}
-use Rattle.head.specs.Exports.{exportCompile, given, exportCheck, runLeft, exportRun, elementsGiven}
+use Rattle.head.specs.Exports.{numberOf, valueOf, countOf, numbersOf, given, givenBy, runLeft, runBy, elementsGiven, spiLeft, spiBy}
+use Rattle.head.specs.Exports.{compileLeft, exportCompile}
 use Rattle.head.specs.declared.numbers.Numbers.{Numbers}
 
 -- stores to every place of a list leave the values stored
@@ -43,14 +43,12 @@ four-stored l i a b c d =
     rw (one, two, three) refl
 
 -- what a run's call leaves, from what the run answers and leaves
-pub ran-left : (packet store pointers reply : List ℕ) (r : RanList) (n : Numbers) (store′ pointers′ reply′ : List ℕ)
-    → ranList r store′ pointers′ reply′ ≡ runList packet store pointers reply
+pub ran-left : (o : ListOutcome) (r : RanList) (n : Numbers) (store pointers reply : List ℕ)
+    → ranList r store pointers reply ≡ o
     → n ≡ numbersOf (verdictListed (r .answer))
-    → runLeft (n .0) (n .1) (r .elements) store′ pointers′ reply′ ≡ exportRun packet store pointers reply
-unfolding exportRun ranList numbersOf
-ran-left packet store pointers reply r n store′ pointers′ reply′ done g =
-    rw g
-    (ap (λ (o : ListOutcome). runLeft (numberOf (o .answer)) (valueOf (o .answer)) (o .elements) (o .store) (o .pointers) (o .reply)) done)
+    → runLeft (n .0) (n .1) (r .elements) store pointers reply ≡ runBy o
+unfolding ranList numbersOf
+ran-left o r n store pointers reply done g = rw g (ap runBy done)
 
 -- No refusal of a run has the number 0, so a run that returns 0 has done the packet's commands.
 run-never-zero : (packet store pointers reply : List ℕ) (n place : ℕ)
@@ -89,20 +87,17 @@ run-elements packet store pointers reply r n store′ pointers′ reply′ done 
     e
 
 -- what a check's call leaves, from what the check answers
-pub check-left : (packet store pointers : List ℕ) (r : Verdict) (n : Numbers)
-    → verdictListed r ≡ answerTo (checkedList packet store pointers) → n ≡ numbersOf (verdictListed r)
-    → given (n .0) (n .1) ≡ exportCheck packet store pointers
-unfolding exportCheck numbersOf
-check-left packet store pointers r n e g = rw (g, e) refl
+pub check-left : (a : Answer) (r : Verdict) (n : Numbers) → verdictListed r ≡ a → n ≡ numbersOf (verdictListed r)
+    → given (n .0) (n .1) ≡ givenBy a
+unfolding numbersOf
+check-left a r n e g = rw (g, e) refl
 
 -- what a burst's call leaves, from what the burst answers and leaves
-pub spi-left : (words store room : List ℕ) (a : Verdict) (n : Numbers) (store′ room′ : List ℕ)
-    → burstLeft a store′ room′ ≡ runBurst words store room
+pub spi-left : (b : Burst) (a : Verdict) (n : Numbers) (store room : List ℕ) → burstLeft a store room ≡ b
     → n ≡ numbersOf (verdictListed a)
-    → spiLeft (n .0) (n .1) store′ room′ ≡ exportSpi words store room
-unfolding burstLeft exportSpi numbersOf
-spi-left words store room a n store′ room′ e g =
-    rw g (ap (λ b. spiLeft (numberOf (b .answer)) (valueOf (b .answer)) (b .store) (b .room)) e)
+    → spiLeft (n .0) (n .1) store room ≡ spiBy b
+unfolding burstLeft numbersOf
+spi-left b a n store room e g = rw g (ap spiBy e)
 
 -- the value of a burst's call: the elements done, or the place, which is 0
 pub spi-bounded : (words store room : List ℕ) (a : Verdict) (n : Numbers) (store′ room′ : List ℕ)

@@ -9,8 +9,8 @@ use Rattle.lbp16.specs.Word.{fieldsOf, bit, written}
 use Rattle.lbp16.specs.declared.word.Fields.{Fields}
 use Rattle.packet.specs.Verdict.{answerTo}
 use Rattle.packet.specs.Counts.{countsOf, sum}
-use Rattle.card.specs.Run.{checkedList, runList}
-use Rattle.spi.specs.Spi.{runBurst}
+use Rattle.card.specs.Run.{ListOutcome, checkedList, runList}
+use Rattle.spi.specs.Spi.{Burst, runBurst}
 use Rattle.cue.specs.Compile.{compiled}
 use Rattle.head.specs.declared.numbers.Numbers.{Numbers}
 
@@ -44,10 +44,11 @@ pub record Given : Type 0 where
 abbrev pub given : ℕ → ℕ → Given
 given number value = record { number = number; value = value }
 
+abbrev pub givenBy : Answer → Given
+givenBy a = given (numberOf a) (valueOf a)
+
 unfoldable pub exportCheck : List ℕ → List ℕ → List ℕ → Given
-exportCheck packet store pointers =
-    let a = answerTo (checkedList packet store pointers) in
-    given (numberOf a) (valueOf a)
+exportCheck packet store pointers = givenBy (answerTo (checkedList packet store pointers))
 
 -- All that head_compile returns and leaves.
 pub record CompileExport : Type 0 where
@@ -74,10 +75,11 @@ pub record SpiExport : Type 0 where
 abbrev pub spiLeft : ℕ → ℕ → List ℕ → List ℕ → SpiExport
 spiLeft number value store words = record { number = number; value = value; store = store; words = words }
 
+abbrev pub spiBy : Burst → SpiExport
+spiBy b = spiLeft (numberOf (b .answer)) (valueOf (b .answer)) (b .store) (b .room)
+
 unfoldable pub exportSpi : List ℕ → List ℕ → List ℕ → SpiExport
-exportSpi words store room =
-    let b = runBurst words store room in
-    spiLeft (numberOf (b .answer)) (valueOf (b .answer)) (b .store) (b .room)
+exportSpi words store room = spiBy (runBurst words store room)
 
 -- All that head_run returns and leaves.
 pub record RunExport : Type 0 where
@@ -92,10 +94,11 @@ abbrev pub runLeft : ℕ → ℕ → ℕ → List ℕ → List ℕ → List ℕ 
 runLeft number value elements store pointers reply =
     record { number = number; value = value; elements = elements; store = store; pointers = pointers; reply = reply }
 
+abbrev pub runBy : ListOutcome → RunExport
+runBy o = runLeft (numberOf (o .answer)) (valueOf (o .answer)) (o .elements) (o .store) (o .pointers) (o .reply)
+
 unfoldable pub exportRun : List ℕ → List ℕ → List ℕ → List ℕ → RunExport
-exportRun packet store pointers reply =
-    let o = runList packet store pointers reply in
-    runLeft (numberOf (o .answer)) (valueOf (o .answer)) (o .elements) (o .store) (o .pointers) (o .reply)
+exportRun packet store pointers reply = runBy (runList packet store pointers reply)
 
 -- How many elements head_run answers, by the number that it returns: the sum of the counts of the packet's commands for 0, else none.
 unfoldable pub elementsGiven : ℕ → List ℕ → ℕ

@@ -8,3 +8,4 @@ pub mod Recorded
 pub mod WhyRefused
 pub mod Tighter
 pub mod Repair
+pub mod InterlockExports

@@ -1,5 +1,6 @@
 // What C programs call; include/head.h declares it. A function that can refuse returns the refusal's number, 0 if accepted.
 mod headers;
+mod interlock_exports;
 mod lent;
 mod numbers;
 mod panels;

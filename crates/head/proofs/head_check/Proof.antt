@@ -1,5 +1,6 @@
 use Rattle.head.proofs.ExportLaws.{check-left}
 use borrow.Author.Needs.{needs}
+use Rattle.head.specs.Exports.{exportCheck}
 use Rattle.head.proofs.head_check.Statement.{statement}
 use Rattle.head.proofs.head_check.Tie as tie
 
@@ -10,7 +11,8 @@ of-verdict-requires : tie.Need-of-verdict-requires
 of-verdict-requires c κs = search needs
 
 returns : tie.Need-returns
-returns c = check-left _ _ _ _ _ (c .before .check-list .ensures) (c .of-verdict .ensures)
+unfolding exportCheck
+returns c = check-left _ _ _ (c .before .check-list .ensures) (c .of-verdict .ensures)
 
 pub head-check-spec : {M : Type 1} → statement M
 head-check-spec = tie.close (tie.spec check-list-requires of-verdict-requires returns)

@@ -1,5 +1,6 @@
 use Rattle.head.proofs.ExportLaws.{ran-left, run-elements}
 use borrow.Author.Needs.{needs}
+use Rattle.head.specs.Exports.{exportRun}
 use Rattle.head.proofs.head_run.Statement.{statement}
 use Rattle.head.proofs.head_run.Tie as tie
 
@@ -19,9 +20,10 @@ same-length-3 : tie.Need-same-length-3
 same-length-3 c = search needs
 
 returns : tie.Need-returns
+unfolding exportRun
 returns c =
     let ran = c .before .before .before .before .before .before .before .run-list .ensures in (
-      ran-left _ _ _ _ _ _ _ _ _ (ran .0) (c .of-verdict .ensures),
+      ran-left _ _ _ _ _ _ (ran .0) (c .of-verdict .ensures),
       (run-elements _ _ _ _ _ _ _ _ _ (ran .0) (c .of-verdict .ensures) (ran .1 .0), ran .1 .1),
     )
 
