@@ -3,6 +3,7 @@ use Rattle.spi.proofs.burst.Statement.{statement}
 use Rattle.spi.proofs.burst.Tie as tie
 use denote.Ref.{now}
 use mathlib.Core.Path.{sym, ap, _∙_, refl}
+use native.Mathlib.Omega.{arith}
 use Rattle.packet.specs.Verdict.{verdictListed}
 use Rattle.spi.specs.Spi.{headerOf}
 use Rattle.spi.proofs.SpiLaws.{Ready, ready-headed, burst-refused, burst-reads, burst-writes, burst-bounded}
@@ -50,7 +51,7 @@ ready c =
     }
 
 sub-came : tie.Need-sub-came
-sub-came c = ready-headed _ _ _ _ _ (ready c)
+sub-came c = omega (arith, ready-headed _ _ _ _ _ (ready c))
 
 write-cells-requires : tie.Need-write-cells-requires
 write-cells-requires c κs = search needs
