@@ -39,7 +39,9 @@ shared-slice-read-t21 c = search needs
 
 returns : tie.Need-returns
 unfolding padded
-returns c = let b = c .before .before .before .before .before .before .before .before .before .before in sym (padded-is 10 2 (now (b .args .s)) (omega (arith, b .pre)))
+returns c =
+    let at-entry = c .before .before .before .before .before .before .before .before .before .before in
+    sym (padded-is 10 2 (now (at-entry .args .s)) (omega (arith, at-entry .pre)))
 
 pub bytes-at-spec : {M : Type 1} → statement M
 bytes-at-spec =
