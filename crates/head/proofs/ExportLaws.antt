@@ -2,10 +2,10 @@
 use Prim.Native.Nat.{ℕ, zero, suc, _+_, _≤_}
 use mathlib.Core.Path.{_≡_, refl, ap, sym, _∙_}
 use mathlib.Core.Bool.{Bool, true, false, not, _||_}
-use mathlib.Core.List.{List, [], _∷_, append-nil}
+use mathlib.Core.List.{List, [], _∷_}
 use native.Mathlib.Omega.{arith}
-use lib.ListN.{length, drop, set, drop-of-length-le}
-use lib.Seq.{sets, sets-eq}
+use lib.ListN.{length, set}
+use lib.Seq.{sets}
 use lib.Dec.{eqb}
 use borrow.Author.Tests.{eqb-true, not-false}
 use Rattle.lbp16.specs.Answer.{Answer}
@@ -25,13 +25,6 @@ use Rattle.cue.proofs.CompileLaws.{RefusedList, refused-numbers}
 use Rattle.head.specs.Exports.{numberOf, valueOf, countOf, numbersOf, given, givenBy, runLeft, runBy, elementsGiven, spiLeft, spiBy}
 use Rattle.head.specs.Exports.{compileLeft, exportCompile}
 use Rattle.head.specs.declared.numbers.Numbers.{Numbers}
-
--- stores to every place of a list leave the values stored
-pub stored-whole : (vs l : List ℕ) → length l ≡ length vs → sets l 0 vs ≡ vs
-stored-whole vs l h =
-    let fits : 0 + length vs ≤ length l = omega arith in
-    let past : drop (0 + length vs) l ≡ [] = drop-of-length-le l {i = 0 + length vs} (omega arith) in
-    sets-eq vs l 0 fits ∙ (rw past (append-nil vs))
 
 -- four stores, one place after the other
 pub four-stored : (l : List ℕ) (i a b c d : ℕ)

@@ -14,7 +14,7 @@ use Rattle.lbp16.specs.declared.word.Fields.{Fields}
 use Rattle.lbp16.specs.declared.pointer.Pointers.{Pointers}
 use Rattle.packet.specs.Step.{Step, isInfo}
 use Rattle.packet.specs.Rules.{anyStep}
-use Rattle.packet.specs.Command.{fieldsAt, kindOf, headerBytes, commandBytes, addressUsed, stride, stepsAt, pointersAfter}
+use Rattle.packet.specs.Command.{fieldsAt, kindOf, commandBytes, addressUsed, stride, stepsAt, pointersAfter}
 use Rattle.packet.specs.Judge.{Carried, accepted, begin, carry, judgeFrom, judge}
 use Rattle.packet.proofs.SliceLaws.{tail-whole}
 use Rattle.packet.specs.Inside.{Passed}

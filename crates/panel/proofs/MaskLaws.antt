@@ -1,6 +1,6 @@
 -- Laws of masks. What the machine's counts and bit operations give is the definitions', by computed tests over every mask.
 use Prim.Native.Nat.{ℕ, zero, suc, _+_, _-_, _/_, _%_, _^_, _<_}
-use mathlib.Core.Path.{_≡_, refl, sym, ap, _∙_}
+use mathlib.Core.Path.{_≡_, refl, ap, _∙_}
 use mathlib.Core.List.{List, [], _∷_}
 use mathlib.Core.Bool.{Bool, true, false, not, _&&_, Bool·beq, cond}
 use mathlib.Core.Logic.{_⊎_, inl, inr}
@@ -12,7 +12,7 @@ use lib.Bits.{bitAnd, and-shr, and-mod, and-lt}
 use lib.Count.{ones, trailingZeros}
 use borrow.Author.Tests.{eqb-true, eq-eqb, ne-eqb}
 use Rattle.lbp16.specs.Answer.{accepted, refused}
-use Rattle.lbp16.proofs.BoolLaws.{and-true}
+use Rattle.lbp16.proofs.BoolLaws.{and-true, beq-true}
 use Rattle.panel.specs.Masks.{channels, names, those, named, lowest, none, outside, fails, tallyOf, started, reported}
 
 -- a test at every number below n
@@ -28,12 +28,6 @@ all-hold test (suc n) e m h = go (and-true (test n) (all test n) e) (eq-or-lt-of
     go : (test n ≡ true) × (all test n ≡ true) → (m ≡ n) ⊎ (m < n) → (all test n ≡ true → (i : ℕ) → i < n → test i ≡ true) → test m ≡ true
     go q (inl z) rest = rw z (q .0)
     go q (inr l) rest = rest (q .1) m l
-
-same-true : (a b : Bool) → Bool·beq a b ≡ true → a ≡ b
-same-true true true h = refl
-same-true true false h = sym h
-same-true false true h = h
-same-true false false h = refl
 
 -- every mask: how many channels it names, the lowest, and whether it names any
 every-count : all (λ m. eqb (ones m) (length (named m))) 256 ≡ true
@@ -56,7 +50,7 @@ module _ (mask : ℕ) (byte : mask < 256) where
   lowest-named = eqb-true _ _ (all-hold _ 256 every-lowest mask byte)
 
   pub names-none : none (named mask) ≡ eqb mask 0
-  names-none = same-true _ _ (all-hold _ 256 every-none mask byte)
+  names-none = beq-true _ _ (all-hold _ 256 every-none mask byte)
 
 -- a mask turned over names a channel where the mask does not
 turned : ℕ → ℕ → Bool
@@ -69,7 +63,7 @@ every-turned = refl
 names-not : (mask channel : ℕ) → mask < 256 → channel < 8 → names (255 - mask) channel ≡ not (names mask channel)
 unfolding turned
 names-not mask channel byte h =
-    same-true _ _ (all-hold (turned channel) 256 (all-hold (λ c. all (turned c) 256) 8 every-turned channel h) mask byte)
+    beq-true _ _ (all-hold (turned channel) 256 (all-hold (λ c. all (turned c) 256) 8 every-turned channel h) mask byte)
 
 -- two masks both name a channel where their common bits do
 bit-and : (x y : ℕ) → x < 2 → y < 2 → eqb (bitAnd x y) 1 ≡ eqb x 1 && eqb y 1

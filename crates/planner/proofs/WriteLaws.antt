@@ -9,12 +9,13 @@ use lib.Seq.{sets-eq, length-take-le, take-append-le, drop-append-le}
 use lib.Dec.{eqb}
 use borrow.Author.Tests.{eq-eqb, le-ltb}
 use Rattle.lbp16.specs.Answer.{Answer, refusal}
-use Rattle.lbp16.specs.Space.{Space, registers, eeprom, status, information, absent, spaceOf, spaceNumber, row}
+use Rattle.lbp16.specs.Space.{spaceOf, row}
 use Rattle.lbp16.specs.declared.space.Row.{Row}
 use Rattle.lbp16.specs.Word.{wordOf, outOfRange, written, listed}
 use Rattle.lbp16.specs.declared.word.Written.{Written}
 use Rattle.lbp16.specs.declared.word.Written.the-variants.{Word, Refused}
 use Rattle.lbp16.specs.declared.Refusal.{Refusal}
+use Rattle.lbp16.proofs.SpaceLaws.{size-le, number-le}
 use Rattle.packet.specs.Bytes.{bytesOf}
 use Rattle.cue.specs.declared.records.Record.{Record}
 use Rattle.cue.specs.Records.{recordAt, brief}
@@ -33,14 +34,6 @@ command-put l w a h k n =
     let p : w / 256 % 256 ≡ w / 256 = omega arith in
     let q : a / 256 % 256 ≡ a / 256 = omega arith in
     rw (p, q) (sets-eq (0x4C ∷ 0x42 ∷ 4 ∷ 0 ∷ w % 256 ∷ w / 256 ∷ a % 256 ∷ a / 256 ∷ []) l 0 n)
-
-size-le : (s : Space) → row s .size ≤ 3
-unfolding row
-size-le registers = omega arith
-size-le eeprom = omega arith
-size-le status = omega arith
-size-le information = omega arith
-size-le absent = omega arith
 
 -- the word of the command that reads the cell `count` times: no field is out of range
 module _ (cell : Record) (count : ℕ) (line : Row) (r : Written) (l : line ≡ row (spaceOf (cell .space)))
@@ -90,14 +83,6 @@ module _ (list : List ℕ) (count : ℕ) (few : count ≤ 127) (counts : (n : �
 
   pub still-small : (l : List ℕ) → length l < 8 → StillPut list 0 (length l) l
   still-small l e = record { eight = λ n x o h. absurd (omega arith) }
-
-  number-le : (s : Space) → spaceNumber s ≤ 7
-  unfolding spaceNumber
-  number-le registers = omega arith
-  number-le eeprom = omega arith
-  number-le status = omega arith
-  number-le information = omega arith
-  number-le absent = omega arith
 
   module _ (cell : Record) (word : ℕ) (before after : List ℕ) (c : cell ≡ recordAt list) (room : 8 ≤ length before)
       (w : cell .space ≤ 7 → count ≤ 127 → word ≡ wordOf (stillFields count cell))

@@ -21,6 +21,7 @@ use Rattle.packet.specs.Judge.{Carried, refused, accepted, begin, carry, judgeF
 use Rattle.packet.specs.Inside.{Passed}
 use Rattle.packet.proofs.JudgeLaws.{PassedNext, judged-end, judged-past}
 use Rattle.packet.proofs.RefusalLaws.{Reaches, here, past, behind, RefusedAt, refused-in-table}
+use Rattle.packet.proofs.CommandLaws.{command-some}
 
 -- Elements see as many bytes as they carry.
 payload-front : (k : Kind) (s : Space) (xs ys zs : List ℕ) → isInfo k ≡ false → carried k s ≤ length xs
@@ -128,15 +129,6 @@ module _ (front ys rest : List ℕ) (zs : List ℕ) (e : front ++ zs ≡ rest) w
       judged-past fuel c (front ++ ys) (rw length-append (omega arith))
       (rw f (passed-front (c .pointers) _ _ (fieldsAt rest) (omega arith) h))
       ∙ rw (f, carry-front c two (omega arith), drop-at front ys _ k) (on fuel (omega arith))
-
--- a command has some bytes
-pub command-some : (f : Fields) → 2 ≤ commandBytes f
-unfolding commandBytes headerBytes
-command-some f = go (f .address) _
-  where
-    go : (b : Bool) (n : ℕ) → 2 ≤ cond b 4 2 + n
-    go true n = omega arith
-    go false n = omega arith
 
 -- The bytes from one command of a packet to another, past commands that all pass: alone they are accepted.
 pub record Front (c end : Carried) (rest left : List ℕ) : Type 0 where

@@ -4,9 +4,8 @@ use mathlib.Core.Path.{_≡_, refl, sym, _∙_}
 use mathlib.Core.List.{List}
 use native.Mathlib.Omega.{arith}
 use native.Mathlib.Decide.{decLe}
-use lib.ListN.{length, take, drop, drop-of-length-le}
+use lib.ListN.{length, take}
 use lib.Seq.{take-all}
-use Rattle.packet.proofs.SliceLaws.{tail-whole}
 
 pub take-within : (l : List ℕ) (n r : ℕ) → r ≡ min n (length l) → take r l ≡ take n l
 take-within l n r e = go (decLe n (length l))
@@ -14,10 +13,3 @@ take-within l n r e = go (decLe n (length l))
     go : Dec (n ≤ length l) → take r l ≡ take n l
     go (yes h) = let q : r ≡ n = omega arith in rw q refl
     go (no h) = take-all r l (omega arith) ∙ sym (take-all n l (omega arith))
-
-pub rest-within : (l : List ℕ) (i r : ℕ) → r ≡ min i (length l) → take (length l - r) (drop r l) ≡ drop i l
-rest-within l i r e = tail-whole r l ∙ go (decLe i (length l))
-  where
-    go : Dec (i ≤ length l) → drop r l ≡ drop i l
-    go (yes h) = let q : r ≡ i = omega arith in rw q refl
-    go (no h) = drop-of-length-le l {i = r} (omega arith) ∙ sym (drop-of-length-le l {i = i} (omega arith))

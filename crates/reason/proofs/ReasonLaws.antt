@@ -16,6 +16,7 @@ use Rattle.card.specs.Run.{badState, checked, runPacket}
 use Rattle.card.proofs.RunLaws.{checked-cases, run-answers-check}
 use Rattle.card.proofs.AnswerLaws.{check-judge}
 use Rattle.packet.proofs.RefusalLaws.{refused-in-table}
+use Rattle.packet.proofs.JudgeLaws.{accepted-some}
 use Rattle.reason.specs.Reason.{unnamed, named, reasonOf, explained, FrontAccepted}
 use Rattle.reason.specs.declared.Reason.{Reason}
 use Rattle.reason.proofs.FrontLaws.{front-judged}
@@ -45,11 +46,6 @@ refused-of : (v : Verdict) (n place : ℕ) → Answer.refused n place ≡ answer
 unfolding answerTo
 refused-of (refused m at) n place e = let a : m ≡ n = cc in let b : at ≡ place = cc in rw (a, b) refl
 refused-of (accepted c) n place e = let z : _≡_ {A = ℕ} 0 1 = cc in absurd (omega arith)
-
-accepted-of : (v : Verdict) (n : ℕ) → Answer.accepted (n ∷ []) ≡ answerTo v → (end : Carried) × (v ≡ accepted end)
-unfolding answerTo
-accepted-of (refused m at) n e = let z : _≡_ {A = ℕ} 0 1 = cc in absurd (omega arith)
-accepted-of (accepted c) n e = (c, refl)
 
 module _ (packet store : List ℕ) (p : Pointers) where
   -- A reason with a number names what the check refuses with, and so does the run with a whole reply room.
@@ -102,7 +98,7 @@ module _ (packet store : List ℕ) (p : Pointers) where
   -- as the code has it: from the check's answer
   pub explained-accepted : (n : ℕ) → Answer.accepted (n ∷ []) ≡ answerTo (checked packet store p)
       → unnamed 0 0 ≡ explained packet store p
-  explained-accepted n e = let (end, a) = accepted-of _ n e in sym (all-zero end a)
+  explained-accepted n e = let (end, a) = accepted-some _ n e in sym (all-zero end a)
 
   module _ (n place : ℕ) (e : Answer.refused n place ≡ answerTo (checked packet store p)) where
     pub explained-unnamed : n < 3 → unnamed n 0 ≡ explained packet store p

@@ -11,13 +11,13 @@ use Rattle.lbp16.specs.declared.pointer.Pointers.{Pointers}
 use Rattle.packet.specs.Step.{isInfo}
 use Rattle.packet.specs.Command.{fieldsAt, kindOf, commandBytes, stride, pointersAfter}
 use Rattle.packet.specs.Judge.{Carried, refused, begin, carry, judge}
-use Rattle.packet.proofs.CommandLaws.{advanced-used}
+use Rattle.packet.proofs.CommandLaws.{command-some, advanced-used}
 use Rattle.packet.proofs.JudgeLaws.{PassedNext}
 use Rattle.packet.proofs.RefusalLaws.{Reaches, here, past, behind, refused-in-table}
 use Rattle.reason.specs.Reason.{placeAfter, headerAt, commandsFrom, commandsBefore, pointersLeft, pointersAt, named}
 use Rattle.reason.specs.declared.Reason.{Reason}
 use Rattle.reason.specs.declared.reader.Header.{Header}
-use Rattle.reason.proofs.FrontLaws.{command-some, front-reached, reaches-next}
+use Rattle.reason.proofs.FrontLaws.{front-reached, reaches-next}
 
 -- Up to a later place there are the commands passed and those from here on.
 pub record Counted (packet : List ℕ) (place index t : ℕ) : Type 0 where

@@ -4,9 +4,10 @@ use mathlib.Core.Path.{_≡_, refl, sym, ap, _∙_}
 use mathlib.Core.List.{List, [], _∷_, _++_, append-assoc, append-nil}
 use native.Mathlib.Omega.{arith}
 use native.Mathlib.Numerals.{add-one}
-use native.Mathlib.Nat.{mul-suc, add-zero}
+use native.Mathlib.Nat.{mul-suc}
 use lib.ListN.{length, getD, take, drop, set, length-append, take-append-drop, drop-of-length-le}
 use lib.Seq.{take-add, sets, sets-eq, length-sets, drop-cons, take-suc, drop-drop, take-all}
+use Rattle.lbp16.proofs.ListLaws.{sets-append, stored-whole}
 use Rattle.sserial.specs.Inside.{rowsFrom, flat}
 
 pub row-is : (ws : List ℕ) (at : ℕ) → at + 3 ≤ length ws
@@ -26,18 +27,6 @@ three-sets l at (a ∷ b ∷ c ∷ []) h =
     let one : at + 1 ≡ suc at = omega arith in
     let two : at + 2 ≡ suc (suc at) = omega arith in
     rw (one, two) refl
-
-sets-sets : (l : List ℕ) (i : ℕ) (xs ys : List ℕ) → sets (sets l i xs) (i + length xs) ys ≡ sets l i (xs ++ ys)
-sets-sets l i [] ys = rw add-zero refl
-sets-sets l i (x ∷ xs) ys =
-    let e : i + suc (length xs) ≡ suc i + length xs = omega arith in
-    rw e (sets-sets (set l i x) (suc i) xs ys)
-
-stored-whole : (vs l : List ℕ) → length l ≡ length vs → sets l 0 vs ≡ vs
-stored-whole vs l h =
-    let fits : 0 + length vs ≤ length l = omega arith in
-    let past : drop (0 + length vs) l ≡ [] = drop-of-length-le l {i = 0 + length vs} (omega arith) in
-    sets-eq vs l 0 fits ∙ (rw past (append-nil vs))
 
 -- the first i rows put back
 pub record Rows (all : List (List ℕ)) (before words : List ℕ) (i : ℕ) : Type 0 where
@@ -63,7 +52,7 @@ module _ (all : List (List ℕ)) (before words : List ℕ) (i : ℕ) (eight : le
         rows = omega arith;
         room = rw e (length-sets words (3 * i) (getD all i []) ∙ h .room);
         long = rw (add-one i, n, length-append) (rw mul-suc (omega arith));
-        same = rw (add-one i, n, ← sets-sets before 0 (flat (take i all)) (getD all i []), w, z, ← h .same) e;
+        same = rw (add-one i, n, ← sets-append before 0 (flat (take i all)) (getD all i []), w, z, ← h .same) e;
       }
 
   pub rows-all : 8 ≤ i → length before ≡ 24 → words ≡ flat all

@@ -2,15 +2,16 @@
 use Prim.Native.Nat.{ℕ, suc, _+_, _*_, _/_, _%_, _^_, _≤_, _<_}
 use mathlib.Core.Path.{_≡_, refl, ap, _∙_}
 use mathlib.Core.Bool.{Bool, true, false, not, _||_, cond}
-use mathlib.Core.List.{List, [], _∷_, _++_, append-assoc}
+use mathlib.Core.List.{List, [], _∷_}
 use mathlib.Core.Logic.{_⊎_, ⊎-elim, inl, inr}
 use native.Mathlib.Omega.{arith}
 use native.Mathlib.Nat.{lt-of-lt-of-le}
 use lib.ListN.{length, getD, take, drop, set}
-use lib.Seq.{sets, sets-eq, length-sets, getD-set-other, take-at, drop-at, length-take-le}
+use lib.Seq.{sets, length-sets, getD-set-other}
 use lib.Pow.{pow-mono}
 use lib.Dec.{eqb}
 use Rattle.lbp16.specs.Answer.{accepted, refused}
+use Rattle.lbp16.proofs.ListLaws.{slice-of-sets}
 use borrow.Author.Tests.{eqb-true}
 use Rattle.sserial.specs.Table.{Table, unreadable, fields, Checked, laid, checked, checkedAt, tableAt, directed, bits, overfull}
 use Rattle.sserial.specs.Table as table
@@ -107,13 +108,7 @@ accepted-unpack fs channel registers values = go (noChannel channel registers) (
     go false false e k h = let z : _≡_ {A = ℕ} 0 1 = cc in absurd (omega arith)
     go true b e k h = let z : _≡_ {A = ℕ} 0 1 = cc in absurd (omega arith)
 
--- the words put at a place are read there, and no others change
-set-there : (l vs : List ℕ) (at : ℕ) → at + length vs ≤ length l → take (length vs) (drop at (sets l at vs)) ≡ vs
-set-there l vs at h =
-    let n : length (take at l) ≡ at = length-take-le at l (omega arith) in
-    rw (sets-eq vs l at h, append-assoc (take at l) vs (drop (at + length vs) l), drop-at (take at l) (vs ++ drop (at + length vs) l) at n)
-    (take-at vs (drop (at + length vs) l) (length vs) refl)
-
+-- words put at a place change no others
 set-elsewhere : (l vs : List ℕ) (at j : ℕ) → (j < at) ⊎ (at + length vs ≤ j) → getD (sets l at vs) j 0 ≡ getD l j 0
 set-elsewhere l [] at j h = refl
 set-elsewhere l (v ∷ vs) at j h =
@@ -140,7 +135,7 @@ module _ (fs : List Field) (wide : AllWide fs) (few : bits fs ≤ 96) (channel :
       let c = fitting-count fs values (a .1) in
       let w : List ℕ = wordsOf 3 (packed fs values) in
       let n : length w ≡ 3 = words-length 3 (packed fs values) in
-      let r : take 3 (drop (3 * channel) (sets registers (3 * channel) w)) ≡ w = rw n at (set-there registers w (3 * channel) (omega arith)) in
+      let r : take 3 (drop (3 * channel) (sets registers (3 * channel) w)) ≡ w = rw n at (slice-of-sets registers (3 * channel) w (omega arith)) in
       let b : packed fs values < 2 ^ (3 * 32) = lt-of-lt-of-le (packed-below fs values) (pow-mono few) in
       rw (
         pack-done fs channel values registers (a .0) (a .1),

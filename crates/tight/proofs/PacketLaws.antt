@@ -50,11 +50,6 @@ unfolding answerTo doneBy
 refused-none (refused m i) n place e = refl
 refused-none (accepted c) n place e = let z : _≡_ {A = ℕ} 0 1 = cc in absurd (omega arith)
 
-pub accepted-some : (v : Verdict) (n : ℕ) → Answer.accepted (n ∷ []) ≡ answerTo v → (c : Carried) × (v ≡ accepted c)
-unfolding answerTo
-accepted-some (refused m i) n e = let z : _≡_ {A = ℕ} 0 1 = cc in absurd (omega arith)
-accepted-some (accepted c) n e = (c, refl)
-
 -- a packet that is too long, and one that is not
 pub packet-long : (packet list : List ℕ) → limit < length packet → Taken.Rejected ≡ packetTakes packet list
 unfolding packetTakes packetDoes doingTakes

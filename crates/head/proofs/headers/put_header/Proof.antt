@@ -2,7 +2,7 @@ use borrow.Author.Needs.{needs}
 use Rattle.head.proofs.headers.put_header.Statement.{statement}
 use Rattle.head.proofs.headers.put_header.Tie as tie
 use Rattle.head.specs.Headers.{headerNumbers}
-use Rattle.head.proofs.ExportLaws.{stored-whole}
+use Rattle.lbp16.proofs.ListLaws.{stored-whole}
 
 cast-fields : tie.Need-cast-fields
 cast-fields c = search needs

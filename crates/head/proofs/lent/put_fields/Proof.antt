@@ -4,7 +4,7 @@ use Rattle.head.proofs.lent.put_fields.Tie as tie
 use lib.ListN.{length-set}
 use native.Mathlib.Omega.{arith}
 use Rattle.head.specs.Exports.{fieldBytes}
-use Rattle.head.proofs.ExportLaws.{stored-whole}
+use Rattle.lbp16.proofs.ListLaws.{stored-whole}
 
 flag-requires : tie.Need-flag-requires
 flag-requires c κs = search needs

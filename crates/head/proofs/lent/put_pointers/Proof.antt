@@ -2,7 +2,7 @@ use borrow.Author.Needs.{needs}
 use Rattle.head.proofs.lent.put_pointers.Statement.{statement}
 use Rattle.head.proofs.lent.put_pointers.Tie as tie
 use Rattle.lbp16.specs.Pointer.{spaceList, pointerList}
-use Rattle.head.proofs.ExportLaws.{stored-whole}
+use Rattle.lbp16.proofs.ListLaws.{stored-whole}
 
 put-spaces-requires : tie.Need-put-spaces-requires
 put-spaces-requires c κs = search needs

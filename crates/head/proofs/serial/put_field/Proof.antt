@@ -4,7 +4,7 @@ use Rattle.head.proofs.serial.put_field.Tie as tie
 use lib.ListN.{length-set}
 use native.Mathlib.Omega.{arith}
 use Rattle.head.specs.Serial.{fieldWords}
-use Rattle.head.proofs.ExportLaws.{stored-whole}
+use Rattle.lbp16.proofs.ListLaws.{stored-whole}
 
 cast-words : tie.Need-cast-words
 cast-words c = search needs

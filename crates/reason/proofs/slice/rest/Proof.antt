@@ -1,5 +1,5 @@
 use borrow.Author.Needs.{needs}
-use Rattle.reason.proofs.PartLaws.{rest-within}
+use Rattle.packet.proofs.SliceLaws.{rest-within}
 use Rattle.reason.proofs.slice.rest.Statement.{statement}
 use Rattle.reason.proofs.slice.rest.Tie as tie
 

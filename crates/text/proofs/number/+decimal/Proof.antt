@@ -1,4 +1,3 @@
-use borrow.Author.Needs.{needs}
 use native.Mathlib.Omega.{arith}
 use Rattle.text.proofs.DecimalLaws.{decimal-one, decimal-last}
 use Rattle.text.proofs.RoomLaws.{put-then, put-within}

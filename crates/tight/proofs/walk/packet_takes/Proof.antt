@@ -3,7 +3,8 @@ use Rattle.tight.proofs.walk.packet_takes.Statement.{statement}
 use Rattle.tight.proofs.walk.packet_takes.Tie as tie
 use mathlib.Core.Path.{sym, ap, _∙_}
 use Rattle.packet.specs.Verdict.{verdictListed}
-use Rattle.tight.proofs.PacketLaws.{accepted-some, packet-long, packet-short, packet-refused}
+use Rattle.tight.proofs.PacketLaws.{packet-long, packet-short, packet-refused}
+use Rattle.packet.proofs.JudgeLaws.{accepted-some}
 
 returns : tie.Need-returns
 returns c = packet-long _ _ (c .if1 .taken)
