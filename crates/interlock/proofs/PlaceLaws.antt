@@ -9,9 +9,10 @@ use lib.Dec.{eqb}
 use lib.ListN.{length, take, drop, length-take, length-drop}
 use borrow.Author.Tests.{eq-eqb, ne-eqb}
 use Rattle.lbp16.specs.Space.{spaceOf}
-use Rattle.lbp16.specs.Pointer.{withPointer, advanced}
+use Rattle.lbp16.specs.Pointer.{pointerOf, withPointer, advanced}
 use Rattle.lbp16.specs.declared.word.Fields.{Fields}
 use Rattle.lbp16.specs.declared.pointer.Pointers.{Pointers}
+use Rattle.packet.specs.Bytes.{number}
 use Rattle.packet.specs.Step.{Step, isInfo}
 use Rattle.packet.specs.Rules.{anyStep}
 use Rattle.packet.specs.Command.{fieldsAt, kindOf, commandBytes, addressUsed, stride, stepsAt, pointersAfter}
@@ -30,6 +31,16 @@ use Rattle.interlock.proofs.BlockLaws.{protected-joined}
 -- a command has some bytes, as the code has their number
 pub some-bytes : (f : Fields) (k : ℕ) → k ≡ commandBytes f → 2 ≤ k
 some-bytes f k e = rw e (command-some f)
+
+-- the address used by a command that gives none
+pub pointer-used : (p : Pointers) (f : Fields) (rest : List ℕ) → f .address ≡ false → (i : Bool) → i ≡ isInfo (kindOf f) → (n : ℕ)
+    → n ≡ pointerOf p i (spaceOf (f .space)) → n ≡ addressUsed p f rest
+unfolding addressUsed
+pointer-used p f rest e i q n h =
+    let pointer = pointerOf p (isInfo (kindOf f)) (spaceOf (f .space)) in
+    h
+    ∙ ap (λ (j : Bool). pointerOf p j (spaceOf (f .space))) q
+    ∙ sym (ap (λ (b : Bool). cond b (number (take 2 (drop 2 rest))) pointer) e)
 
 -- one command of the walk, and its end
 place-turn : (guard : List ℕ) (fuel : ℕ) (p : Pointers) (place : ℕ) (rest : List ℕ) → length rest ≤ fuel → 0 < length rest

@@ -3,7 +3,7 @@ use Prim.Native.Nat.{ℕ, suc, _+_, _-_, _≤_, _<_}
 use mathlib.Core.Path.{_≡_, refl, sym, _∙_}
 use mathlib.Core.Logic.{_⊎_, inl, inr, ⊎-elim}
 use mathlib.Core.List.{List, [], _∷_}
-use mathlib.Core.Bool.{Bool, true, false, not, _||_, cond}
+use mathlib.Core.Bool.{Bool, true, false, not, _||_, _&&_, cond}
 use native.Mathlib.Omega.{arith}
 use native.Mathlib.Decide.{decLe}
 use lib.Dec.{eqb, ltb, leb}
@@ -55,6 +55,40 @@ module _ (first bytes place width : ℕ) where
   sharing s =
       let some = s .some in
       rw (ne-eqb bytes 0 (λ z. omega arith), lt-ltb _ _ (s .low), lt-ltb _ _ (s .high)) refl
+
+-- a range that begins behind the bytes, and one that ends before them
+pub none-behind : (first bytes place width : ℕ) → place + width ≤ first → false ≡ shares first bytes place width
+unfolding shares
+none-behind first bytes place width h = rw (le-ltb _ _ h) (go (not (eqb bytes 0)))
+  where
+    go : (b : Bool) → false ≡ (b && false)
+    go true = refl
+    go false = refl
+
+none-before : (first bytes place width : ℕ) → first + bytes ≤ place → shares first bytes place width ≡ false
+unfolding shares
+none-before first bytes place width h = rw (le-ltb _ _ h) (go (not (eqb bytes 0)) (ltb first (place + width)))
+  where
+    go : (b t : Bool) → (b && (t && false)) ≡ false
+    go true true = refl
+    go true false = refl
+    go false t = refl
+
+-- as the code tests the rest
+pub one-here : (first bytes place width : ℕ) → first < place + width
+    → (not (eqb bytes 0) && ltb place (first + bytes)) ≡ shares first bytes place width
+unfolding shares
+one-here first bytes place width h = rw (lt-ltb _ _ h) refl
+
+pub low-fine : (first bytes : ℕ) → first + bytes ≤ countCell → false ≡ faulty first bytes
+unfolding faulty
+low-fine first bytes h =
+    rw (
+      le-ltb storeBytes (first + bytes) (omega arith),
+      none-before first bytes unlockCell 2 (omega arith),
+      none-before first bytes countCell 2 h,
+    )
+    refl
 
 -- bytes in two parts
 shares-parts : (first bytes place w v : ℕ)

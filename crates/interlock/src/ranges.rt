@@ -17,14 +17,20 @@ fn shares(first: u32, bytes: u32, place: u64, width: u64) -> bool
     ensures { λ r. ⌜ r ≡ shares first bytes place width ⌝ }
 {
     let from = first as u64;
-    (bytes != 0) & ((from < place + width) & (place < from + bytes as u64))
+    if place + width <= from {
+        return false;
+    }
+    (bytes != 0) & (place < from + bytes as u64)
 }
 
-// Whether a range ends past the store, or has a byte of the unlock cell or of the packet count.
+// Whether a range ends past the store, or has a byte of the unlock cell or of the packet count. Most ranges end before the lower of these.
 fn faulty(first: u32, bytes: u32) -> bool
     ensures { λ r. ⌜ r ≡ faulty first bytes ⌝ }
 {
     let end = first as u64 + bytes as u64;
+    if end <= 65674 {
+        return false;
+    }
     ((check::STORE_BYTES as u64) < end)
         | shares(first, bytes, 65690, 2)
         | shares(first, bytes, 65674, 2)

@@ -5,6 +5,7 @@ use cue::records::Record;
 use lbp16::pointer::Pointers;
 use lbp16::space;
 use lbp16::word::Fields;
+use packet::bytes;
 use packet::command;
 use packet::judge;
 use packet::judge::Verdict;
@@ -43,6 +44,17 @@ fn writes_protected(guard: &[u32], f: Fields, used: u32) -> bool
     ranges::touches(guard, place, span(f.increment, f.count, row.element))
 }
 
+// The address used: the one given, or the pointer's, which is looked up only then.
+fn address(p: Pointers, f: Fields, rest: &[u8]) -> u32
+    ensures { λ r. ⌜ r ≡ addressUsed p f (now (rest .entry)) ⌝ }
+{
+    if f.address {
+        return bytes::pair_at(rest, 2) as u32;
+    }
+    let pointer = p.of(command::is_info(f), f.space);
+    pointer.at
+}
+
 // The offset of the first command of an accepted packet that writes a protected byte, the packet's length if none does. Of any other
 // packet it is some offset.
 pub(crate) fn protected_place(packet: &[u8], pointers: &[u32], guard: &[u32]) -> usize
@@ -53,7 +65,7 @@ pub(crate) fn protected_place(packet: &[u8], pointers: &[u32], guard: &[u32]) ->
     let mut p = Pointers::from_list(pointers);
     while 0 < rest.len() {
         let f = command::fields_at(rest);
-        let used = command::address_used(p, f, rest);
+        let used = address(p, f, rest);
         if writes_protected(guard, f, used) {
             return packet.len() - rest.len();
         }

@@ -22,8 +22,8 @@ loop-holds c = walk-begin _ _ _ _ (c .from-list .ensures)
 fields-at-requires : tie.Need-fields-at-requires Inv-loop μ-loop
 fields-at-requires c κs = search needs
 
-address-used-requires : tie.Need-address-used-requires Inv-loop μ-loop
-address-used-requires c κs = search needs
+address-requires : tie.Need-address-requires Inv-loop μ-loop
+address-requires c κs = search needs
 
 writes-protected-requires : tie.Need-writes-protected-requires Inv-loop μ-loop
 writes-protected-requires c κs = search needs
@@ -37,7 +37,7 @@ returns c =
     let u = c .before .before in
     let f = u .before in
     let t = f .before in
-    let told = c .before .writes-protected .ensures _ _ (u .address-used .ensures) in
+    let told = c .before .writes-protected .ensures _ _ (u .address .ensures) in
     walk-found (t .before .loop .inv) (t .loop-test .taken) _ (f .fields-at .ensures) end a (sym told ∙ c .if1 .taken)
 
 pointers-after-requires : tie.Need-pointers-after-requires Inv-loop μ-loop
@@ -76,9 +76,9 @@ loop-again c =
     let u = w .before in
     let f = u .before in
     let t = f .before in
-    let told = w .writes-protected .ensures _ _ (u .address-used .ensures) in
+    let told = w .writes-protected .ensures _ _ (u .address .ensures) in
     walk-next (t .before .loop .inv) (t .loop-test .taken) _ (f .fields-at .ensures) (sym told ∙ c .before .before .before .before .if1 .left) _
-    (u .address-used .ensures)
+    (u .address .ensures)
     _
     (c .before .before .before .pointers-after .ensures)
     _
@@ -97,7 +97,7 @@ protected-place-spec =
     from-list-requires
     loop-holds
     fields-at-requires
-    address-used-requires
+    address-requires
     writes-protected-requires
     sub-result
     returns
