@@ -1,10 +1,10 @@
 // A cue list of any length from standard input, its packets to standard output as they are finished, and in the end the
 // refusal's line if there is one.
+use cue::frame;
 use lbp16::Refusal;
 use libc::STDIN_FILENO;
 use libc::STDOUT_FILENO;
 use packet::judge::Verdict;
-use parts::FRAME_ROOM;
 use parts::STATE_BYTES;
 use text::line;
 ghost use Prim.Native.Nat.{_≤_};
@@ -76,7 +76,7 @@ fn feed_all(state: &mut [u8], part: &[u8], last: bool, room: &mut [u8]) -> bool 
 
 fn main() {
     let mut state = [0u8; STATE_BYTES];
-    let mut room = [0u8; FRAME_ROOM];
+    let mut room = [0u8; frame::ROOM];
     let mut input = [0u8; PART];
     for _ in 0..PARTS {
         let n = io::read_full(STDIN_FILENO, &mut input);

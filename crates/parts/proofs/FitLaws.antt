@@ -9,7 +9,8 @@ use lib.ListN.{length, take, length-append}
 use lib.Seq.{length-take-le}
 use Rattle.lbp16.specs.Answer.{Answer}
 use Rattle.parts.specs.Taking.{Standing, going, ended, faulted, Taken, isGoing, called, answerBy, answered}
-use Rattle.parts.specs.State.{frameRoom, heldPacking, stateOf, badState}
+use Rattle.parts.specs.State.{heldPacking, stateOf, badState}
+use Rattle.cue.specs.Output.{frameRoom}
 use Rattle.parts.specs.Parts.{PartCall, untouched, leaves, partOf, partLeft}
 use Rattle.parts.specs.Promise.{bytesWritten}
 use Rattle.packet.specs.Verdict.{verdictListed}

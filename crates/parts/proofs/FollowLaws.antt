@@ -19,7 +19,8 @@ use Rattle.cue.specs.Summary.{summary}
 use Rattle.cue.specs.Compile.{outputBytes}
 use Rattle.parts.specs.Taking.{State, Standing, going, ended, faulted, Taken, Stopped, isGoing, called, answerBy, answered, fresh}
 use Rattle.parts.specs.Rule.{Opened, none, packingRule, lastOf, closedFrom, openAfter, goodFrom, goodRecords, packetsBy, packetsOf}
-use Rattle.parts.specs.State.{Held, heldPacking, frameRoom, unopened, pairAt, packerAt, standingOf, stateOf, badNumbers, badState, bytesOfState}
+use Rattle.parts.specs.State.{Held, heldPacking, unopened, pairAt, packerAt, standingOf, stateOf, badNumbers, badState, bytesOfState}
+use Rattle.cue.specs.Output.{frameRoom}
 use Rattle.parts.specs.Parts.{untouched, leaves, partOf}
 use Rattle.parts.specs.Promise.{freshState, bytesWritten, written, Continues, ruleAfter, Calls, AsRule, Goes, Fails, Writes}
 use Rattle.parts.proofs.ListLaws.{withRecords, with-records, with-refused, packets-are, closed-append}

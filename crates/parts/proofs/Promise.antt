@@ -16,7 +16,7 @@ use Rattle.cue.proofs.PackerLaws.{output-append}
 use Rattle.cue.proofs.RunAll.{run-all}
 use Rattle.parts.specs.Taking.{State}
 use Rattle.parts.specs.Rule.{Opened, packetsBy, packetsOf, recordsHeld}
-use Rattle.parts.specs.State.{frameRoom}
+use Rattle.cue.specs.Output.{frameRoom}
 use Rattle.parts.specs.Parts.{PartCall, partOf}
 use Rattle.parts.specs.Promise.{freshState, bytesWritten, written, Continues, Calls, Goes, Promise, unless, drained}
 use Rattle.parts.proofs.Reached.{empty-is}

@@ -13,7 +13,7 @@ use Rattle.cue.specs.Output.{outputOf}
 use Rattle.cue.specs.Compile.{outputBytes}
 use Rattle.parts.specs.Taking.{State}
 use Rattle.parts.specs.Rule.{Opened}
-use Rattle.parts.specs.State.{frameRoom}
+use Rattle.cue.specs.Output.{frameRoom}
 use Rattle.parts.specs.Parts.{PartCall, partOf}
 use Rattle.parts.specs.Promise.{bytesWritten, written, Continues, ruleAfter, Calls, Fails, Writes, answerBehind, Reports}
 use Rattle.parts.proofs.EndLaws.{output-more}

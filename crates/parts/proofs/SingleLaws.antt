@@ -22,7 +22,8 @@ use Rattle.cue.specs.declared.records.Record.{Record}
 use Rattle.cue.specs.declared.packer.Packer.{Packer}
 use Rattle.cue.proofs.ReadingLaws.{passing}
 use Rattle.parts.specs.Taking.{unknownMark, decidedAt, byteTaken, bytesTaken, oneMore, isGoing, goesOn, partTaken, called, answerBy, answered}
-use Rattle.parts.specs.State.{heldPacking, padded, pairAt, packerAt, standingOf, stateOf, badNumbers, bytesOfState, frameRoom}
+use Rattle.parts.specs.State.{heldPacking, padded, pairAt, packerAt, standingOf, stateOf, badNumbers, bytesOfState}
+use Rattle.cue.specs.Output.{frameRoom}
 use Rattle.parts.specs.Parts.{leaves, partOf, partLeft}
 use Rattle.parts.specs.Inside.{keptAt, meant, Ranged, Leaves, Stops, listedBy, outcomeLeft, unfitTests, Marked, Waits, Single}
 use Rattle.packet.specs.Verdict.{verdictListed}

@@ -7,7 +7,8 @@ use native.Mathlib.Omega.{arith}
 use lib.ListN.{length, drop}
 use Rattle.lbp16.specs.Answer.{accepted, refused}
 use Rattle.parts.specs.Taking.{State, Standing, going, ended, faulted, Taken, isGoing, called, answerBy, answered}
-use Rattle.parts.specs.State.{frameRoom, heldPacking, stateOf, badState, bytesOfState}
+use Rattle.parts.specs.State.{heldPacking, stateOf, badState, bytesOfState}
+use Rattle.cue.specs.Output.{frameRoom}
 use Rattle.parts.specs.Rule.{Opened, packingRule}
 use Rattle.parts.specs.Parts.{PartCall, untouched, leaves, partOf}
 use Rattle.parts.specs.Promise.{Calls}

@@ -14,7 +14,8 @@ use Rattle.cue.specs.Records.{readMark, writeMark, recordBytes, mostRecords, re
 use Rattle.cue.specs.Summary.{Progress, summary}
 use Rattle.cue.specs.declared.packer.Packer.{Packer}
 use Rattle.parts.specs.Taking.{State, Taken, Stopped, decidedAt, bytesTaken}
-use Rattle.parts.specs.State.{Held, heldPacking, heldTurned, written, packerAt, pairAt, standingOf, frameRoom}
+use Rattle.parts.specs.State.{Held, heldPacking, heldTurned, written, packerAt, pairAt, standingOf}
+use Rattle.cue.specs.Output.{frameRoom}
 use Rattle.parts.specs.Parts.{PartCall, partOf}
 use Rattle.parts.specs.declared.call.Outcome.{Outcome}
 use Rattle.parts.specs.declared.state.Kept.{Kept}

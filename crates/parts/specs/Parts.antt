@@ -8,7 +8,8 @@ use Rattle.lbp16.specs.Answer.{Answer, refused}
 use Rattle.packet.specs.Verdict.{verdictListed}
 use Rattle.packet.specs.declared.judge.Verdict.{Verdict}
 use Rattle.parts.specs.Taking.{Stopped, isGoing, called, answered}
-use Rattle.parts.specs.State.{Held, heldPacking, frameRoom, badState, stateOf, bytesOfState}
+use Rattle.parts.specs.State.{Held, heldPacking, badState, stateOf, bytesOfState}
+use Rattle.cue.specs.Output.{frameRoom}
 
 -- All that a call answers and leaves: `taken` bytes of the part were taken.
 pub record PartCall : Type 0 where

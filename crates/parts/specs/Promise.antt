@@ -18,7 +18,8 @@ use Rattle.cue.specs.Demand3.{SameAsRecords, Demand3}
 use Rattle.cue.specs.Compile.{outputBytes}
 use Rattle.parts.specs.Taking.{State, Stopped, called, answered, fresh}
 use Rattle.parts.specs.Rule.{Opened, packingRule, goodRecords, packetsOf, recordsHeld, countHeld}
-use Rattle.parts.specs.State.{stateBytes, frameRoom}
+use Rattle.parts.specs.State.{stateBytes}
+use Rattle.cue.specs.Output.{frameRoom}
 use Rattle.parts.specs.Parts.{PartCall, partOf}
 
 unfoldable pub freshState : List ℕ

@@ -23,15 +23,12 @@ use Rattle.cue.specs.Records.{mostRecords}
 use Rattle.cue.specs.Summary.{Progress, summary, turnedBy, wrote}
 use Rattle.cue.specs.Records.{brief}
 use Rattle.cue.specs.Guarded.{anyOf}
+use Rattle.cue.specs.Output.{frameRoom}
 use Rattle.cue.specs.declared.packer.Packer.{Packer}
 use Rattle.parts.specs.Taking.{Packing, Turned, Standing, going, ended, faulted, State}
 
 abbrev pub stateBytes : ℕ
 stateBytes = 1504
-
--- room for a packet with its mark and length
-abbrev pub frameRoom : ℕ
-frameRoom = 1476
 
 -- The open packet as it is kept: what the packer knows of it, and the packet behind its mark and length.
 pub record Held : Type 0 where

@@ -9,7 +9,8 @@ ghost use mathlib.Core.Path.{_≡_};
 ghost use Prim.Native.Nat.{_≤_};
 ghost use lib.ListN.{length};
 ghost use Rattle.parts.specs.Taking.{answerBy};
-ghost use Rattle.parts.specs.State.{standingOf, frameRoom};
+ghost use Rattle.parts.specs.State.{standingOf};
+ghost use Rattle.cue.specs.Output.{frameRoom};
 ghost use Rattle.parts.specs.Parts.{partOf};
 ghost use Rattle.parts.specs.Inside.{listedBy, outcomeLeft};
 

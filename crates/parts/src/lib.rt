@@ -1,7 +1,7 @@
 // Compiling a cue list that comes in parts, cut anywhere. What is known between calls stands in a state that the caller
 // lends: 1,504 bytes, all 0 before the first call.
+use cue::frame;
 use lbp16::Refusal;
-use packet::command::LIMIT;
 use packet::judge::Verdict;
 
 mod call;
@@ -19,9 +19,6 @@ ghost use Rattle.parts.specs.Promise.{Promised};
 
 // The state's bytes.
 pub const STATE_BYTES: usize = 1504;
-
-// Room for a packet behind its mark and length.
-pub const FRAME_ROOM: usize = LIMIT + 4;
 
 // The bytes written, or why nothing was; `taken` bytes of the part were taken.
 pub struct Part {
@@ -55,11 +52,11 @@ pub fn compile_part(state: &mut [u8], part: &[u8], last: bool, out: &mut [u8]) -
         ≡ partOf (now (state .entry)) (now (part .entry)) last (now (out .entry)) ⌝ }
     ensures promise { λ r. ⌜ Promised (now (state .exit)) ⌝ }
 {
-    if out.len() < FRAME_ROOM {
+    if out.len() < frame::ROOM {
         return Part {
             answer: Verdict::Refused(Refusal {
                 number: 26,
-                place: FRAME_ROOM as u64,
+                place: frame::ROOM as u64,
             }),
             taken: 0,
         };

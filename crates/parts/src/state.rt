@@ -1,7 +1,7 @@
 // The lent state, taken apart and put together again; specs/State.antt has its layout.
-use crate::FRAME_ROOM;
 use crate::layout;
 use crate::take;
+use cue::frame;
 use cue::packer::Packer;
 use cue::records::MOST;
 use packet::bytes;
@@ -82,7 +82,7 @@ pub(crate) fn bad(k: Kept) -> bool
                     | ((7 < p.space)
                         | ((127 < p.count)
                             | ((LIMIT < p.reply)
-                                | ((FRAME_ROOM < p.end) | (p.packet < p.word))))))))
+                                | ((frame::ROOM < p.end) | (p.packet < p.word))))))))
 }
 
 // A byte that is collected, 0 behind the last.

@@ -14,7 +14,8 @@ ghost use lib.ListN.{length, take, drop};
 ghost use Rattle.packet.specs.Rules.{first};
 ghost use Rattle.cue.specs.Records.{recordRefusals, recordStep, mostRecords};
 ghost use Rattle.parts.specs.Taking.{decidedAt, recordTaken, byteTaken, bytesTaken, partTaken, endTaken};
-ghost use Rattle.parts.specs.State.{heldPacking, frameRoom};
+ghost use Rattle.parts.specs.State.{heldPacking};
+ghost use Rattle.cue.specs.Output.{frameRoom};
 ghost use Rattle.parts.specs.Inside.{meant, Good, Sound, Ranged, Rooms, Turns, Leaves, Stops, Going, Runs, startAt};
 
 // The state after a byte, and how many bytes were handed out.
