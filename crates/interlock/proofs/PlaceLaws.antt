@@ -4,7 +4,7 @@ use mathlib.Core.Path.{_≡_, refl, sym, ap, _∙_}
 use mathlib.Core.List.{List, [], _∷_, _++_}
 use mathlib.Core.Bool.{Bool, true, false, not, cond}
 use native.Mathlib.Omega.{arith}
-use native.Mathlib.Nat.{le-refl, zero-add}
+use native.Mathlib.Nat.{le-refl, zero-add, mul-zero}
 use lib.Dec.{eqb}
 use lib.ListN.{length, take, drop, length-take, length-drop}
 use borrow.Author.Tests.{eq-eqb, ne-eqb}
@@ -15,10 +15,11 @@ use Rattle.lbp16.specs.declared.pointer.Pointers.{Pointers}
 use Rattle.packet.specs.Bytes.{number}
 use Rattle.packet.specs.Step.{Step, isInfo}
 use Rattle.packet.specs.Rules.{anyStep}
-use Rattle.packet.specs.Command.{fieldsAt, kindOf, commandBytes, addressUsed, stride, stepsAt, pointersAfter}
+use Rattle.packet.specs.Command.{fieldsAt, kindOf, rowOf, headerBytes, commandBytes, addressUsed, stride, stepsAt, pointersAfter}
 use Rattle.packet.specs.Judge.{Carried, accepted, begin, carry, judgeFrom, judge}
 use Rattle.packet.proofs.SliceLaws.{tail-whole}
 use Rattle.packet.specs.Inside.{Passed}
+use Rattle.packet.proofs.ElementLaws.{carried-write, carried-read}
 use Rattle.packet.proofs.CommandLaws.{command-some, advanced-used}
 use Rattle.packet.proofs.ProgressLaws.{Progress, start, progressOf, progressAfter, numberAt}
 use Rattle.packet.proofs.JudgeLaws.{accepted-past}
@@ -41,6 +42,29 @@ pointer-used p f rest e i q n h =
     h
     ∙ ap (λ (j : Bool). pointerOf p j (spaceOf (f .space))) q
     ∙ sym (ap (λ (b : Bool). cond b (number (take 2 (drop 2 rest))) pointer) e)
+
+-- where a command leaves the pointers, and its bytes, from those of its elements
+module _ (f : Fields) (bytes : ℕ) (e : bytes ≡ f .count * rowOf f .element) where
+  forward-is : (n : ℕ) → n ≡ cond (f .increment) bytes 0 → n ≡ f .count * stride f
+  unfolding stride
+  forward-is n h = h ∙ go (f .increment)
+    where
+      go : (b : Bool) → cond b bytes 0 ≡ f .count * cond b (rowOf f .element) 0
+      go true = e
+      go false = sym (mul-zero (f .count))
+
+  pub moved-on : (p : Pointers) (used n : ℕ) → n ≡ cond (f .increment) bytes 0 → (i : Bool) → i ≡ isInfo (kindOf f) → (m : ℕ)
+      → m ≡ advanced used n → (q : Pointers) → q ≡ withPointer p i (spaceOf (f .space)) m
+      → q ≡ withPointer p (isInfo (kindOf f)) (spaceOf (f .space)) (advanced used (f .count * stride f))
+  moved-on p used n h i t m a q w = w ∙ rw (t, a, forward-is n h) refl
+
+  pub whole-write : (h : ℕ) → h ≡ headerBytes f → f .write ≡ true → h + bytes ≡ commandBytes f
+  unfolding commandBytes
+  whole-write h q w = rw (q, e, carried-write f w) refl
+
+  pub whole-read : (h : ℕ) → h ≡ headerBytes f → f .write ≡ false → h ≡ commandBytes f
+  unfolding commandBytes
+  whole-read h q w = rw (q, carried-read f w, mul-zero) (omega arith)
 
 -- one command of the walk, and its end
 place-turn : (guard : List ℕ) (fuel : ℕ) (p : Pointers) (place : ℕ) (rest : List ℕ) → length rest ≤ fuel → 0 < length rest

@@ -2,6 +2,7 @@
 use crate::ranges;
 use cue::records;
 use cue::records::Record;
+use lbp16::pointer::Pointer;
 use lbp16::pointer::Pointers;
 use lbp16::space;
 use lbp16::word::Fields;
@@ -13,9 +14,10 @@ ghost use mathlib.Core.Path.{_≡_};
 ghost use mathlib.Core.Bool.{cond};
 ghost use mathlib.Core.List.{List};
 ghost use Prim.Native.Nat.{ℕ, _*_, _≤_};
-ghost use Rattle.lbp16.specs.Pointer.{pointersOf};
-ghost use Rattle.packet.specs.Step.{Step};
-ghost use Rattle.packet.specs.Command.{addressUsed, stepsAt};
+ghost use Rattle.lbp16.specs.Space.{spaceOf};
+ghost use Rattle.lbp16.specs.Pointer.{withPointer, advanced, pointersOf};
+ghost use Rattle.packet.specs.Step.{Step, isInfo};
+ghost use Rattle.packet.specs.Command.{kindOf, rowOf, commandBytes, addressUsed, stride, stepsAt};
 ghost use Rattle.packet.specs.Judge.{Carried, accepted, judge};
 ghost use Rattle.packet.specs.Verdict.{verdictListed};
 ghost use Rattle.cue.specs.Records.{records, recordsOf, brief};
@@ -55,6 +57,42 @@ fn address(p: Pointers, f: Fields, rest: &[u8]) -> u32
     pointer.at
 }
 
+// The bytes of a command's elements.
+fn element_bytes(f: Fields) -> u32
+    ensures { λ r. ⌜ (r ≡ f .count * rowOf f .element) × (r ≤ 1020) ⌝ }
+{
+    let row = command::row_of(f);
+    f.count as u32 * row.element
+}
+
+// The bytes where the test holds, otherwise none.
+fn bytes_if(test: bool, bytes: u32) -> u32
+    ensures { λ r. ⌜ r ≡ cond test bytes 0 ⌝ }
+{
+    if test { bytes } else { 0 }
+}
+
+// The pointers after a command whose elements have so many bytes.
+fn moved(p: Pointers, f: Fields, used: u32, bytes: u32) -> Pointers
+    requires { ⌜ bytes ≡ f .count * rowOf f .element ⌝ }
+    ensures { λ r. ⌜ r ≡ withPointer p (isInfo (kindOf f)) (spaceOf (f .space)) (advanced used (f .count * stride f)) ⌝ }
+{
+    let pointer = Pointer::new(used).advance(bytes_if(f.increment, bytes));
+    p.with(command::is_info(f), f.space, pointer)
+}
+
+// The bytes of such a command.
+fn whole(f: Fields, bytes: u32) -> usize
+    requires { ⌜ (bytes ≡ f .count * rowOf f .element) × (bytes ≤ 1020) ⌝ }
+    ensures { λ r. ⌜ r ≡ commandBytes f ⌝ }
+{
+    let header = command::header_bytes(f);
+    if f.write {
+        return header + bytes as usize;
+    }
+    header
+}
+
 // The offset of the first command of an accepted packet that writes a protected byte, the packet's length if none does. Of any other
 // packet it is some offset.
 pub(crate) fn protected_place(packet: &[u8], pointers: &[u32], guard: &[u32]) -> usize
@@ -69,8 +107,9 @@ pub(crate) fn protected_place(packet: &[u8], pointers: &[u32], guard: &[u32]) ->
         if writes_protected(guard, f, used) {
             return packet.len() - rest.len();
         }
-        p = command::pointers_after(p, f, used);
-        let k = command::command_bytes(f);
+        let bytes = element_bytes(f);
+        p = moved(p, f, used, bytes);
+        let k = whole(f, bytes);
         if rest.len() < k {
             return packet.len();
         }

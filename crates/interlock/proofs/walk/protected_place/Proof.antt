@@ -40,18 +40,21 @@ returns c =
     let told = c .before .writes-protected .ensures _ _ (u .address .ensures) in
     walk-found (t .before .loop .inv) (t .loop-test .taken) _ (f .fields-at .ensures) end a (sym told ∙ c .if1 .taken)
 
-pointers-after-requires : tie.Need-pointers-after-requires Inv-loop μ-loop
-pointers-after-requires c κs = search needs
+element-bytes-requires : tie.Need-element-bytes-requires Inv-loop μ-loop
+element-bytes-requires c κs = search needs
 
-command-bytes-requires : tie.Need-command-bytes-requires Inv-loop μ-loop
-command-bytes-requires c κs = search needs
+moved-requires : tie.Need-moved-requires Inv-loop μ-loop
+moved-requires c κs = c .element-bytes .ensures .0
+
+whole-requires : tie.Need-whole-requires Inv-loop μ-loop
+whole-requires c κs = c .before .element-bytes .ensures
 
 returns-2 : tie.Need-returns-2 Inv-loop μ-loop
 returns-2 c =
     λ end a.
-    let f = c .before .before .before .before .before .before in
+    let f = c .before .before .before .before .before .before .before in
     let t = f .before in
-    let whole = walk-whole (t .before .loop .inv) (t .loop-test .taken) _ (f .fields-at .ensures) end a _ (c .before .command-bytes .ensures) in
+    let whole = walk-whole (t .before .loop .inv) (t .loop-test .taken) _ (f .fields-at .ensures) end a _ (c .before .whole .ensures) in
     let cut = c .if2 .taken in
     absurd (omega arith)
 
@@ -66,23 +69,23 @@ part-rest-end c = search needs
 
 loop-less : tie.Need-loop-less Inv-loop μ-loop
 loop-less c =
-    let two = some-bytes _ _ (c .before .before .command-bytes .ensures) in
+    let two = some-bytes _ _ (c .before .before .whole .ensures) in
     let whole = c .before .if2 .left in
     simp (length-take, length-drop) (omega arith)
 
 loop-again : tie.Need-loop-again Inv-loop μ-loop
 loop-again c =
-    let w = c .before .before .before .before .before in
+    let w = c .before .before .before .before .before .before in
     let u = w .before in
     let f = u .before in
     let t = f .before in
     let told = w .writes-protected .ensures _ _ (u .address .ensures) in
-    walk-next (t .before .loop .inv) (t .loop-test .taken) _ (f .fields-at .ensures) (sym told ∙ c .before .before .before .before .if1 .left) _
+    walk-next (t .before .loop .inv) (t .loop-test .taken) _ (f .fields-at .ensures) (sym told ∙ c .before .before .before .before .before .if1 .left) _
     (u .address .ensures)
     _
-    (c .before .before .before .pointers-after .ensures)
+    (c .before .before .before .moved .ensures)
     _
-    (c .before .before .command-bytes .ensures)
+    (c .before .before .whole .ensures)
     (c .before .if2 .left)
 
 returns-3 : tie.Need-returns-3 Inv-loop μ-loop
@@ -101,8 +104,9 @@ protected-place-spec =
     writes-protected-requires
     sub-result
     returns
-    pointers-after-requires
-    command-bytes-requires
+    element-bytes-requires
+    moved-requires
+    whole-requires
     returns-2
     sub-rest
     part-rest-start
