@@ -40,9 +40,10 @@ judged-run packet store p reply c = go (eqb (length reply) limit)
     go false e = let z : _≡_ {A = ℕ} 0 1 = cc in absurd (omega arith)
 
 judged-list : (packet store list : List ℕ) (c : Carried) → checkedList packet store list ≡ accepted c
-    → judge (pointersOf list) packet ≡ accepted c
+    → (length list ≡ 8) × (judge (pointersOf list) packet ≡ accepted c)
 unfolding answerTo
-judged-list packet store list c e = sym (may-run-list packet store list (replyBytes (c .steps)) (sym (ap answerTo e)) .3) ∙ e
+judged-list packet store list c e =
+    let m = may-run-list packet store list (replyBytes (c .steps)) (sym (ap answerTo e)) in (m .0, sym (m .3) ∙ e)
 
 module _ (guard : List ℕ) (p : Pointers) (packet : List ℕ) where
   -- A guard that is not sound is refused, whatever the plain verdict is.
@@ -68,14 +69,14 @@ module _ (guard : List ℕ) (p : Pointers) (packet : List ℕ) where
     stopped c h = kept (accepted c) ∙ rw h refl
 
     -- as the code finds the place: of a verdict that accepts only what `judge` accepts
-    module _ (place : ℕ) (walked : (end : Carried) → judge p packet ≡ accepted end → place ≡ protectedPlace guard p packet)
-        (v : Verdict) (judged : (c : Carried) → v ≡ accepted c → judge p packet ≡ accepted c) where
+    module _ (place : ℕ) (v : Verdict)
+        (found : (c : Carried) → v ≡ accepted c → (judge p packet ≡ accepted c) × (place ≡ protectedPlace guard p packet)) where
       pub none-found : place ≡ length packet → guardedVerdict guard p packet v ≡ v
       none-found e =
           passes v
           (λ c q.
-          let a = judged c q in
-          place-tells guard p packet c a ∙ ap not (eq-eqb _ _ (sym (walked c a) ∙ e)))
+          let (a, at) = found c q in
+          place-tells guard p packet c a ∙ ap not (eq-eqb _ _ (sym at ∙ e)))
 
       pub one-found : (place ≡ length packet → ⊥) → answerTo (guardedVerdict guard p packet v) ≡ insteadOf (answerTo v) place
       unfolding answerTo insteadOf
@@ -84,9 +85,9 @@ module _ (guard : List ℕ) (p : Pointers) (packet : List ℕ) where
           go : (u : Verdict) → v ≡ u → answerTo (guardedVerdict guard p packet u) ≡ insteadOf (answerTo u) place
           go (refused n i) q = ap answerTo (passes (refused n i) (λ c z. let y : _≡_ {A = ℕ} 0 1 = cc in absurd (omega arith)))
           go (accepted c) q =
-              let a = judged c q in
-              let t = place-tells guard p packet c a ∙ ap not (ne-eqb _ _ (λ z. h (walked c a ∙ z))) in
-              ap answerTo (stopped c t) ∙ ap (Answer.refused 71) (sym (walked c a))
+              let (a, at) = found c q in
+              let t = place-tells guard p packet c a ∙ ap not (ne-eqb _ _ (λ z. h (at ∙ z))) in
+              ap answerTo (stopped c t) ∙ ap (Answer.refused 71) (sym at)
 
 -- An unprotected packet runs as without the guard.
 pub nothing-else : (guard values packet store : List ℕ) (p : Pointers) (reply : List ℕ) → soundness guard ≡ Answer.accepted values
@@ -124,19 +125,23 @@ module _ (guard packet store pointers : List ℕ) where
   check-unsound n i e = rw (unsound guard (pointersOf pointers) packet n i e) refl
 
   module _ (values : List ℕ) (sound : Answer.accepted values ≡ soundness guard) (place : ℕ)
-      (walked : (end : Carried) → judge (pointersOf pointers) packet ≡ accepted end
+      (walked : length pointers ≡ 8 → (end : Carried) → judge (pointersOf pointers) packet ≡ accepted end
       → place ≡ protectedPlace guard (pointersOf pointers) packet) where
+    found-list : (c : Carried) → checkedList packet store pointers ≡ accepted c
+        → (judge (pointersOf pointers) packet ≡ accepted c) × (place ≡ protectedPlace guard (pointersOf pointers) packet)
+    found-list c e = let (l, j) = judged-list packet store pointers c e in (j, walked l c j)
+
     pub check-passes : place ≡ length packet → (a : Answer) → a ≡ answerTo (checkedList packet store pointers)
         → a ≡ answerTo (guardedCheck guard packet store pointers)
     unfolding guardedCheck
     check-passes e a h =
-        h ∙ ap answerTo (sym (none-found guard _ packet values (sym sound) place walked _ (judged-list packet store pointers) e))
+        h ∙ ap answerTo (sym (none-found guard _ packet values (sym sound) place _ found-list e))
 
     pub check-stopped : (place ≡ length packet → ⊥) → (a : Answer) → a ≡ insteadOf (answerTo (checkedList packet store pointers)) place
         → a ≡ answerTo (guardedCheck guard packet store pointers)
     unfolding guardedCheck
     check-stopped e a h =
-        h ∙ sym (one-found guard _ packet values (sym sound) place walked _ (judged-list packet store pointers) e)
+        h ∙ sym (one-found guard _ packet values (sym sound) place _ found-list e)
 
 -- a refusal stays, and 71 stands in an acceptance's place
 pub stays : (a : Answer) (place : ℕ) (n i : ℕ) → a ≡ Answer.refused n i → a ≡ insteadOf a place
@@ -199,16 +204,37 @@ module _ (guard packet store pointers reply : List ℕ) where
   run-unsound n i e = refused-run n i (λ _. ap answerTo (unsound guard (pointersOf pointers) packet n i e _)) (λ _. rw (← e) refl)
 
   module _ (values : List ℕ) (sound : Answer.accepted values ≡ soundness guard) (place : ℕ)
-      (walked : (end : Carried) → judge (pointersOf pointers) packet ≡ accepted end
+      (walked : length pointers ≡ 8 → (end : Carried) → judge (pointersOf pointers) packet ≡ accepted end
       → place ≡ protectedPlace guard (pointersOf pointers) packet) where
+    found-run : length pointers ≡ 8 → (c : Carried) → runVerdict packet store (pointersOf pointers) reply ≡ accepted c
+        → (judge (pointersOf pointers) packet ≡ accepted c) × (place ≡ protectedPlace guard (pointersOf pointers) packet)
+    found-run l c e = let j = judged-run packet store (pointersOf pointers) reply c e in (j, walked l c j)
+
     pub run-passes : place ≡ length packet → (o : ListOutcome) → o ≡ runList packet store pointers reply
         → o ≡ guardedRun guard packet store pointers reply
     unfolding runList guardedRun runPacket guardedPacket soundFirst answerTo
-    run-passes e o h =
-        let same =
-        none-found guard (pointersOf pointers) packet values (sym sound) place walked _
-        (judged-run packet store (pointersOf pointers) reply) e in
-        h ∙ rw (same, ← sound) refl
+    run-passes e o h = h ∙ go (eqb (length pointers) 8) refl
+      where
+        go : (b : Bool) → eqb (length pointers) 8 ≡ b
+            → _≡_ {A = ListOutcome}
+            (cond b (asList (outcome (runVerdict packet store (pointersOf pointers) reply) store (pointersOf pointers) reply))
+            (record { answer = Answer.refused 1 0; elements = 0; store = store; reply = reply; pointers = pointers }))
+            (cond b
+            (asList
+            (outcome (guardedVerdict guard (pointersOf pointers) packet (runVerdict packet store (pointersOf pointers) reply)) store
+            (pointersOf pointers)
+            reply))
+            (record {
+              answer = answerTo (soundFirst (soundness guard) (refused 1 0));
+              elements = 0;
+              store = store;
+              reply = reply;
+              pointers = pointers;
+            }))
+        go true q =
+            let same = none-found guard (pointersOf pointers) packet values (sym sound) place _ (found-run (eqb-true _ _ q)) e in
+            ap (λ v. asList (outcome v store (pointersOf pointers) reply)) (sym same)
+        go false q = rw (← sound) refl
 
     pub run-room : (length reply ≡ limit → ⊥) → (r : RanList) → verdictListed (r .answer) ≡ Answer.refused 1 0 → r .elements ≡ 0
         → ranList r store pointers reply ≡ guardedRun guard packet store pointers reply
@@ -233,8 +259,7 @@ module _ (guard packet store pointers reply : List ℕ) where
         go (n, (i, is)) =
             refused-run n i
             (λ l.
-            one-found guard (pointersOf pointers) packet values (sym sound) place walked _
-            (judged-run packet store (pointersOf pointers) reply) e
+            one-found guard (pointersOf pointers) packet values (sym sound) place _ (found-run l) e
             ∙ ap (λ v. insteadOf (answerTo v) place) (same-verdict room l)
             ∙ is)
             (λ l. rw (← sound) (ap (λ v. insteadOf (answerTo v) place) (sym (list-other packet store pointers l)) ∙ is))

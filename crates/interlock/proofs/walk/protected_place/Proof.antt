@@ -13,6 +13,9 @@ Inv-loop packet pointers guard rest₀ p₀ rest p = Walk guard packet (pointers
 abbrev μ-loop : tie.MeasureT-loop
 μ-loop packet pointers guard rest₀ p₀ rest p = length rest
 
+returns : tie.Need-returns Inv-loop μ-loop
+returns c = λ l. absurd (c .if1 .taken l)
+
 from-list-requires : tie.Need-from-list-requires Inv-loop μ-loop
 from-list-requires c κs = search needs
 
@@ -31,14 +34,14 @@ writes-protected-requires c κs = search needs
 sub-result : tie.Need-sub-result Inv-loop μ-loop
 sub-result c = c .before .before .before .before .before .loop .inv .left
 
-returns : tie.Need-returns Inv-loop μ-loop
-returns c =
-    λ end a.
+returns-2 : tie.Need-returns-2 Inv-loop μ-loop
+returns-2 c =
+    λ l end a.
     let u = c .before .before in
     let f = u .before in
     let t = f .before in
     let told = c .before .writes-protected .ensures _ _ (u .address .ensures) in
-    walk-found (t .before .loop .inv) (t .loop-test .taken) _ (f .fields-at .ensures) end a (sym told ∙ c .if1 .taken)
+    walk-found (t .before .loop .inv) (t .loop-test .taken) _ (f .fields-at .ensures) end a (sym told ∙ c .if2 .taken)
 
 element-bytes-requires : tie.Need-element-bytes-requires Inv-loop μ-loop
 element-bytes-requires c κs = search needs
@@ -49,20 +52,20 @@ moved-requires c κs = c .element-bytes .ensures .0
 whole-requires : tie.Need-whole-requires Inv-loop μ-loop
 whole-requires c κs = c .before .element-bytes .ensures
 
-returns-2 : tie.Need-returns-2 Inv-loop μ-loop
-returns-2 c =
-    λ end a.
+returns-3 : tie.Need-returns-3 Inv-loop μ-loop
+returns-3 c =
+    λ l end a.
     let f = c .before .before .before .before .before .before .before in
     let t = f .before in
     let whole = walk-whole (t .before .loop .inv) (t .loop-test .taken) _ (f .fields-at .ensures) end a _ (c .before .whole .ensures) in
-    let cut = c .if2 .taken in
+    let cut = c .if3 .taken in
     absurd (omega arith)
 
 sub-rest : tie.Need-sub-rest Inv-loop μ-loop
-sub-rest c = c .if2 .left
+sub-rest c = c .if3 .left
 
 part-rest-start : tie.Need-part-rest-start Inv-loop μ-loop
-part-rest-start c = c .if2 .left
+part-rest-start c = c .if3 .left
 
 part-rest-end : tie.Need-part-rest-end Inv-loop μ-loop
 part-rest-end c = search needs
@@ -70,7 +73,7 @@ part-rest-end c = search needs
 loop-less : tie.Need-loop-less Inv-loop μ-loop
 loop-less c =
     let two = some-bytes _ _ (c .before .before .whole .ensures) in
-    let whole = c .before .if2 .left in
+    let whole = c .before .if3 .left in
     simp (length-take, length-drop) (omega arith)
 
 loop-again : tie.Need-loop-again Inv-loop μ-loop
@@ -80,16 +83,16 @@ loop-again c =
     let f = u .before in
     let t = f .before in
     let told = w .writes-protected .ensures _ _ (u .address .ensures) in
-    walk-next (t .before .loop .inv) (t .loop-test .taken) _ (f .fields-at .ensures) (sym told ∙ c .before .before .before .before .before .if1 .left) _
+    walk-next (t .before .loop .inv) (t .loop-test .taken) _ (f .fields-at .ensures) (sym told ∙ c .before .before .before .before .before .if2 .left) _
     (u .address .ensures)
     _
     (c .before .before .before .moved .ensures)
     _
     (c .before .before .whole .ensures)
-    (c .before .if2 .left)
+    (c .before .if3 .left)
 
-returns-3 : tie.Need-returns-3 Inv-loop μ-loop
-returns-3 c = walk-end (c .before .loop .inv) (let none = c .loop-test .left in omega arith)
+returns-4 : tie.Need-returns-4 Inv-loop μ-loop
+returns-4 c = λ l. walk-end (c .before .loop .inv) (let none = c .loop-test .left in omega arith)
 
 pub protected-place-spec : {M : Type 1} → statement M
 protected-place-spec =
@@ -97,20 +100,21 @@ protected-place-spec =
     (tie.spec
     Inv-loop
     μ-loop
+    returns
     from-list-requires
     loop-holds
     fields-at-requires
     address-requires
     writes-protected-requires
     sub-result
-    returns
+    returns-2
     element-bytes-requires
     moved-requires
     whole-requires
-    returns-2
+    returns-3
     sub-rest
     part-rest-start
     part-rest-end
     loop-less
     loop-again
-    returns-3)
+    returns-4)
