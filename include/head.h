@@ -1,43 +1,50 @@
 /* What it costs, in bytes, by tools/costs; docs/FIRMWARE.md has the rest:
  *
  *                                 x86_64-linux  aarch64-linux  riscv64-linux    armv7-linux      cortex-m4      cortex-m0
- *   code                                31,713         25,080         27,616         37,900         28,286         32,474
- *   constants                            1,260            696            364            112            144            144
+ *   code                                35,345         28,400         30,936         43,180         32,008         36,758
+ *   constants                            1,456            728            336            112            144            144
  *   data                                     0              0              0              0              0              0
  *   stack of head_check                    256            208            208            240            192            264
  *   stack of head_compile                  560            352            400            416            400            436
  *   stack of head_field                    288            176            208            172            176            208
  *   stack of head_fields                   136              0              0              0             16              8
+ *   stack of head_guard                    144              0             16             36             36             76
+ *   stack of head_guarded_check            336            288            304            288            256            368
+ *   stack of head_guarded_list             384            224            256            264            264            332
+ *   stack of head_guarded_run              576            592            576            600            536            664
+ *   stack of head_guarded_spi              304            160            208            176            184            248
  *   stack of head_header                   136              0              0              0              0              8
  *   stack of head_header_word              136              0              0              8              8             20
  *   stack of head_independent            8,592          8,448          8,464          8,448          8,440          8,492
- *   stack of head_judge                  2,016          2,032          2,048          2,096          2,008          2,144
+ *   stack of head_judge                  2,016          2,016          2,032          2,096          2,000          2,144
  *   stack of head_pack                     480            368            416            356            340            408
  *   stack of head_panel_reading            136              0              0              8              8             24
  *   stack of head_panel_report             136              0              0             16             16             24
  *   stack of head_panel_start              136              0              0              0              0              0
- *   stack of head_part                   1,096          1,088          1,248          1,148          1,044          1,256
+ *   stack of head_part                   1,064          1,088          1,248          1,148          1,044          1,256
  *   stack of head_run                      480            432            416            480            456            528
  *   stack of head_salvage                  320            160            192            144            144            204
- *   stack of head_spi                      208             96             96             72             72            104
+ *   stack of head_spi                      256            144            144            144            144            160
  *   stack of head_table                    288            160            208            164            184            216
  *   stack of head_tight_check              720            464            592            560            544            612
- *   stack of head_tighten                1,056            720            928            840            816            940
+ *   stack of head_tighten                1,056            720            928            824            816            916
  *   stack of head_unpack                   464            336            400            308            316            392
  *   stack of head_why                      368            400            384            376            304            392
- *   stack of head_word                     160              0              0             16             16             28
+ *   stack of head_word                     160              0              0             16             16             24
  *
  * A stack is the deepest that the call can need, without that of the functions of libc and libgcc that are named below. No
  * function is reached from itself, none asks for memory, and none keeps anything between calls, so that calls which are lent
  * different memory may run at the same time. On a Cortex-M4 a packet takes at most 240,165 instructions, a burst 1,394, a
  * record of a list 443 in head_compile.
- * x86_64-linux needs memset (libc). Registers beyond the integer ones: check, compile, field, independent, judge, pack,
- *   panel_reading, part, run, spi, table, tight_check, tighten, unpack, why.
- * aarch64-linux needs memset (libc). Registers beyond the integer ones: check, compile, field, fields, header, independent,
- *   judge, pack, panel_reading, panel_report, part, run, spi, table, tight_check, tighten, unpack, why.
+ * x86_64-linux needs memset (libc). Registers beyond the integer ones: check, compile, field, guarded_check, guarded_list,
+ *   guarded_run, guarded_spi, independent, judge, pack, panel_reading, part, run, spi, table, tight_check, tighten, unpack,
+ *   why.
+ * aarch64-linux needs memset (libc). Registers beyond the integer ones: check, compile, field, fields, guarded_check,
+ *   guarded_list, guarded_run, guarded_spi, header, independent, judge, pack, panel_reading, panel_report, part, run, spi,
+ *   table, tight_check, tighten, unpack, why.
  * riscv64-linux needs memcpy (libc), memset (libc). Registers beyond the integer ones: panel_reading.
- * armv7-linux needs memset (libc). Registers beyond the integer ones: check, compile, independent, judge, pack,
- *   panel_reading, part, run, spi, tight_check, tighten, unpack, why.
+ * armv7-linux needs memset (libc). Registers beyond the integer ones: check, compile, guarded_check, guarded_list,
+ *   guarded_run, guarded_spi, independent, judge, pack, panel_reading, part, run, spi, tight_check, tighten, unpack, why.
  * cortex-m4 needs __aeabi_memclr4 (libc). Registers beyond the integer ones: panel_reading.
  * cortex-m0 needs __aeabi_fcmplt (libgcc), __aeabi_fdiv (libgcc), __aeabi_fmul (libgcc), __aeabi_llsl (libgcc), __aeabi_llsr
  *   (libgcc), __aeabi_lmul (libgcc), __aeabi_memclr (libc), __aeabi_memclr4 (libc), __aeabi_memcpy (libc), __aeabi_ui2f
