@@ -164,6 +164,36 @@ off-protected (first ∷ bytes ∷ rest) place width i none here =
     let (one, others) = or-false (shares first bytes place width) _ none in
     ⊎-elim (off-range first bytes place width i one) (off-protected rest place width i others) (or-true (shares first bytes i 1) _ here)
 
+-- Where the ranges have one of the bytes, it is a protected one.
+pub record Touched (guard : List ℕ) (place width : ℕ) : Type 0 where
+  pub byte : ℕ
+  pub low : place ≤ byte
+  pub high : byte < place + width
+  pub is-protected : IsProtected guard byte
+
+pub touched-byte : (guard : List ℕ) (place width : ℕ) → 1 ≤ width → touches guard place width ≡ true → Touched guard place width
+unfolding touches
+touched-byte [] place width w e = let z : _≡_ {A = ℕ} 0 1 = cc in absurd (omega arith)
+touched-byte (first ∷ []) place width w e = let z : _≡_ {A = ℕ} 0 1 = cc in absurd (omega arith)
+touched-byte (first ∷ bytes ∷ rest) place width w e =
+    ⊎-elim (λ s. here (is-sharing first bytes place width s)) (λ t. later (touched-byte rest place width w t))
+    (or-true (shares first bytes place width) _ e)
+  where
+    later : Touched rest place width → Touched (first ∷ bytes ∷ rest) place width
+    later t = record { byte = t .byte; low = t .low; high = t .high; is-protected = or-right (shares first bytes (t .byte) 1) _ (t .is-protected) }
+
+    here : Sharing first bytes place width → Touched (first ∷ bytes ∷ rest) place width
+    here s = go (decLe first place)
+      where
+        go : Dec (first ≤ place) → Touched (first ∷ bytes ∷ rest) place width
+        go (yes l) =
+            let one = sharing first bytes place 1 (record { some = s .some; low = omega arith; high = s .high }) in
+            record { byte = place; low = omega arith; high = omega arith; is-protected = or-left _ _ one }
+        go (no g) =
+            let some = s .some in
+            let one = sharing first bytes first 1 (record { some = some; low = omega arith; high = omega arith }) in
+            record { byte = first; low = omega arith; high = s .low; is-protected = or-left _ _ one }
+
 -- a range that is not faulty
 pub record Fine (first bytes : ℕ) : Type 0 where
   pub end : first + bytes ≤ storeBytes

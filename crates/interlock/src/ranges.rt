@@ -3,17 +3,22 @@ use card::check;
 use packet::judge;
 use packet::judge::Verdict;
 ghost use mathlib.Core.Path.{_≡_};
-ghost use Prim.Native.Nat.{_+_, _≤_};
+ghost use Prim.Native.Nat.{_+_, _^_, _≤_};
 ghost use Rattle.packet.specs.Verdict.{verdictListed};
 ghost use Rattle.interlock.specs.Guard.{shares, faulty, soundness, touches};
 ghost use Rattle.interlock.specs.Inside.{faultAt};
 
 // The most ranges that a guard may have.
-pub const MOST: usize = 64;
+const MOST: usize = 64;
+
+// The first bytes of the unlock cell and of the packet count.
+const UNLOCK: u64 = 65690;
+
+const COUNT: u64 = 65674;
 
 // Whether a range has one of the `width` bytes from `place` on.
 fn shares(first: u32, bytes: u32, place: u64, width: u64) -> bool
-    requires { ⌜ place + width ≤ 1099511627776 ⌝ }
+    requires { ⌜ place + width ≤ 2 ^ 40 ⌝ }
     ensures { λ r. ⌜ r ≡ shares first bytes place width ⌝ }
 {
     let from = first as u64;
@@ -23,17 +28,17 @@ fn shares(first: u32, bytes: u32, place: u64, width: u64) -> bool
     (bytes != 0) & (place < from + bytes as u64)
 }
 
-// Whether a range ends past the store, or has a byte of the unlock cell or of the packet count. Most ranges end before the lower of these.
+// Whether a range ends past the store, or has a byte of one of the two. Most ranges end before them.
 fn faulty(first: u32, bytes: u32) -> bool
     ensures { λ r. ⌜ r ≡ faulty first bytes ⌝ }
 {
     let end = first as u64 + bytes as u64;
-    if end <= 65674 {
+    if end <= COUNT {
         return false;
     }
     ((check::STORE_BYTES as u64) < end)
-        | shares(first, bytes, 65690, 2)
-        | shares(first, bytes, 65674, 2)
+        | shares(first, bytes, UNLOCK, 2)
+        | shares(first, bytes, COUNT, 2)
 }
 
 // Whether the pair at the front is at fault; half a pair is.
@@ -64,7 +69,7 @@ pub(crate) fn soundness(guard: &[u32]) -> Verdict
 
 // Whether some range has one of the `width` bytes from `place` on.
 pub(crate) fn touches(guard: &[u32], place: u64, width: u64) -> bool
-    requires { ⌜ place + width ≤ 1099511627776 ⌝ }
+    requires { ⌜ place + width ≤ 2 ^ 40 ⌝ }
     ensures { λ r. ⌜ r ≡ touches (now (guard .entry)) place width ⌝ }
 {
     let mut rest = guard;

@@ -1,4 +1,5 @@
-// The walks for writes of protected bytes, over a packet's commands and over a list's records. They ask no rule.
+// The walks for writes of protected bytes, over a packet's commands and over a list's records. They ask no rule. A command is read by
+// functions of its own, so that `next_command` keeps its one call, in the run's loop.
 use crate::ranges;
 use cue::records;
 use cue::records::Record;
@@ -123,6 +124,7 @@ pub(crate) fn protected_place(packet: &[u8], pointers: &[u32], guard: &[u32]) ->
     packet.len()
 }
 
+// Whether a record writes a protected byte.
 fn record_protected(guard: &[u32], r: Record) -> bool
     ensures { λ b. ⌜ ((x : Step) → r ≡ brief x → b ≡ writesProtected (now (guard .entry)) x) ⌝ }
 {
