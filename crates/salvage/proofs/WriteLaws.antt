@@ -145,6 +145,9 @@ module _ (list room₀ log₀ room log : List ℕ) (at : ℕ) (c : Counts) (read
         record {
           done = w .done ++ t .t ∷ [];
           counting = counting-next list at c (w .done) s (w .counting) l e d f;
-          room-is = p ∙ front-more room₀ (keptBytes (w .done)) (recordPart s rest) _ room (c .bytes) (w .room-is) bytes-is kept-more (omega (arith, room-same));
+          room-is =
+              p
+              ∙ front-more room₀ (keptBytes (w .done)) (recordPart s rest) _ room (c .bytes) (w .room-is) bytes-is kept-more
+              (omega (arith, room-same));
           log-is = q ∙ front-more log₀ (logFrom 0 (w .done)) (entryPart s at) _ log (2 * c .entries) (w .log-is) entries-is log-more (omega (arith, log-same));
         }
