@@ -12,9 +12,9 @@ ghost use Rattle.interlock.specs.Inside.{faultAt};
 const MOST: usize = 64;
 
 // The first bytes of the unlock cell and of the packet count.
-const UNLOCK: u64 = 65690;
+const UNLOCK: u64 = 65664 + 0x1A;
 
-const COUNT: u64 = 65674;
+const COUNT: u64 = 65664 + 0x0A;
 
 // Whether a range has one of the `width` bytes from `place` on.
 fn shares(first: u32, bytes: u32, place: u64, width: u64) -> bool
