@@ -1,10 +1,10 @@
 -- Cells one after the other: the test of their range, what a loop over them keeps, and what the functions leave.
 use Prim.Native.Nat.{ℕ, zero, suc, _+_, _-_, _*_, _≤_, _<_}
-use mathlib.Core.Path.{_≡_, refl}
+use mathlib.Core.Path.{_≡_, refl, sym, _∙_}
 use mathlib.Core.List.{List, [], _∷_, _++_, append-assoc, append-nil}
 use mathlib.Core.Bool.{Bool, true, false, _||_, cond}
 use native.Mathlib.Omega.{arith}
-use native.Mathlib.Nat.{suc-mul, mul-le-mul-left}
+use native.Mathlib.Nat.{suc-mul, mul-le-mul-left, add-zero}
 use native.Mathlib.Numerals.{add-one, sub-one}
 use lib.Dec.{leb, ltb}
 use lib.ListN.{length, take, drop, getD, set, length-set, drop-of-length-le}
@@ -12,6 +12,8 @@ use lib.Seq.{sets, drop-cons, take-suc-set, take-all, length-sets}
 use borrow.Author.Tests.{leb-true, le-leb, le-ltb, ltb-false}
 use Rattle.lbp16.proofs.BoolLaws.{and-true, or-false}
 use Rattle.packet.specs.Bytes.{number, bytesOf}
+use Rattle.packet.proofs.ByteLaws.{length-bytes}
+use Rattle.packet.proofs.StoreLaws.{sets-twice}
 use Rattle.card.specs.Inside.{Within}
 use Rattle.card.specs.Cells.{cellsWithin, cells, filled, cellsRead, cellsWritten}
 use Rattle.card.proofs.CopyLaws.{last-within}
@@ -152,6 +154,34 @@ module _ {words store₀ : List ℕ} {from stride : ℕ} {store : List ℕ} {at 
   pub writing-ends : Writing words store₀ from stride store at i → length words ≤ i → store ≡ filled (drop 1 words) from stride store₀
   unfolding filled
   writing-ends r h = rw (drop-of-length-le words h) at (r .done)
+
+-- Of words that go into one cell the last stays there.
+last-filled : (w : ℕ) (ws : List ℕ) (a : ℕ) (store : List ℕ)
+    → sets store a (bytesOf 4 (getD (w ∷ ws) (length ws) 0)) ≡ filled (w ∷ ws) a 0 store
+unfolding filled
+last-filled w [] a store = refl
+last-filled w (v ∷ vs) a store =
+    let last = getD (v ∷ vs) (length vs) 0 in
+    let same : length (bytesOf 4 w) ≡ length (bytesOf 4 last) = length-bytes 4 w ∙ sym (length-bytes 4 last) in
+    sym (sets-twice store a (bytesOf 4 w) (bytesOf 4 last) same)
+    ∙ (rw (add-zero a) (last-filled v vs a (sets store a (bytesOf 4 w))))
+
+pub one-within : (words : List ℕ) (a bytes : ℕ) → 2 ≤ length words → cellsWithin (length words - 1) a 0 bytes ≡ true → a + 4 ≤ bytes
+one-within [] a bytes h e = absurd (omega arith)
+one-within (w ∷ []) a bytes h e = absurd (omega arith)
+one-within (w ∷ v ∷ vs) a bytes h e = within-next (length vs) a 0 bytes (rw sub-one at e) .1
+
+pub last-stays : (words : List ℕ) (a : ℕ) (store : List ℕ) → 2 ≤ length words
+    → sets store a (bytesOf 4 (getD words (length words - 1) 0)) ≡ filled (drop 1 words) a 0 store
+last-stays [] a store h = absurd (omega arith)
+last-stays (w ∷ []) a store h = absurd (omega arith)
+last-stays (w ∷ v ∷ vs) a store h = rw sub-one (last-filled v vs a store)
+
+pub none-stays : (words : List ℕ) (a : ℕ) (store : List ℕ) → length words ≡ 1 → store ≡ filled (drop 1 words) a 0 store
+unfolding filled
+none-stays [] a store h = absurd (omega arith)
+none-stays (w ∷ []) a store h = refl
+none-stays (w ∷ v ∷ vs) a store h = absurd (omega arith)
 
 -- What is left: by whether there is a first word, and whether all cells are within the store.
 pub read-none : (store : List ℕ) (a d : ℕ) (answer : List ℕ) → length answer ≡ 0 → answer ≡ cellsRead store a d answer

@@ -37,14 +37,19 @@ fn fetch_cells(store: &[u8], from: usize, stride: usize, answer: &mut [u32])
 }
 
 // The cells from `from` on, `stride` apart, follow the first word of the answer, which is 0. Where one would be past the end, or
-// there is no first word, nothing is done.
+// there is no first word, nothing is done. Cells one behind the other have a call of their own, in which the compiler knows the stride.
 pub fn read_cells(store: &[u8], from: usize, stride: usize, answer: &mut [u32])
     ensures { λ r. ⌜ now (answer .exit) ≡ cellsRead (now (store .entry)) from stride (now (answer .entry)) ⌝ }
 {
     if answer.len() == 0 {
         return;
     }
-    if cells_within(answer.len() - 1, from, stride, store.len()) {
+    if !cells_within(answer.len() - 1, from, stride, store.len()) {
+        return;
+    }
+    if stride == 4 {
+        fetch_cells(store, from, 4, answer);
+    } else {
         fetch_cells(store, from, stride, answer);
     }
 }
@@ -63,8 +68,20 @@ fn store_cells(words: &[u32], store: &mut [u8], from: usize, stride: usize)
     }
 }
 
+// Of words that go into one cell the last stays there.
+fn store_last(words: &[u32], store: &mut [u8], at: usize)
+    requires { ⌜ (1 ≤ length (now words)) × (cellsWithin (length (now words) - 1) at 0 (length (now store)) ≡ true) ⌝ }
+    ensures { λ r. ⌜ now (store .exit) ≡ filled (drop 1 (now (words .entry))) at 0 (now (store .entry)) ⌝ }
+{
+    if words.len() == 1 {
+        return;
+    }
+    let last = words[words.len() - 1];
+    element::store4(store, at, last);
+}
+
 // The words after the first go into the cells from `from` on, `stride` apart. Where one would be past the end, nothing is done.
-// Cells one behind the other have a call of their own, in which the compiler knows the stride.
+// Cells one behind the other have a call of their own, in which the compiler knows the stride, and so has one cell.
 pub fn write_each(words: &[u32], store: &mut [u8], from: usize, stride: usize)
     ensures { λ r. ⌜ now (store .exit) ≡ cellsWritten (now (words .entry)) from stride (now (store .entry)) ⌝ }
 {
@@ -76,6 +93,8 @@ pub fn write_each(words: &[u32], store: &mut [u8], from: usize, stride: usize)
     }
     if stride == 4 {
         store_cells(words, store, from, 4);
+    } else if stride == 0 {
+        store_last(words, store, from);
     } else {
         store_cells(words, store, from, stride);
     }

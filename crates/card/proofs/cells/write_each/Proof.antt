@@ -27,9 +27,15 @@ store-cells-requires c κs =
     let some = test .before .before .if1 .left in
     (omega arith, rw (c .before .if3 .taken) at (sym (test .before .cells-within .ensures) ∙ not-false _ (test .if2 .left)))
 
+store-last-requires : tie.Need-store-last-requires
+store-last-requires c κs =
+    let test = c .before .before .before in
+    let some = test .before .before .if1 .left in
+    (omega arith, rw (c .before .if4 .taken) at (sym (test .before .cells-within .ensures) ∙ not-false _ (test .if2 .left)))
+
 store-cells-requires-2 : tie.Need-store-cells-requires-2
 store-cells-requires-2 c κs =
-    let test = c .before .before in
+    let test = c .before .before .before in
     let some = test .before .before .if1 .left in
     (omega arith, sym (test .before .cells-within .ensures) ∙ not-false _ (test .if2 .left))
 
@@ -50,7 +56,18 @@ same-length-2 c = search needs
 returns-4 : tie.Need-returns-4
 returns-4 c =
     let done = c .before .before in
-    let test = done .before .before .before in
+    let test = done .before .before .before .before in
+    let asked = test .before in
+    (rw (done .before .before .if4 .taken) (done .store-last .ensures))
+    ∙ sym (written-by _ _ _ _ (asked .before .if1 .left) true (sym (asked .cells-within .ensures) ∙ not-false _ (test .if2 .left)))
+
+same-length-3 : tie.Need-same-length-3
+same-length-3 c = search needs
+
+returns-5 : tie.Need-returns-5
+returns-5 c =
+    let done = c .before .before in
+    let test = done .before .before .before .before in
     let asked = test .before in
     done .store-cells2 .ensures
     ∙ sym (written-by _ _ _ _ (asked .before .if1 .left) true (sym (asked .cells-within .ensures) ∙ not-false _ (test .if2 .left)))
@@ -64,8 +81,11 @@ write-each-spec =
     cells-within-requires
     returns-2
     store-cells-requires
+    store-last-requires
     store-cells-requires-2
     same-length
     returns-3
     same-length-2
-    returns-4)
+    returns-4
+    same-length-3
+    returns-5)
