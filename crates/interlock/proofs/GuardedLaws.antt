@@ -14,6 +14,7 @@ use Rattle.lbp16.proofs.PointerLaws.{list-back}
 use Rattle.packet.specs.Step.{replyBytes}
 use Rattle.packet.specs.Command.{limit}
 use Rattle.packet.specs.Judge.{Carried, Verdict, refused, accepted, judge}
+use Rattle.packet.specs.Counts.{elementsMoved}
 use Rattle.packet.specs.Verdict.{answerTo, verdictListed}
 use Rattle.card.specs.Run.{checked, outcome, runVerdict, runPacket, checkedList, Outcome, ListOutcome, asList, runList, ranList}
 use Rattle.card.specs.declared.run.RanList.{RanList}
@@ -157,6 +158,14 @@ always : (a : Answer) (place : ℕ) → (n : ℕ) × ((i : ℕ) × (insteadOf a 
 unfolding insteadOf
 always (Answer.accepted values) place = (71, (place, refl))
 always (Answer.refused n i) place = (n, (i, refl))
+
+-- A refused packet moves no element.
+pub none-moved : (packet : List ℕ) (a : Answer) (n i : ℕ) → a ≡ Answer.refused n i → 0 ≡ elementsMoved a packet
+unfolding elementsMoved
+none-moved packet a n i e = rw e refl
+
+pub none-held : (packet : List ℕ) (a b : Answer) (place : ℕ) → a ≡ insteadOf b place → 0 ≡ elementsMoved a packet
+none-held packet a b place e = let (n, (i, is)) = always b place in none-moved packet a n i (e ∙ is)
 
 -- The run, as the code comes to it.
 module _ (guard packet store pointers reply : List ℕ) where

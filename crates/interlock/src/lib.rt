@@ -16,6 +16,7 @@ ghost use mathlib.Core.Path.{_≡_};
 ghost use mathlib.Core.List.{[], _∷_};
 ghost use Prim.Native.Nat.{ℕ, _≤_};
 ghost use Rattle.lbp16.specs.Answer.{Answer};
+ghost use Rattle.packet.specs.Counts.{elementsMoved};
 ghost use Rattle.packet.specs.Verdict.{answerTo, verdictListed};
 ghost use Rattle.card.specs.Run.{checkedList, ranList, mostElements};
 ghost use Rattle.spi.specs.Spi.{burstLeft, mostInBurst};
@@ -68,6 +69,7 @@ pub fn run(
 ) -> RanList
     ensures ran { λ r. ⌜ ranList r (now (store .exit)) (now (pointers .exit)) (now (reply .exit))
         ≡ guardedRun (now (guard .entry)) (now (packet .entry)) (now (store .entry)) (now (pointers .entry)) (now (reply .entry)) ⌝ }
+    ensures summed { λ r. ⌜ r .elements ≡ elementsMoved (verdictListed (r .answer)) (now (packet .entry)) ⌝ }
     ensures bounded { λ r. ⌜ r .elements ≤ mostElements ⌝ }
 {
     let sound = ranges::soundness(guard);

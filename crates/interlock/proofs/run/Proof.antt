@@ -4,7 +4,7 @@ use Rattle.interlock.proofs.run.Tie as tie
 use mathlib.Core.Path.{refl, sym, ap, _∙_}
 use native.Mathlib.Omega.{arith}
 use Rattle.packet.specs.Verdict.{verdictListed}
-use Rattle.interlock.proofs.GuardedLaws.{run-unsound, run-passes, run-room, run-stopped}
+use Rattle.interlock.proofs.GuardedLaws.{none-moved, none-held, run-unsound, run-passes, run-room, run-stopped}
 
 soundness-requires : tie.Need-soundness-requires
 soundness-requires c κs = search needs
@@ -20,7 +20,7 @@ unfolding verdictListed
 returns c =
     let told = c .enum-told2 .given .1 in
     let unsound = ap verdictListed (sym told) ∙ c .before .before .soundness .ensures in
-    (run-unsound _ _ _ _ _ _ _ unsound _ (ap verdictListed told) refl, omega arith)
+    (run-unsound _ _ _ _ _ _ _ unsound _ (ap verdictListed told) refl, (none-moved _ _ _ _ (ap verdictListed told), omega arith))
 
 protected-place-requires : tie.Need-protected-place-requires
 protected-place-requires c κs = search needs
@@ -44,7 +44,7 @@ returns-2 c =
     let p = c .before .before .before .before .before .before .before .before .before .before .before in
     let good = ap verdictListed (sym (p .before .before .enum-told .given .1)) ∙ p .before .before .before .before .soundness .ensures in
     let none = c .before .before .before .before .before .before .before .before .before .before .if1 .taken in
-    (run-passes _ _ _ _ _ _ good _ (p .protected-place .ensures) none _ (done .0), done .1 .1)
+    (run-passes _ _ _ _ _ _ good _ (p .protected-place .ensures) none _ (done .0), done .1)
 
 refused-requires : tie.Need-refused-requires
 refused-requires c κs = search needs
@@ -56,8 +56,10 @@ returns-3 : tie.Need-returns-3
 unfolding verdictListed
 returns-3 c =
     let p = c .before .before .before in
-    let good = ap verdictListed (sym (p .before .before .enum-told .given .1)) ∙ p .before .before .before .before .soundness .ensures in
-    (run-room _ _ _ _ _ _ good _ (p .protected-place .ensures) (c .before .if2 .taken) _ (c .refused .ensures) refl, omega arith)
+    let good = ap verdictListed (sym (p .before .before .enum-told .given .1)) ∙ p .before .before .before .before .soundness .ensures in (
+      run-room _ _ _ _ _ _ good _ (p .protected-place .ensures) (c .before .if2 .taken) _ (c .refused .ensures) refl,
+      (none-moved _ _ _ _ (c .refused .ensures), omega arith),
+    )
 
 held-back-requires : tie.Need-held-back-requires
 held-back-requires c κs = search needs
@@ -76,7 +78,7 @@ returns-4 c =
       run-stopped _ _ _ _ _ _ good _ (p .protected-place .ensures) (c .before .before .before .before .if1 .left) (c .before .before .before .if2 .left) _
           (c .held-back .ensures)
           refl,
-      omega arith,
+      (none-held _ _ _ _ (c .held-back .ensures), omega arith),
     )
 
 pub run-spec : {M : Type 1} → statement M
