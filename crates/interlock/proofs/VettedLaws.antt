@@ -20,6 +20,7 @@ use Rattle.packet.proofs.StoreLaws.{length-after}
 use Rattle.card.specs.Run.{unlockCell, cleared, counted, badState, checked, Outcome, outcome, runVerdict}
 use Rattle.card.proofs.RunLaws.{good-state, state-again, length-cleared, length-counted, run-accepted}
 use Rattle.cue.specs.Records.{records, recordsOf}
+use Rattle.cue.specs.Output.{parts, apart}
 use Rattle.cue.specs.Compile.{packed, compiled}
 use Rattle.cue.specs.Play.{Played, isAccepted, replyLength, play}
 use Rattle.cue.proofs.Relations.{Mixed, Does, Holds}
@@ -124,13 +125,17 @@ module _ (guard values : List ℕ) (sound : soundness guard ≡ Answer.accepted 
       (play-same h later next (j .0 .pointers) later-rooms again (λ i. ok (suc i)))
       ∙ sym (ap (λ (o : Outcome). followed o (play packets later-rooms (o .store) (o .pointers))) plain)
 
+-- a list has one list of records
+same-records : (list : List ℕ) {xs ys : List Step} → recordsOf list ≡ records xs → recordsOf list ≡ records ys → xs ≡ ys
+same-records list e f = cc
+
 -- Of a list that the guard lets pass, compiled: each packet passes, and demand 3 holds with guarded runs.
 pub vetted : (guard list : List ℕ) (n : ℕ) → guardedList guard list ≡ Answer.accepted (n ∷ []) → (room : List ℕ) (bytes count : ℕ)
     → compiled list room .answer ≡ Answer.accepted (bytes ∷ count ∷ []) → GuardedDemand3 guard list (compiled list room .room) bytes count
 vetted guard list n e room bytes count a =
     let v = let-pass guard list n e in
     let d = demand3 list room bytes count a in
-    let q : v .xs ≡ d .xs = same-records (v .list-records) (d .list-records) in
+    let q : v .xs ≡ d .xs = same-records list (v .list-records) (d .list-records) in
     let free : protected guard (d .xs) ≡ false = rw q at (v .free) in
     let hold = packets-hold (d .xs) (records-good list (d .xs) (d .list-records)) in
     record {
@@ -143,9 +148,6 @@ vetted guard list n e room bytes count a =
           λ store p rooms fine ok.
           rw (play-same guard (v .values) (v .sound) hold free store p rooms fine ok) (d .same store p rooms fine ok);
     }
-  where
-    same-records : {xs ys : List Step} → recordsOf list ≡ records xs → recordsOf list ≡ records ys → xs ≡ ys
-    same-records e f = cc
 
 -- The same of every output that the checker of tighter packing accepts for it.
 pub vetted-tight : (guard list : List ℕ) (n : ℕ) → guardedList guard list ≡ Answer.accepted (n ∷ []) → (proposal : List ℕ) (count : ℕ)
@@ -153,7 +155,7 @@ pub vetted-tight : (guard list : List ℕ) (n : ℕ) → guardedList guard list 
 vetted-tight guard list n e proposal count a =
     let v = let-pass guard list n e in
     let t = accepted-is list proposal count a in
-    let q : v .xs ≡ t .xs = same-records (v .list-records) (t .list-records) in
+    let q : v .xs ≡ t .xs = same-records list (v .list-records) (t .list-records) in
     let free : protected guard (t .xs) ≡ false = rw q at (v .free) in
     let hold = rw (t .same) at (done-holds (t .accepts) (t .set) (no-info list proposal count t)) in
     record {
@@ -168,9 +170,6 @@ vetted-tight guard list n e proposal count a =
           rw (play-same guard (v .values) (v .sound) hold free store p rooms fine ok)
           (run-all (t .packets) (t .xs) hold (records-good list (t .xs) (t .list-records)) store p rooms fine ok);
     }
-  where
-    same-records : {xs ys : List Step} → recordsOf list ≡ records xs → recordsOf list ≡ records ys → xs ≡ ys
-    same-records e f = cc
 
 -- A list that is refused with 71 has a packet that the guarded run refuses.
 pub held-stopped : (guard list : List ℕ) (i : ℕ) → guardedList guard list ≡ Answer.refused 71 i
@@ -179,3 +178,14 @@ held-stopped guard list i e =
     let h = held-back guard list i e in
     let hold = packets-hold (h .xs) (records-good list (h .xs) (h .list-records)) in
     (h .xs, (h .list-records, some-stopped guard (h .values) (h .sound) hold (h .some)))
+
+-- And so has every output that the checker of tighter packing accepts for it.
+pub held-stopped-tight : (guard list : List ℕ) (i : ℕ) → guardedList guard list ≡ Answer.refused 71 i → (proposal : List ℕ) (count : ℕ)
+    → Tight.checked list proposal ≡ Tight.accepted count
+    → (packets : List (List ℕ)) × ((apart proposal ≡ parts packets) × SomeStopped guard packets)
+held-stopped-tight guard list i e proposal count a =
+    let h = held-back guard list i e in
+    let t = accepted-is list proposal count a in
+    let q : h .xs ≡ t .xs = same-records list (h .list-records) (t .list-records) in
+    let hold = rw (t .same) at (done-holds (t .accepts) (t .set) (no-info list proposal count t)) in
+    (t .packets, (t .sound, some-stopped guard (h .values) (h .sound) hold (rw q at (h .some))))

@@ -23,7 +23,7 @@ returns : tie.Need-returns
 unfolding exportGuardedRun
 returns c =
     let ran = c .before .before .before .before .before .before .before .run .ensures in
-    (ran-left _ _ _ _ _ _ (ran .0) (c .of-verdict .ensures), ran .1)
+    (ran-left _ _ _ _ _ _ (ran .0) (c .of-verdict .ensures), ran .1 .1)
 
 pub head-guarded-run-spec : {M : Type 1} → statement M
 head-guarded-run-spec = tie.close (tie.spec run-requires of-verdict-requires same-length same-length-2 same-length-3 returns)
