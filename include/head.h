@@ -1,7 +1,7 @@
 /* What it costs, in bytes, by tools/costs; docs/FIRMWARE.md has the rest:
  *
  *                                 x86_64-linux  aarch64-linux  riscv64-linux    armv7-linux      cortex-m4      cortex-m0
- *   code                                35,345         28,400         30,936         43,180         32,008         36,758
+ *   code                                35,467         28,552         30,994         43,488         31,862         36,430
  *   constants                            1,456            728            336            112            144            144
  *   data                                     0              0              0              0              0              0
  *   stack of head_check                    256            208            208            240            192            264
@@ -12,7 +12,7 @@
  *   stack of head_guarded_check            336            288            304            288            256            368
  *   stack of head_guarded_list             384            224            256            264            264            332
  *   stack of head_guarded_run              576            592            576            600            536            664
- *   stack of head_guarded_spi              304            160            208            176            184            248
+ *   stack of head_guarded_spi              304            160            208            176            184            240
  *   stack of head_header                   136              0              0              0              0              8
  *   stack of head_header_word              136              0              0              8              8             20
  *   stack of head_independent            8,592          8,448          8,464          8,448          8,440          8,492
@@ -24,7 +24,7 @@
  *   stack of head_part                   1,064          1,088          1,248          1,148          1,044          1,256
  *   stack of head_run                      480            432            416            480            456            528
  *   stack of head_salvage                  320            160            192            144            144            204
- *   stack of head_spi                      256            144            144            144            144            160
+ *   stack of head_spi                      256            144            144            144            144            152
  *   stack of head_table                    288            160            208            164            184            216
  *   stack of head_tight_check              720            464            592            560            544            612
  *   stack of head_tighten                1,056            720            928            824            816            916
