@@ -16,12 +16,12 @@ use Rattle.packet.specs.Judge.{Verdict, judge, accepted, refused}
 use Rattle.packet.specs.Verdict.{answerTo, verdictListed}
 use Rattle.packet.specs.Counts.{elementsMoved}
 use Rattle.card.specs.Run.{Outcome, cleared, counted, badState, checked, outcome, runVerdict, runPacket, ran}
-use Rattle.card.specs.Run.{checkedList, ListOutcome, asList, runList, ranList, mostElements}
-use Rattle.lbp16.specs.Pointer.{pointersOf, pointerList}
-use Rattle.lbp16.proofs.PointerLaws.{list-back, list-length, back-list}
+use Rattle.card.specs.Run.{checkedLent, LentOutcome, asLent, runLent, ranLent, mostElements}
+use Rattle.lbp16.specs.Pointer.{pointersOf, lentPointers}
+use Rattle.lbp16.proofs.PointerLaws.{lent-back, lent-length, back-lent}
 use Rattle.card.specs.Inside.{IsAccepted, Performed}
 use Rattle.card.specs.declared.run.Ran.{Ran}
-use Rattle.card.specs.declared.run.RanList.{RanList}
+use Rattle.card.specs.declared.run.RanLent.{RanLent}
 use Rattle.card.proofs.RunLaws.{checked-cases, run-checked, good-state, elements-summed, at-most}
 
 module _ (packet store : List ℕ) (p : Pointers) where
@@ -62,107 +62,107 @@ eight-or-not n = go (eqb n 8) refl
     go false e = inr (eqb-false n 8 e)
 
 -- The same with pointers as a list.
-checked-eight : (packet store list : List ℕ) → length list ≡ 8 → checkedList packet store list ≡ checked packet store (pointersOf list)
-unfolding checkedList
-checked-eight packet store list l = rw (eq-eqb _ _ l) refl
+checked-eight : (packet store lent : List ℕ) → length lent ≡ 8 → checkedLent packet store lent ≡ checked packet store (pointersOf lent)
+unfolding checkedLent
+checked-eight packet store lent l = rw (eq-eqb _ _ l) refl
 
-module _ (packet store list : List ℕ) where
-  pub list-other : (length list ≡ 8 → ⊥) → checkedList packet store list ≡ refused 1 0
-  unfolding checkedList
-  list-other h = rw (ne-eqb _ _ h) refl
+module _ (packet store lent : List ℕ) where
+  pub lent-other : (length lent ≡ 8 → ⊥) → checkedLent packet store lent ≡ refused 1 0
+  unfolding checkedLent
+  lent-other h = rw (ne-eqb _ _ h) refl
 
-  pub list-checked : (a : Answer) → length list ≡ 8 → (v : Verdict) → checked packet store (pointersOf list) ≡ v → a ≡ answerTo v
-      → a ≡ answerTo (checkedList packet store list)
-  list-checked a l v e h = h ∙ ap answerTo (sym (checked-eight packet store list l ∙ e))
+  pub lent-checked : (a : Answer) → length lent ≡ 8 → (v : Verdict) → checked packet store (pointersOf lent) ≡ v → a ≡ answerTo v
+      → a ≡ answerTo (checkedLent packet store lent)
+  lent-checked a l v e h = h ∙ ap answerTo (sym (checked-eight packet store lent l ∙ e))
 
   -- a packet that is accepted on a list: there are eight, and it may be done
-  pub may-run-list : (n : ℕ) → Answer.accepted (n ∷ []) ≡ answerTo (checkedList packet store list)
-      → (length list ≡ 8) × IsAccepted (judge (pointersOf list) packet) × (length store ≡ storeBytes)
-      × (checkedList packet store list ≡ judge (pointersOf list) packet)
+  pub may-run-lent : (n : ℕ) → Answer.accepted (n ∷ []) ≡ answerTo (checkedLent packet store lent)
+      → (length lent ≡ 8) × IsAccepted (judge (pointersOf lent) packet) × (length store ≡ storeBytes)
+      × (checkedLent packet store lent ≡ judge (pointersOf lent) packet)
   unfolding answerTo
-  may-run-list n e = go (eight-or-not (length list)) e
+  may-run-lent n e = go (eight-or-not (length lent)) e
     where
-      go : ((length list ≡ 8) ⊎ (length list ≡ 8 → ⊥)) → Answer.accepted (n ∷ []) ≡ answerTo (checkedList packet store list)
-          → (length list ≡ 8) × IsAccepted (judge (pointersOf list) packet) × (length store ≡ storeBytes)
-          × (checkedList packet store list ≡ judge (pointersOf list) packet)
+      go : ((length lent ≡ 8) ⊎ (length lent ≡ 8 → ⊥)) → Answer.accepted (n ∷ []) ≡ answerTo (checkedLent packet store lent)
+          → (length lent ≡ 8) × IsAccepted (judge (pointersOf lent) packet) × (length store ≡ storeBytes)
+          × (checkedLent packet store lent ≡ judge (pointersOf lent) packet)
       go (inl l) e =
-          let m = may-run packet store (pointersOf list) n (e ∙ ap answerTo (checked-eight packet store list l)) in
-          (l, m .0, m .1, checked-eight packet store list l ∙ m .2)
-      go (inr h) e = let q = e ∙ ap answerTo (list-other h) in let z : _≡_ {A = ℕ} 0 1 = cc in absurd (omega arith)
+          let m = may-run packet store (pointersOf lent) n (e ∙ ap answerTo (checked-eight packet store lent l)) in
+          (l, m .0, m .1, checked-eight packet store lent l ∙ m .2)
+      go (inr h) e = let q = e ∙ ap answerTo (lent-other h) in let z : _≡_ {A = ℕ} 0 1 = cc in absurd (omega arith)
 
-module _ (packet store list reply : List ℕ) where
-  listed : (r : RanList) (store′ list′ reply′ : List ℕ) (o : Outcome) → length list ≡ 8 → runPacket packet store (pointersOf list) reply ≡ o
-      → ranList r store′ list′ reply′ ≡ asList o → ranList r store′ list′ reply′ ≡ runList packet store list reply
-  unfolding runList
-  listed r store′ list′ reply′ o l e h = rw (eq-eqb _ _ l, e) h
+module _ (packet store lent reply : List ℕ) where
+  listed : (r : RanLent) (store′ lent′ reply′ : List ℕ) (o : Outcome) → length lent ≡ 8 → runPacket packet store (pointersOf lent) reply ≡ o
+      → ranLent r store′ lent′ reply′ ≡ asLent o → ranLent r store′ lent′ reply′ ≡ runLent packet store lent reply
+  unfolding runLent
+  listed r store′ lent′ reply′ o l e h = rw (eq-eqb _ _ l, e) h
 
-  other-count : (r : RanList) → (length list ≡ 8 → ⊥) → verdictListed (r .answer) ≡ Answer.refused 1 0 → r .elements ≡ 0
-      → ranList r store list reply ≡ runList packet store list reply
-  unfolding runList ranList
+  other-count : (r : RanLent) → (length lent ≡ 8 → ⊥) → verdictListed (r .answer) ≡ Answer.refused 1 0 → r .elements ≡ 0
+      → ranLent r store lent reply ≡ runLent packet store lent reply
+  unfolding runLent ranLent
   other-count r h a z = rw (ne-eqb _ _ h, a, z) refl
 
-  pub other-room : (length reply ≡ limit → ⊥) → (r : RanList) → verdictListed (r .answer) ≡ Answer.refused 1 0 → r .elements ≡ 0
-      → ranList r store list reply ≡ runList packet store list reply
-  unfolding runPacket runVerdict ranList asList outcome answerTo
-  other-room h r a z = go (eight-or-not (length list))
+  pub other-room : (length reply ≡ limit → ⊥) → (r : RanLent) → verdictListed (r .answer) ≡ Answer.refused 1 0 → r .elements ≡ 0
+      → ranLent r store lent reply ≡ runLent packet store lent reply
+  unfolding runPacket runVerdict ranLent asLent outcome answerTo
+  other-room h r a z = go (eight-or-not (length lent))
     where
-      go : (length list ≡ 8) ⊎ (length list ≡ 8 → ⊥) → ranList r store list reply ≡ runList packet store list reply
+      go : (length lent ≡ 8) ⊎ (length lent ≡ 8 → ⊥) → ranLent r store lent reply ≡ runLent packet store lent reply
       go (inl l) =
-          listed r store list reply _ l refl (rw (ne-eqb _ _ h, a, z, list-back list l) refl)
+          listed r store lent reply _ l refl (rw (ne-eqb _ _ h, a, z, lent-back lent l) refl)
       go (inr k) = other-count r k a z
 
   module _ (room : length reply ≡ limit) where
-    pub run-refused : (n place : ℕ) (r : RanList) → verdictListed (r .answer) ≡ Answer.refused n place
-        → Answer.refused n place ≡ answerTo (checkedList packet store list) → r .elements ≡ 0
-        → ranList r store list reply ≡ runList packet store list reply
-    unfolding ranList asList outcome answerTo
-    run-refused n place r a e z = go (eight-or-not (length list))
+    pub run-refused : (n place : ℕ) (r : RanLent) → verdictListed (r .answer) ≡ Answer.refused n place
+        → Answer.refused n place ≡ answerTo (checkedLent packet store lent) → r .elements ≡ 0
+        → ranLent r store lent reply ≡ runLent packet store lent reply
+    unfolding ranLent asLent outcome answerTo
+    run-refused n place r a e z = go (eight-or-not (length lent))
       where
-        by : (v : Verdict) → length list ≡ 8 → Answer.refused n place ≡ answerTo v
-            → ranList r store list reply ≡ asList (outcome v store (pointersOf list) reply)
-        by (refused m k) l e = rw (a, e, z, list-back list l) refl
+        by : (v : Verdict) → length lent ≡ 8 → Answer.refused n place ≡ answerTo v
+            → ranLent r store lent reply ≡ asLent (outcome v store (pointersOf lent) reply)
+        by (refused m k) l e = rw (a, e, z, lent-back lent l) refl
         by (accepted c) l e = let z : _≡_ {A = ℕ} 0 1 = cc in absurd (omega arith)
 
-        go : (length list ≡ 8) ⊎ (length list ≡ 8 → ⊥) → ranList r store list reply ≡ runList packet store list reply
+        go : (length lent ≡ 8) ⊎ (length lent ≡ 8 → ⊥) → ranLent r store lent reply ≡ runLent packet store lent reply
         go (inl l) =
-            listed r store list reply _ l (run-checked packet store (pointersOf list) reply room)
-            (by (checked packet store (pointersOf list)) l (e ∙ ap answerTo (checked-eight packet store list l)))
-        go (inr h) = other-count r h (a ∙ e ∙ ap answerTo (list-other packet store list h)) z
+            listed r store lent reply _ l (run-checked packet store (pointersOf lent) reply room)
+            (by (checked packet store (pointersOf lent)) l (e ∙ ap answerTo (checked-eight packet store lent l)))
+        go (inr h) = other-count r h (a ∙ e ∙ ap answerTo (lent-other packet store lent h)) z
 
-    pub run-done : (n : ℕ) (r : RanList) (left reply′ list′ : List ℕ) → verdictListed (r .answer) ≡ Answer.accepted (n ∷ [])
-        → Answer.accepted (n ∷ []) ≡ answerTo (checkedList packet store list)
-        → Performed packet store reply list left reply′ list′ (r .elements) → (store′ : List ℕ) → store′ ≡ counted (cleared left)
-        → ranList r store′ list′ reply′ ≡ runList packet store list reply
-    unfolding ranList asList outcome
-    run-done n r left reply′ list′ a e d store′ q =
-        let m = may-run-list packet store list n e in
+    pub run-done : (n : ℕ) (r : RanLent) (left reply′ lent′ : List ℕ) → verdictListed (r .answer) ≡ Answer.accepted (n ∷ [])
+        → Answer.accepted (n ∷ []) ≡ answerTo (checkedLent packet store lent)
+        → Performed packet store reply lent left reply′ lent′ (r .elements) → (store′ : List ℕ) → store′ ≡ counted (cleared left)
+        → ranLent r store′ lent′ reply′ ≡ runLent packet store lent reply
+    unfolding ranLent asLent outcome
+    run-done n r left reply′ lent′ a e d store′ q =
+        let m = may-run-lent packet store lent n e in
         let v = m .3 ∙ d .judged in
-        let w = sym (checked-eight packet store list (m .0)) ∙ v in
-        listed r store′ list′ reply′ _ (m .0) (run-checked packet store (pointersOf list) reply room)
+        let w = sym (checked-eight packet store lent (m .0)) ∙ v in
+        listed r store′ lent′ reply′ _ (m .0) (run-checked packet store (pointersOf lent) reply room)
         (rw (w, a, e, ap answerTo v, q, d .stored, d .replied, d .pointed, d .moved) refl)
 
 -- the refusal of another count of pointers than eight
-abbrev notEight : List ℕ → List ℕ → List ℕ → ListOutcome
-notEight store list reply = record { answer = Answer.refused 1 0; elements = 0; store = store; reply = reply; pointers = list }
+abbrev notEight : List ℕ → List ℕ → List ℕ → LentOutcome
+notEight store lent reply = record { answer = Answer.refused 1 0; elements = 0; store = store; reply = reply; pointers = lent }
 
 -- What a run answers has the number of elements moved, and that is bounded.
-module _ (packet store list reply : List ℕ) where
-  list-cases : (P : ListOutcome → Type 0) → P (asList (runPacket packet store (pointersOf list) reply)) → P (notEight store list reply)
-      → P (runList packet store list reply)
-  unfolding runList
-  list-cases P eight other = go (eqb (length list) 8)
+module _ (packet store lent reply : List ℕ) where
+  lent-cases : (P : LentOutcome → Type 0) → P (asLent (runPacket packet store (pointersOf lent) reply)) → P (notEight store lent reply)
+      → P (runLent packet store lent reply)
+  unfolding runLent
+  lent-cases P eight other = go (eqb (length lent) 8)
     where
-      go : (b : Bool) → P (cond b (asList (runPacket packet store (pointersOf list) reply)) (notEight store list reply))
+      go : (b : Bool) → P (cond b (asLent (runPacket packet store (pointersOf lent) reply)) (notEight store lent reply))
       go true = eight
       go false = other
 
-  pub list-work : (r : RanList) (store′ list′ reply′ : List ℕ) → ranList r store′ list′ reply′ ≡ runList packet store list reply
-      → (ranList r store′ list′ reply′ ≡ runList packet store list reply)
+  pub lent-work : (r : RanLent) (store′ lent′ reply′ : List ℕ) → ranLent r store′ lent′ reply′ ≡ runLent packet store lent reply
+      → (ranLent r store′ lent′ reply′ ≡ runLent packet store lent reply)
       × ((r .elements ≡ elementsMoved (verdictListed (r .answer)) packet) × (r .elements ≤ mostElements))
-  unfolding ranList asList elementsMoved
-  list-work r store′ list′ reply′ h =
-      let summed = list-cases (λ o. o .elements ≡ elementsMoved (o .answer) packet) (elements-summed packet store _ reply) refl in
-      let bounded = list-cases (λ o. o .elements ≤ mostElements) (at-most packet store _ reply) (omega arith) in
+  unfolding ranLent asLent elementsMoved
+  lent-work r store′ lent′ reply′ h =
+      let summed = lent-cases (λ o. o .elements ≡ elementsMoved (o .answer) packet) (elements-summed packet store _ reply) refl in
+      let bounded = lent-cases (λ o. o .elements ≤ mostElements) (at-most packet store _ reply) (omega arith) in
       (h, (rw (← h) at summed, rw (← h) at bounded))
 
 pub ran-work : (packet store reply : List ℕ) (p : Pointers) (r : Ran) (store′ reply′ : List ℕ)
@@ -174,28 +174,28 @@ ran-work packet store reply p r store′ reply′ h =
     (h, (rw (← h) at (elements-summed packet store p reply), rw (← h) at (at-most packet store p reply)))
 
 -- pointers by value, checked as their list
-pub check-listed : (packet store : List ℕ) (p : Pointers) (list : List ℕ) (a : Answer) → list ≡ pointerList p
-    → a ≡ answerTo (checkedList packet store list) → a ≡ answerTo (checked packet store p)
-unfolding checkedList
-check-listed packet store p list a e h = h ∙ rw (e, eq-eqb _ _ (list-length p), back-list p) refl
+pub check-listed : (packet store : List ℕ) (p : Pointers) (lent : List ℕ) (a : Answer) → lent ≡ lentPointers p
+    → a ≡ answerTo (checkedLent packet store lent) → a ≡ answerTo (checked packet store p)
+unfolding checkedLent
+check-listed packet store p lent a e h = h ∙ rw (e, eq-eqb _ _ (lent-length p), back-lent p) refl
 
-eight-listed : (packet store reply : List ℕ) (p : Pointers) (list : List ℕ) → list ≡ pointerList p
-    → runList packet store list reply ≡ asList (runPacket packet store p reply)
-unfolding runList
-eight-listed packet store reply p list e = rw (e, eq-eqb _ _ (list-length p), back-list p) refl
+eight-listed : (packet store reply : List ℕ) (p : Pointers) (lent : List ℕ) → lent ≡ lentPointers p
+    → runLent packet store lent reply ≡ asLent (runPacket packet store p reply)
+unfolding runLent
+eight-listed packet store reply p lent e = rw (e, eq-eqb _ _ (lent-length p), back-lent p) refl
 
 -- pointers by value, run as their list
-pub ran-listed : (packet store reply : List ℕ) (p : Pointers) (l : RanList) (r : Ran) (store′ list list′ reply′ : List ℕ)
-    → list ≡ pointerList p → ranList l store′ list′ reply′ ≡ runList packet store list reply → r .answer ≡ l .answer
-    → r .elements ≡ l .elements → r .pointers ≡ pointersOf list′ → ran r store′ reply′ ≡ runPacket packet store p reply
-unfolding ran ranList asList
-ran-listed packet store reply p l r store′ list list′ reply′ e h a n q =
-    let same : ranList l store′ list′ reply′ ≡ asList (runPacket packet store p reply) = h ∙ eight-listed packet store reply p list e in
+pub ran-listed : (packet store reply : List ℕ) (p : Pointers) (l : RanLent) (r : Ran) (store′ lent lent′ reply′ : List ℕ)
+    → lent ≡ lentPointers p → ranLent l store′ lent′ reply′ ≡ runLent packet store lent reply → r .answer ≡ l .answer
+    → r .elements ≡ l .elements → r .pointers ≡ pointersOf lent′ → ran r store′ reply′ ≡ runPacket packet store p reply
+unfolding ran ranLent asLent
+ran-listed packet store reply p l r store′ lent lent′ reply′ e h a n q =
+    let same : ranLent l store′ lent′ reply′ ≡ asLent (runPacket packet store p reply) = h ∙ eight-listed packet store reply p lent e in
     rw (a, n, q) (back same)
   where
-    back : ranList l store′ list′ reply′ ≡ asList (runPacket packet store p reply)
+    back : ranLent l store′ lent′ reply′ ≡ asLent (runPacket packet store p reply)
         → _≡_ {A = Outcome}
-        (record { answer = verdictListed (l .answer); elements = l .elements; store = store′; reply = reply′; pointers = pointersOf list′ })
+        (record { answer = verdictListed (l .answer); elements = l .elements; store = store′; reply = reply′; pointers = pointersOf lent′ })
         (runPacket packet store p reply)
     back h =
         λ i.
@@ -204,5 +204,5 @@ ran-listed packet store reply p l r store′ list list′ reply′ e h a n q =
           elements = h i .elements;
           store = h i .store;
           reply = h i .reply;
-          pointers = (ap (λ (o : ListOutcome). pointersOf (o .pointers)) h ∙ back-list (runPacket packet store p reply .pointers)) i;
+          pointers = (ap (λ (o : LentOutcome). pointersOf (o .pointers)) h ∙ back-lent (runPacket packet store p reply .pointers)) i;
         }

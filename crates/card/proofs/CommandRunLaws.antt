@@ -20,7 +20,7 @@ use Rattle.packet.specs.Step.{Kind, read, write, infoRead, isInfo, rowBy, answe
 use Rattle.packet.specs.Step.{valuesRead}
 use Rattle.packet.proofs.ElementLaws.{write-kind, row-le, carried-write, answered-read}
 use Rattle.packet.proofs.InfoLaws.{source-whole}
-use Rattle.packet.specs.Command.{kindOf, rowOf, headerBytes, commandBytes, stride, areaBytes}
+use Rattle.packet.specs.Command.{kindOf, rowOf, headerBytes, commandBytes, stride, bytesOfArea}
 use Rattle.packet.specs.Command.{handed, stepsAt}
 use Rattle.packet.proofs.CommandLaws.{stride-le}
 use Rattle.packet.specs.Inside.{Passed}
@@ -52,7 +52,7 @@ pub from-store : (p : Pointers) (f : Fields) (rest store : List ℕ) → isInfo 
 from-store p f rest store e = plain-source (kindOf f) _ store e
 
 pub from-area : (p : Pointers) (f : Fields) (rest store area : List ℕ) (n : ℕ) → isInfo (kindOf f) ≡ true
-    → n ≡ pointerOf p false (spaceOf (f .space)) → area ≡ areaBytes (spaceOf (f .space)) n
+    → n ≡ pointerOf p false (spaceOf (f .space)) → area ≡ bytesOfArea (spaceOf (f .space)) n
     → area ≡ source (kindOf f) (handed p f rest) store
 unfolding handed
 from-area p f rest store area n e q a = rw (← info-source (kindOf f) (handed p f rest) store e, e, a, q) refl

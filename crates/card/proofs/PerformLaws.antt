@@ -12,7 +12,7 @@ use Rattle.packet.specs.Step.{answered, storeAfter, valuesRead, replyBytes, unl
 use Rattle.packet.specs.Command.{limit, fieldsAt, kindOf, commandBytes, stepsAt, pointersAfter}
 use Rattle.packet.proofs.ProgressLaws.{Progress, start, progressOf, progressAfter, numberAt}
 use Rattle.packet.specs.Judge.{Carried, begin, carry, judge, Verdict, accepted, refused}
-use Rattle.lbp16.specs.Pointer.{pointersOf, pointerList}
+use Rattle.lbp16.specs.Pointer.{pointersOf, lentPointers}
 use Rattle.lbp16.specs.declared.word.Fields.{Fields}
 use Rattle.packet.proofs.StepLaws.{reply-append}
 use Rattle.packet.proofs.StoreLaws.{length-after, length-values, store-after-append, values-read-append}
@@ -23,14 +23,14 @@ use Rattle.packet.proofs.LoopLaws.{At, Turn, at-begin, at-end, at-passed, at-ac
 use Rattle.packet.proofs.CountLaws.{command-elements, few, Paid, paid-start, paid-next}
 use Rattle.packet.specs.Reach.{reachFrom, reachAt}
 use Rattle.packet.specs.declared.command.Reach.{Reach}
-use Rattle.lbp16.proofs.PointerLaws.{list-back, slot-below, slot-written}
+use Rattle.lbp16.proofs.PointerLaws.{lent-back, slot-below, slot-written}
 use Rattle.card.specs.Inside.{IsAccepted, Ready, Performed, laid}
 
 -- Where the loop stands: the commands before `rest` are done.
-pub record Doing (list packet store₀ reply₀ store pointers reply : List ℕ) (filled elements : ℕ) (rest : List ℕ) : Type 0 where
+pub record Doing (lent packet store₀ reply₀ store pointers reply : List ℕ) (filled elements : ℕ) (rest : List ℕ) : Type 0 where
   pub carried : Carried
-  pub here : At (pointersOf list) packet carried (progressOf carried) (carried .place) rest
-  pub fine : IsAccepted (judge (pointersOf list) packet)
+  pub here : At (pointersOf lent) packet carried (progressOf carried) (carried .place) rest
+  pub fine : IsAccepted (judge (pointersOf lent) packet)
   pub store-bytes : length store₀ ≡ storeBytes
   pub reply-bytes : length reply₀ ≡ limit
   pub eight : length pointers ≡ 8
@@ -44,13 +44,13 @@ pub record Doing (list packet store₀ reply₀ store pointers reply : List ℕ)
   pub moved : elements ≡ length (carried .steps)
   pub paid : Paid carried
 
-pub doing-start : (list packet store reply : List ℕ) → IsAccepted (judge (pointersOf list) packet) → length store ≡ storeBytes
-    → length list ≡ 8 → length reply ≡ limit → Doing list packet store reply store list reply 0 0 packet
+pub doing-start : (lent packet store reply : List ℕ) → IsAccepted (judge (pointersOf lent) packet) → length store ≡ storeBytes
+    → length lent ≡ 8 → length reply ≡ limit → Doing lent packet store reply store lent reply 0 0 packet
 unfolding begin storeAfter valuesRead start progressOf replyBytes unlocked
-doing-start list packet store reply a s l r =
+doing-start lent packet store reply a s l r =
     record {
-      carried = begin (pointersOf list);
-      here = at-begin (pointersOf list) packet;
+      carried = begin (pointersOf lent);
+      here = at-begin (pointersOf lent) packet;
       fine = a;
       store-bytes = s;
       reply-bytes = r;
@@ -62,7 +62,7 @@ doing-start list packet store reply a s l r =
       count = refl;
       within = omega arith;
       moved = refl;
-      paid = paid-start (pointersOf list);
+      paid = paid-start (pointersOf lent);
     }
 
 -- where the check's loop stands, told by what is carried alone
@@ -92,8 +92,8 @@ pub record Next (pointers : List ℕ) (filled : ℕ) (f : Fields) (r : Reach) (r
   pub slot : r .slot < length pointers
   pub answers : filled + r .answered ≤ limit
 
-module _ {list packet store₀ reply₀ store pointers reply : List ℕ} {filled elements : ℕ} {rest : List ℕ}
-    (s : Doing list packet store₀ reply₀ store pointers reply filled elements rest) where
+module _ {lent packet store₀ reply₀ store pointers reply : List ℕ} {filled elements : ℕ} {rest : List ℕ}
+    (s : Doing lent packet store₀ reply₀ store pointers reply filled elements rest) where
   pub length-store : length store ≡ length store₀
   length-store = ap length (s .store-is) ∙ length-after _ store₀
 
@@ -104,14 +104,14 @@ module _ {list packet store₀ reply₀ store pointers reply : List ℕ} {filled
       let r = s .reply-bytes in
       ap length (s .reply-is) ∙ rw (length-append, length-drop) (omega arith)
 
-  pub doing-end : length rest ≡ 0 → Performed packet store₀ reply₀ list store reply pointers elements
+  pub doing-end : length rest ≡ 0 → Performed packet store₀ reply₀ lent store reply pointers elements
   doing-end e =
       record {
         carried = s .carried;
         judged = at-end rest (s .here) e;
         stored = s .store-is;
         replied = s .reply-is;
-        pointed = sym (list-back pointers (s .eight)) ∙ ap pointerList (s .pointed);
+        pointed = sym (lent-back pointers (s .eight)) ∙ ap lentPointers (s .pointed);
         moved = s .moved;
       }
 
@@ -125,15 +125,15 @@ pointers-next pointers rest r l e pass reach =
     (slot-written pointers l _ _ _ (pass .present) ∙ rw (e, advanced-used _ _ _ (fieldsAt rest) rest pass) refl)
 
 -- The next command, as the code finds it.
-pub record Here (list packet store₀ reply₀ store pointers reply : List ℕ) (filled elements : ℕ) (rest : List ℕ) (f : Fields) (r : Reach) : Type 0 where
-  pub doing : Doing list packet store₀ reply₀ store pointers reply filled elements rest
+pub record Here (lent packet store₀ reply₀ store pointers reply : List ℕ) (filled elements : ℕ) (rest : List ℕ) (f : Fields) (r : Reach) : Type 0 where
+  pub doing : Doing lent packet store₀ reply₀ store pointers reply filled elements rest
   pub some : 0 < length rest
   pub read : f ≡ fieldsAt rest
   pub reach : r ≡ reachAt (pointersOf pointers) (fieldsAt rest) rest
 
-module _ {list packet store₀ reply₀ store pointers reply : List ℕ} {filled elements : ℕ} {rest : List ℕ} {f : Fields} {r : Reach}
-    (h : Here list packet store₀ reply₀ store pointers reply filled elements rest f r) where
-  abbrev s : Doing list packet store₀ reply₀ store pointers reply filled elements rest
+module _ {lent packet store₀ reply₀ store pointers reply : List ℕ} {filled elements : ℕ} {rest : List ℕ} {f : Fields} {r : Reach}
+    (h : Here lent packet store₀ reply₀ store pointers reply filled elements rest f r) where
+  abbrev s : Doing lent packet store₀ reply₀ store pointers reply filled elements rest
   s = h .doing
 
   abbrev some : 0 < length rest
@@ -181,13 +181,13 @@ module _ {list packet store₀ reply₀ store pointers reply : List ℕ} {filled
         answers = omega arith;
       }
 
-  pub turn : Turn (pointersOf list) packet c (progressAfter (progressOf c) (fieldsAt rest) rest) (c .place) (r .bytes) rest
+  pub turn : Turn (pointersOf lent) packet c (progressAfter (progressOf c) (fieldsAt rest) rest) (c .place) (r .bytes) rest
   turn = at-step (s .here) some (r .bytes) none bytes
 
   pub doing-next : (store′ reply′ : List ℕ) → store′ ≡ storeAfter (stepsAt (pointersOf pointers) f rest) store
       → reply′ ≡ laid filled (valuesRead (stepsAt (pointersOf pointers) f rest) store) reply
       → (elements′ : ℕ) → elements′ ≡ elements + f .count
-      → Doing list packet store₀ reply₀ store′ (set pointers (r .slot) (r .next)) reply′ (filled + r .answered) elements′
+      → Doing lent packet store₀ reply₀ store′ (set pointers (r .slot) (r .next)) reply′ (filled + r .answered) elements′
       (take (length rest - r .bytes) (drop (r .bytes) rest))
   unfolding carry progressOf
   doing-next store′ reply′ e₁ e₂ elements′ e₆ =

@@ -30,7 +30,7 @@ use Rattle.packet.proofs.InfoLaws.{accepted-whole}
 use Rattle.packet.proofs.JudgeLaws.{pointers-kept}
 use Rattle.packet.proofs.CountLaws.{steps-counted, few-elements}
 use Rattle.packet.proofs.RefusalLaws.{RefusedAt, refused-in-table, accepted-within, accepted-inside}
-use Rattle.card.specs.Run.{unlockCell, countCell, cleared, countBytes, counted, badState, checked, outcome, runVerdict, runPacket, mostElements}
+use Rattle.card.specs.Run.{unlockCell, countCell, cleared, bytesOfCount, counted, badState, checked, outcome, runVerdict, runPacket, mostElements}
 
 -- the unlock cell is address 0x1A of space 6
 pub unlock-cell : unlockCell ≡ at (statusWrite 0x1A [])
@@ -69,13 +69,13 @@ count-cell = refl
 
 pub length-counted : (store : List ℕ) → length (counted store) ≡ length store
 unfolding counted
-length-counted store = length-sets store countCell (bytesOf 2 (number (countBytes store) + 1))
+length-counted store = length-sets store countCell (bytesOf 2 (number (bytesOfCount store) + 1))
 
 -- outside the count nothing is counted
 pub counted-outside : (store : List ℕ) (i : ℕ) → (i < countCell) ⊎ (countCell + 2 ≤ i)
     → getD (counted store) i 0 ≡ getD store i 0
 unfolding counted bytesOf
-counted-outside store i h = getD-sets store i countCell (bytesOf 2 (number (countBytes store) + 1)) 0 h
+counted-outside store i h = getD-sets store i countCell (bytesOf 2 (number (bytesOfCount store) + 1)) 0 h
 
 -- A number's lowest bytes go on counting from its lowest bytes.
 over : (m x : ℕ) → ((256 * m + x) % 256 ≡ x % 256) × ((256 * m + x) / 256 ≡ m + x / 256)
@@ -99,13 +99,13 @@ count-modulo n =
 
 -- what the count holds once it has risen
 pub count-risen : (store : List ℕ) → length store ≡ storeBytes
-    → countBytes (counted store) ≡ bytesOf 2 (number (countBytes store) + 1)
-unfolding counted countBytes bytesOf
-count-risen store h = slice-of-sets store countCell (bytesOf 2 (number (countBytes store) + 1)) (rw h (omega arith))
+    → bytesOfCount (counted store) ≡ bytesOf 2 (number (bytesOfCount store) + 1)
+unfolding counted bytesOfCount bytesOf
+count-risen store h = slice-of-sets store countCell (bytesOf 2 (number (bytesOfCount store) + 1)) (rw h (omega arith))
 
 -- clearing the unlock cell leaves the count
-pub count-cleared : (store : List ℕ) → countBytes (cleared store) ≡ countBytes store
-unfolding countBytes cleared
+pub count-cleared : (store : List ℕ) → bytesOfCount (cleared store) ≡ bytesOfCount store
+unfolding bytesOfCount cleared
 count-cleared store = slice-sets store countCell 2 unlockCell (0 ∷ 0 ∷ []) (inl (omega arith))
 
 -- What refusal 1 does not turn away: a whole store and sound pointers.
@@ -305,8 +305,8 @@ module _ (packet store : List ℕ) (p : Pointers) (reply : List ℕ) where
 
     -- The count after an accepted packet is what its steps leave there plus one, modulo 65,536.
     pub accepted-counts : (c : Carried) → checked packet store p ≡ accepted c
-        → countBytes (runPacket packet store p reply .store)
-        ≡ bytesOf 2 (number (countBytes (storeAfter (c .steps) store)) + 1)
+        → bytesOfCount (runPacket packet store p reply .store)
+        ≡ bytesOf 2 (number (bytesOfCount (storeAfter (c .steps) store)) + 1)
     unfolding outcome
     accepted-counts c e =
         let left = storeAfter (c .steps) store in

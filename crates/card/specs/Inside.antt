@@ -14,7 +14,7 @@ use Rattle.packet.specs.declared.command.Reach.{Reach}
 use Rattle.packet.specs.Inside.{Passed}
 use Rattle.packet.specs.Judge.{Carried, Verdict, refused, accepted, judge}
 use Rattle.card.specs.declared.run.Span.{Span}
-use Rattle.lbp16.specs.Pointer.{pointersOf, pointerList}
+use Rattle.lbp16.specs.Pointer.{pointersOf, lentPointers}
 
 -- n elements of w bytes, d apart from place i on, stand within a list of the given length
 abbrev pub Within : ℕ → ℕ → ℕ → ℕ → ℕ → Type 0
@@ -41,9 +41,9 @@ pub record LetPass (p : Pointers) (f : Fields) (rest : List ℕ) : Type 0 where
   pub passed : Passed p open? reply f rest
 
 -- a command that is read and passes, with its reach, on such pointers
-pub record Ready (list : List ℕ) (f : Fields) (rest : List ℕ) (r : Reach) : Type 0 where
-  pub passed : LetPass (pointersOf list) f rest
-  pub reach : r ≡ reachAt (pointersOf list) f rest
+pub record Ready (lent : List ℕ) (f : Fields) (rest : List ℕ) (r : Reach) : Type 0 where
+  pub passed : LetPass (pointersOf lent) f rest
+  pub reach : r ≡ reachAt (pointersOf lent) f rest
 
 -- where a command's elements stand
 unfoldable pub spanAt : Pointers → Fields → List ℕ → Span
@@ -52,11 +52,11 @@ spanAt p f rest =
     record { at = w .place + addressUsed p f rest; step = stride f; element = w .element; count = f .count }
 
 -- doing all commands of a packet that is accepted on these pointers
-pub record Performed (packet store reply list : List ℕ) (store′ reply′ list′ : List ℕ) (elements : ℕ) : Type 0 where
+pub record Performed (packet store reply lent : List ℕ) (store′ reply′ lent′ : List ℕ) (elements : ℕ) : Type 0 where
   pub carried : Carried
-  pub judged : judge (pointersOf list) packet ≡ accepted carried
+  pub judged : judge (pointersOf lent) packet ≡ accepted carried
   pub stored : store′ ≡ storeAfter (carried .steps) store
   pub replied : reply′
       ≡ valuesRead (carried .steps) store ++ drop (length (valuesRead (carried .steps) store)) reply
-  pub pointed : list′ ≡ pointerList (carried .pointers)
+  pub pointed : lent′ ≡ lentPointers (carried .pointers)
   pub moved : elements ≡ length (carried .steps)

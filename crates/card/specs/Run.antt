@@ -7,7 +7,7 @@ use lib.Seq.{sets}
 use lib.Dec.{eqb, ltb}
 use Rattle.lbp16.specs.Answer.{Answer}
 use Rattle.lbp16.specs.Space.{storeBytes}
-use Rattle.lbp16.specs.Pointer.{aboveSize, pointersOf, pointerList}
+use Rattle.lbp16.specs.Pointer.{aboveSize, pointersOf, lentPointers}
 use Rattle.lbp16.specs.declared.pointer.Pointers.{Pointers}
 use Rattle.packet.specs.Bytes.{number, bytesOf}
 use Rattle.packet.specs.Step.{storeAfter, valuesRead}
@@ -15,7 +15,7 @@ use Rattle.packet.specs.Command.{limit}
 use Rattle.packet.specs.Judge.{Verdict, refused, accepted, judge}
 use Rattle.packet.specs.Verdict.{answerTo, verdictListed}
 use Rattle.card.specs.declared.run.Ran.{Ran}
-use Rattle.card.specs.declared.run.RanList.{RanList}
+use Rattle.card.specs.declared.run.RanLent.{RanLent}
 
 -- All that a run answers and leaves. `elements`: how many it moved.
 pub record Outcome : Type 0 where
@@ -37,11 +37,11 @@ unfoldable pub cleared : List ℕ → List ℕ
 cleared store = sets store unlockCell (0 ∷ 0 ∷ [])
 
 -- the bytes of the packet count, and the store with it one up, from 65,535 to 0
-unfoldable pub countBytes : List ℕ → List ℕ
-countBytes store = take 2 (drop countCell store)
+unfoldable pub bytesOfCount : List ℕ → List ℕ
+bytesOfCount store = take 2 (drop countCell store)
 
 unfoldable pub counted : List ℕ → List ℕ
-counted store = sets store countCell (bytesOf 2 (number (countBytes store) + 1))
+counted store = sets store countCell (bytesOf 2 (number (bytesOfCount store) + 1))
 
 -- refusal 1, of store and pointers
 unfoldable pub badState : List ℕ → Pointers → Bool
@@ -76,34 +76,34 @@ unfoldable pub runPacket : List ℕ → List ℕ → Pointers → List ℕ → O
 runPacket packet store p reply = outcome (runVerdict packet store p reply) store p reply
 
 -- The same with pointers lent as a list; another count of them than eight is refused with 1.
-unfoldable pub checkedList : List ℕ → List ℕ → List ℕ → Verdict
-checkedList packet store list = cond (eqb (length list) 8) (checked packet store (pointersOf list)) (refused 1 0)
+unfoldable pub checkedLent : List ℕ → List ℕ → List ℕ → Verdict
+checkedLent packet store lent = cond (eqb (length lent) 8) (checked packet store (pointersOf lent)) (refused 1 0)
 
-pub record ListOutcome : Type 0 where
+pub record LentOutcome : Type 0 where
   pub answer : Answer
   pub elements : ℕ
   pub store : List ℕ
   pub reply : List ℕ
   pub pointers : List ℕ
 
-unfoldable pub asList : Outcome → ListOutcome
-asList o =
+unfoldable pub asLent : Outcome → LentOutcome
+asLent o =
     record {
       answer = o .answer;
       elements = o .elements;
       store = o .store;
       reply = o .reply;
-      pointers = pointerList (o .pointers);
+      pointers = lentPointers (o .pointers);
     }
 
-unfoldable pub runList : List ℕ → List ℕ → List ℕ → List ℕ → ListOutcome
-runList packet store list reply =
-    cond (eqb (length list) 8) (asList (runPacket packet store (pointersOf list) reply))
-    (record { answer = Answer.refused 1 0; elements = 0; store = store; reply = reply; pointers = list })
+unfoldable pub runLent : List ℕ → List ℕ → List ℕ → List ℕ → LentOutcome
+runLent packet store lent reply =
+    cond (eqb (length lent) 8) (asLent (runPacket packet store (pointersOf lent) reply))
+    (record { answer = Answer.refused 1 0; elements = 0; store = store; reply = reply; pointers = lent })
 
-unfoldable pub ranList : RanList → List ℕ → List ℕ → List ℕ → ListOutcome
-ranList r store list reply =
-    record { answer = verdictListed (r .answer); elements = r .elements; store = store; reply = reply; pointers = list }
+unfoldable pub ranLent : RanLent → List ℕ → List ℕ → List ℕ → LentOutcome
+ranLent r store lent reply =
+    record { answer = verdictListed (r .answer); elements = r .elements; store = store; reply = reply; pointers = lent }
 
 -- what a run of the code answers and leaves
 unfoldable pub ran : Ran → List ℕ → List ℕ → Outcome

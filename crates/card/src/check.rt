@@ -5,7 +5,7 @@ use packet::judge;
 use packet::judge::Verdict;
 ghost use mathlib.Core.Path.{_≡_};
 ghost use Rattle.packet.specs.Verdict.{answerTo, verdictListed};
-ghost use Rattle.card.specs.Run.{badState, checked, checkedList};
+ghost use Rattle.card.specs.Run.{badState, checked, checkedLent};
 
 pub const STORE_BYTES: usize = 65728;
 
@@ -18,25 +18,25 @@ pub fn bad_state(store: &[u8], p: Pointers) -> bool
 
 // The reply length that a run of the packet would answer, or its refusal, on pointers that are lent as a list: those of spaces 0, 2,
 // 6 and 7, then those of their info areas. Another count of them than eight is refused with 1.
-pub fn check_list(packet: &[u8], store: &[u8], list: &[u32]) -> Verdict
-    ensures { λ r. ⌜ verdictListed r ≡ answerTo (checkedList (now (packet .entry)) (now (store .entry)) (now (list .entry))) ⌝ }
+pub fn check_lent(packet: &[u8], store: &[u8], lent: &[u32]) -> Verdict
+    ensures { λ r. ⌜ verdictListed r ≡ answerTo (checkedLent (now (packet .entry)) (now (store .entry)) (now (lent .entry))) ⌝ }
 {
-    if list.len() != 8 {
+    if lent.len() != 8 {
         return judge::refused(1, 0);
     }
-    if bad_state(store, Pointers::from_list(list)) {
+    if bad_state(store, Pointers::from_lent(lent)) {
         return judge::refused(1, 0);
     }
     if command::LIMIT < packet.len() {
         return judge::refused(2, 0);
     }
-    judge::judge_list(packet, list)
+    judge::judge_lent(packet, lent)
 }
 
 // The same, on pointers by value.
 pub fn check(packet: &[u8], store: &[u8], p: Pointers) -> Verdict
     ensures { λ r. ⌜ verdictListed r ≡ answerTo (checked (now (packet .entry)) (now (store .entry)) p) ⌝ }
 {
-    let list = p.listed();
-    check_list(packet, store, &list)
+    let lent = p.listed();
+    check_lent(packet, store, &lent)
 }

@@ -26,7 +26,7 @@ ghost use Rattle.packet.specs.Verdict.{verdictListed};
 ghost use Rattle.packet.specs.Counts.{elementsMoved};
 ghost use Rattle.packet.specs.Reach.{reachAt};
 ghost use Rattle.lbp16.specs.Pointer.{pointersOf};
-ghost use Rattle.card.specs.Run.{cleared, counted, runPacket, ran, runList, ranList, mostElements};
+ghost use Rattle.card.specs.Run.{cleared, counted, runPacket, ran, runLent, ranLent, mostElements};
 ghost use Rattle.card.specs.Inside.{IsAccepted, Ready, Performed, Within, moved, laid, spanAt};
 
 // A command's elements in the store or in the info area: the first one's place, from one to the next, their bytes, and
@@ -191,21 +191,21 @@ fn count_packet(store: &mut [u8])
 }
 
 // The check's answer, and how many elements were moved.
-pub struct RanList {
+pub struct RanLent {
     pub answer: Verdict,
     pub elements: u64,
 }
 
 // The answer where nothing is done. The enum is made anew, so that only its fields are copied.
-fn not_run(answer: Verdict) -> RanList
+fn not_run(answer: Verdict) -> RanLent
     ensures { λ r. ⌜ (r .answer ≡ answer) × (r .elements ≡ 0) ⌝ }
 {
     match answer {
-        Verdict::Accepted(length) => RanList {
+        Verdict::Accepted(length) => RanLent {
             answer: Verdict::Accepted(length),
             elements: 0,
         },
-        Verdict::Refused(refusal) => RanList {
+        Verdict::Refused(refusal) => RanLent {
             answer: Verdict::Refused(refusal),
             elements: 0,
         },
@@ -214,23 +214,23 @@ fn not_run(answer: Verdict) -> RanList
 
 // Runs one packet: the whole of it is checked, on the state that the run finds, before anything is done. The pointers are lent as a
 // list, as for a check.
-pub fn run_list(packet: &[u8], store: &mut [u8], list: &mut [u32], reply: &mut [u8]) -> RanList
-    ensures ran { λ r. ⌜ ranList r (now (store .exit)) (now (list .exit)) (now (reply .exit))
-        ≡ runList (now (packet .entry)) (now (store .entry)) (now (list .entry)) (now (reply .entry)) ⌝ }
+pub fn run_lent(packet: &[u8], store: &mut [u8], lent: &mut [u32], reply: &mut [u8]) -> RanLent
+    ensures ran { λ r. ⌜ ranLent r (now (store .exit)) (now (lent .exit)) (now (reply .exit))
+        ≡ runLent (now (packet .entry)) (now (store .entry)) (now (lent .entry)) (now (reply .entry)) ⌝ }
     ensures summed { λ r. ⌜ r .elements ≡ elementsMoved (verdictListed (r .answer)) (now (packet .entry)) ⌝ }
     ensures bounded { λ r. ⌜ r .elements ≤ mostElements ⌝ }
 {
     if reply.len() != command::LIMIT {
         return not_run(judge::refused(1, 0));
     }
-    let answer = check::check_list(packet, store, list);
+    let answer = check::check_lent(packet, store, lent);
     let Verdict::Accepted(length) = answer else {
         return not_run(answer);
     };
-    let elements = perform(packet, store, list, reply);
+    let elements = perform(packet, store, lent, reply);
     clear_unlock(store);
     count_packet(store);
-    RanList {
+    RanLent {
         answer: Verdict::Accepted(length),
         elements,
     }
@@ -249,10 +249,10 @@ pub fn run(packet: &[u8], store: &mut [u8], p: Pointers, reply: &mut [u8]) -> Ra
     ensures summed { λ r. ⌜ r .elements ≡ elementsMoved (verdictListed (r .answer)) (now (packet .entry)) ⌝ }
     ensures bounded { λ r. ⌜ r .elements ≤ mostElements ⌝ }
 {
-    let mut list = p.listed();
-    let done = run_list(packet, store, &mut list, reply);
+    let mut lent = p.listed();
+    let done = run_lent(packet, store, &mut lent, reply);
     let answer = done.answer;
-    let pointers = Pointers::from_list(&list);
+    let pointers = Pointers::from_lent(&lent);
     Ran {
         answer,
         elements: done.elements,

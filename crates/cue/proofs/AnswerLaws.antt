@@ -8,7 +8,7 @@ use borrow.Author.Tests.{lt-ltb, le-ltb}
 use Rattle.lbp16.specs.Answer.{Answer}
 use Rattle.cue.specs.Records.{Listed, refused, records, recordsOf}
 use Rattle.cue.specs.Packing.{packets}
-use Rattle.cue.specs.Compile.{Compiled, compiledTo, compiled, compileListed, needed, packed, output, outputBytes}
+use Rattle.cue.specs.Compile.{Compiled, compiledTo, compiled, compileListed, needed, packed, output, bytesOfOutput}
 use Rattle.cue.specs.declared.CompileAnswer.{CompileAnswer}
 use Rattle.lbp16.specs.declared.Refusal.{Refusal}
 use Rattle.cue.specs.Inside.{onward, Planned, planned, roomAfter, Ready}
@@ -49,7 +49,7 @@ module _ (list room : List ℕ) (b n : ℕ) where
   unfolding planAnswer
   ready-of (Planned.refused m j) p e h = let z : _≡_ {A = ℕ} 0 1 = cc in absurd (omega arith)
   ready-of (Planned.packed css) p e h =
-      let q : b ≡ length (outputBytes css) = cc in
+      let q : b ≡ length (bytesOfOutput css) = cc in
       record { packets = css; plan = p; fits = rw q at h }
 
   pub ready : Answer.accepted (b ∷ n ∷ []) ≡ needed (recordsOf list) → b ≤ length room → Ready list room
@@ -57,7 +57,7 @@ module _ (list room : List ℕ) (b n : ℕ) where
 
   accepted-to : (v : Listed) → Answer.accepted (b ∷ n ∷ []) ≡ needed v → b ≤ length room
       → Both (Answer.accepted (b ∷ n ∷ [])) (roomAfter (planned none v) room) (compiledTo v room)
-  unfolding needed planned compiledTo roomAfter onward outputBytes output packed
+  unfolding needed planned compiledTo roomAfter onward bytesOfOutput output packed
   accepted-to (refused m j) e h = let z : _≡_ {A = ℕ} 0 1 = cc in absurd (omega arith)
   accepted-to (records xs) e h =
       let q : b ≡ length (output xs) = cc in

@@ -13,7 +13,7 @@ use Rattle.lbp16.specs.Answer.{Answer}
 use Rattle.packet.specs.Step.{Step, replyBytes}
 use Rattle.packet.specs.Command.{limit}
 use Rattle.cue.specs.Records.{Listed, refused, records, recordsOf}
-use Rattle.cue.specs.Packing.{Command, packetBytes, packetSteps, packets}
+use Rattle.cue.specs.Packing.{Command, bytesOfPacket, packetSteps, packets}
 use Rattle.cue.specs.Compile.{Compiled, compiledTo, compiled, packed, output}
 use Rattle.cue.proofs.Relations.{Good}
 use Rattle.cue.proofs.RecordLaws.{RefusedRecord, refused-record}
@@ -147,7 +147,7 @@ outputs-alike list a b bytes count l e =
 -- packets of at most 1,472 bytes each, with replies of at most as many
 pub data Within : List (List Command) → Type 0 where
   none : Within []
-  more : {cs : List Command} {css : List (List Command)} → length (packetBytes cs) ≤ limit
+  more : {cs : List Command} {css : List (List Command)} → length (bytesOfPacket cs) ≤ limit
       → replyBytes (packetSteps cs) ≤ limit → Within css → Within (cs ∷ css)
 
 -- Every compiled packet and its reply have at most 1,472 bytes.

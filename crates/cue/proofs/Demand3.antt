@@ -4,8 +4,8 @@ use mathlib.Core.Path.{_≡_, sym, ap, _∙_}
 use mathlib.Core.List.{List, [], _∷_, map}
 use Rattle.lbp16.specs.Answer.{Answer}
 use Rattle.packet.specs.Step.{Step}
-use Rattle.cue.specs.Packing.{Command, packetBytes}
-use Rattle.cue.specs.Output.{parts, apart}
+use Rattle.cue.specs.Packing.{Command, bytesOfPacket}
+use Rattle.cue.specs.Output.{frames, apart}
 use Rattle.cue.specs.Compile.{packed, output, compiled}
 use Rattle.cue.specs.Demand3.{Demand3}
 use Rattle.cue.proofs.Relations.{Good, Holds}
@@ -18,7 +18,7 @@ use Rattle.cue.proofs.AnswerLaws.{Both}
 use Rattle.cue.proofs.RunAll.{run-all}
 
 -- Each packet of the packing rule is accepted and does its steps, so the packets hold the records.
-pub packed-holds : {css : List (List Command)} {xs : List Step} → Packed css xs → Holds (map packetBytes css) xs
+pub packed-holds : {css : List (List Command)} {xs : List Step} → Packed css xs → Holds (map bytesOfPacket css) xs
 packed-holds Packed.none = Holds.none
 packed-holds (Packed.more {cs} k p) =
     Holds.more (read-back cs (k .sound) (k .short) (k .reply)) (k .mixed) (packed-holds p)
@@ -28,7 +28,7 @@ unfolding packed
 packets-hold xs g = packed-holds (packing-keeps xs g)
 
 -- The output taken apart is those packets.
-pub apart-packed : (xs : List Step) → Good xs → apart (output xs) ≡ parts (packed xs)
+pub apart-packed : (xs : List Step) → Good xs → apart (output xs) ≡ frames (packed xs)
 unfolding output
 apart-packed xs g = apart-output (packed xs) (packets-short xs g)
 

@@ -13,13 +13,13 @@ use Rattle.packet.specs.Step.{Kind, read, write, infoRead, Step, isWrite, carri
 use Rattle.packet.specs.Rules.{first}
 use Rattle.packet.specs.Command.{pickKind}
 use Rattle.packet.proofs.StepLaws.{carried-le}
-use Rattle.cue.specs.Records.{Listed, refused, records, recordsOf, recordsFrom, recordRefusals, recordStep, valueBytes}
+use Rattle.cue.specs.Records.{Listed, refused, records, recordsOf, recordsFrom, recordRefusals, recordStep, bytesOfValue}
 use Rattle.cue.specs.Records.{recordKind, recordSpace, recordBytes, recordAt}
-use Rattle.cue.specs.Packing.{Command, Open, commandsOf, started, joinAll, packetBytes}
+use Rattle.cue.specs.Packing.{Command, Open, commandsOf, started, joinAll, bytesOfPacket}
 use Rattle.cue.specs.Output.{outputOf}
 use Rattle.cue.specs.Inside.{onward, Planned, planned, roomAfter, Placed, Ready}
 use Rattle.cue.specs.Summary.{carriedBy, Progress, none, some, summary, turnedBy, wrote}
-use Rattle.cue.specs.Compile.{outputBytes}
+use Rattle.cue.specs.Compile.{bytesOfOutput}
 use Rattle.cue.specs.declared.packer.Packer.{Packer}
 use Rattle.cue.specs.declared.records.Record.{Record}
 use Rattle.cue.proofs.PacketLaws.{packet-bytes-append}
@@ -31,32 +31,32 @@ use Rattle.cue.proofs.LoopLaws.{Held, held-first, held-next, held-again
 use Rattle.cue.proofs.RoomLaws.{roomOf, finished-length, open-apart, head-length, wrote-next}
 
 -- the output only grows
-started-more : (cs : List Command) (x : Step) → length (packetBytes cs) ≤ length (packetBytes (commandsOf (started cs x)))
+started-more : (cs : List Command) (x : Step) → length (bytesOfPacket cs) ≤ length (bytesOfPacket (commandsOf (started cs x)))
 unfolding commandsOf started
 started-more cs x = simp (packet-bytes-append, length-append) (omega arith)
 
 turn-more : (css : List (List Command)) (o : Open) (x : Step)
-    → length (outputBytes (finished (some css o))) ≤ length (outputBytes (finished (advance (some css o) x)))
+    → length (bytesOfOutput (finished (some css o))) ≤ length (bytesOfOutput (finished (advance (some css o) x)))
 unfolding advance
 turn-more css o x =
     turn-cases o x
-    (λ t. length (outputBytes (finished (some css o))) ≤ length (outputBytes (finished (some (css ++ t .closed) (t .open?)))))
+    (λ t. length (bytesOfOutput (finished (some css o))) ≤ length (bytesOfOutput (finished (some (css ++ t .closed) (t .open?)))))
     (λ _. rw (finished-length, finished-length, append-nil, joined-bytes) (omega arith))
     (λ _. rw (finished-length, finished-length, append-nil) (omega (arith, started-more (commandsOf o) x)))
     (rw (finished-length, finished-length, output-append, length-append, output-one) (omega arith))
 
-advance-more : (s : Progress) (x : Step) → length (outputBytes (finished s)) ≤ length (outputBytes (finished (advance s x)))
-unfolding finished outputBytes outputOf
+advance-more : (s : Progress) (x : Step) → length (bytesOfOutput (finished s)) ≤ length (bytesOfOutput (finished (advance s x)))
+unfolding finished bytesOfOutput outputOf
 advance-more none x = omega arith
 advance-more (some css o) x = turn-more css o x
 
-onward-more : (s : Progress) (xs : List Step) → length (outputBytes (finished s)) ≤ length (outputBytes (onward s xs))
+onward-more : (s : Progress) (xs : List Step) → length (bytesOfOutput (finished s)) ≤ length (bytesOfOutput (onward s xs))
 onward-more s [] = rw onward-end (omega arith)
 onward-more s (x ∷ xs) = rw onward-next (le-trans (advance-more s x) (onward-more (advance s x) xs))
 
 -- a plan that is no refusal has room for the packets so far
 plan-more : (s : Progress) (v : Listed) (css : List (List Command)) → planned s v ≡ Planned.packed css
-    → length (outputBytes (finished s)) ≤ length (outputBytes css)
+    → length (bytesOfOutput (finished s)) ≤ length (bytesOfOutput css)
 unfolding planned
 plan-more s (refused n i) css e = let z : _≡_ {A = ℕ} 0 1 = cc in absurd (omega arith)
 plan-more s (records xs) css e = let q : onward s xs ≡ css = cc in rw (← q) (onward-more s xs)
@@ -70,7 +70,7 @@ record Shape (q : Packer) : Type 0 where
 shape-some : (css : List (List Command)) (o : Open) (u : Bool) → Shape (summary (some css o) u)
 unfolding summary
 shape-some css o u =
-    let bytes : length (packetBytes (commandsOf o)) ≡ length (packetBytes (o .before)) + (4 + length (joinAll (o .last .elements))) =
+    let bytes : length (bytesOfPacket (commandsOf o)) ≡ length (bytesOfPacket (o .before)) + (4 + length (joinAll (o .last .elements))) =
     rw (open-apart, length-append, length-append, head-length) refl in
     record { frame = omega arith; word = omega arith; space = number-le _ }
 
@@ -88,11 +88,11 @@ element-whole infoRead s = omega arith
 
 -- the element's bytes in the list
 pub bytes-are : (rest : List ℕ) → take (carriedBy (recordAt rest)) (drop 6 rest) ≡ recordStep rest .bytes
-unfolding recordStep valueBytes carriedBy recordAt recordKind recordSpace
+unfolding recordStep bytesOfValue carriedBy recordAt recordKind recordSpace
 bytes-are rest = sym (take-take _ 4 (drop 6 rest) (carried-le _ _))
 
 -- the room keeps its length
-room-length : (css : List (List Command)) (room : List ℕ) → length (outputBytes css) ≤ length room
+room-length : (css : List (List Command)) (room : List ℕ) → length (bytesOfOutput css) ≤ length room
     → length (roomAfter (Planned.packed css) room) ≡ length room
 unfolding roomAfter
 room-length css room h = rw (length-append, length-drop) (omega arith)
@@ -118,7 +118,7 @@ module _ (list rest room : List ℕ) (index : ℕ) (s : Progress) (p : Packer) (
   next-held : Held list (drop (recordBytes (recordKind rest)) rest) (index + 1) (advance s (recordStep rest)) (turnedBy p (recordAt rest))
   next-held = held-next list rest index s p h (omega arith) good-next
 
-  next-fits : length (outputBytes (finished (advance s (recordStep rest)))) ≤ length room
+  next-fits : length (bytesOfOutput (finished (advance s (recordStep rest)))) ≤ length room
   next-fits =
       le-trans (plan-more _ _ (ready .packets) (sym (next-held .same) ∙ ready .plan)) (ready .fits)
 
@@ -165,7 +165,7 @@ pub record Filled (list rest old room : List ℕ) (p : Packer) : Type 0 where
   pub now : room ≡ roomOf s old
 
 pub filled-first : (list old : List ℕ) (p : Packer) → p ≡ summary none false → Filled list list old old p
-unfolding roomAfter finished outputBytes outputOf
+unfolding roomAfter finished bytesOfOutput outputOf
 filled-first list old p e = record { index = 0; s = none; held = held-first list p e; now = refl }
 
 pub filled-last : (list rest old room : List ℕ) (p : Packer) → Filled list rest old room p → length rest ≡ 0

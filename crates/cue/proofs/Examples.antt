@@ -57,19 +57,19 @@ unfolding Space.spaceOf Space.spaceNumber Space.isAbsent Space.row Space.infoRow
     Word.wordOf Pointer.freshSpaces Pointer.ofSpace Pointer.withSpace Pointer.pointerOf Pointer.withPointer Pointer.over
     Pointer.someOver Pointer.aboveSize Pointer.fresh Bytes.number Bytes.bytesOf Step.isInfo Step.rowBy Step.at
     Step.carried Step.answered Step.stored Step.source Step.after Step.seen Step.storeAfter Step.valuesRead
-    Step.replyBytes Step.isStatus Step.isWrite Step.namesUnlock Step.turned Step.unlocked Rules.first Rules.misaligned
+    Step.replyBytes Step.isStatus Step.isWrite Step.namesUnlock Step.unlockedAfter Step.unlocked Rules.first Rules.misaligned
     Rules.pastEnd Rules.barred Rules.anyStep Command.fieldsAt Command.kindOf Command.rowOf Command.headerBytes
     Command.commandBytes Command.addressUsed Command.stride Command.payload Command.elements Command.handed
     Command.stepsAt Command.outOfPlace Command.refusals Command.whichOf Command.found Command.pointersAfter Judge.begin
-    Judge.foundNext Judge.carry Judge.judgeFrom Judge.judge Verdict.answerTo Run.cleared Run.countBytes Run.counted
+    Judge.foundNext Judge.carry Judge.judgeFrom Judge.judge Verdict.answerTo Run.cleared Run.bytesOfCount Run.counted
     Run.badState Run.checked Run.outcome Run.runVerdict Run.runPacket Records.markAt Records.recordKind
-    Records.recordBytes Records.recordSpace Records.valueBytes Records.recordStep Records.reserved Records.badElement
+    Records.recordBytes Records.recordSpace Records.bytesOfValue Records.recordStep Records.reserved Records.badElement
     Records.upperHalf Records.recordRefusals Records.withRecord Records.recordsFrom Records.recordsOf
-    Packing.commandFields Packing.joinAll Packing.commandBytes Packing.packetBytes Packing.elementSteps
+    Packing.commandFields Packing.joinAll Packing.bytesOfCommand Packing.bytesOfPacket Packing.elementSteps
     Packing.commandSteps Packing.packetSteps Packing.unlockCommand Packing.keepsLimits Packing.commandsOf
     Packing.sameKind Packing.joined Packing.joins Packing.needsUnlock Packing.started Packing.turnBy Packing.turn
     Packing.packFrom Packing.packets Output.framed Output.outputOf Output.withFrame Output.lengthAt Output.frontOf
-    Output.framedBytes Output.behindFrame Output.withFront Output.apartFrom Output.apart Compile.packed Compile.output
+    Output.bytesInFrame Output.behindFrame Output.withFront Output.apartFrom Output.apart Compile.packed Compile.output
     Compile.compiledTo Compile.compiled Spi.headerOf Examples.shownFields Examples.shownHeader Examples.shownAnswer
     Examples.word Examples.header Examples.packet Examples.list
 all = true

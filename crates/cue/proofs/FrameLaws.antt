@@ -9,7 +9,7 @@ use lib.ListN.{length, take, drop, length-drop}
 use lib.Seq.{length-take-le}
 use borrow.Author.Tests.{ltb-false, le-ltb, lt-ltb, eq-eqb, ne-eqb}
 use Rattle.packet.specs.Bytes.{number}
-use Rattle.cue.specs.Output.{packetMark, lengthAt, Front, frontOf, framedBytes}
+use Rattle.cue.specs.Output.{frameMark, lengthAt, Front, frontOf, bytesInFrame}
 use Rattle.cue.proofs.OutputLaws.{front-whole}
 
 module _ (rest : List ℕ) where
@@ -22,12 +22,12 @@ module _ (rest : List ℕ) where
   front-short n h = rw (ne-eqb _ _ n, lt-ltb _ _ h) refl
 
   module _ (two : 2 ≤ length rest) (mark : ℕ) (e : mark ≡ number (take 2 (drop 0 rest))) where
-    pub front-unmarked : (mark ≡ packetMark → ⊥) → Front.unmarked ≡ frontOf rest
+    pub front-unmarked : (mark ≡ frameMark → ⊥) → Front.unmarked ≡ frontOf rest
     unfolding frontOf
     front-unmarked n =
         rw (ne-eqb (length rest) 0 (λ z. omega arith), le-ltb (length rest) 2 two, ne-eqb _ _ (λ z. n (e ∙ z))) refl
 
-    pub front-cut : mark ≡ packetMark → (n : ℕ) → n ≡ number (take 2 (drop 2 rest)) → length rest < 4 + n → Front.cut ≡ frontOf rest
+    pub front-cut : mark ≡ frameMark → (n : ℕ) → n ≡ number (take 2 (drop 2 rest)) → length rest < 4 + n → Front.cut ≡ frontOf rest
     unfolding frontOf lengthAt
     front-cut q n f h =
         rw (
@@ -38,7 +38,7 @@ module _ (rest : List ℕ) where
         )
         refl
 
-  pub front-frame : (mark : ℕ) → mark ≡ number (take 2 (drop 0 rest)) → mark ≡ packetMark → (n : ℕ)
+  pub front-frame : (mark : ℕ) → mark ≡ number (take 2 (drop 0 rest)) → mark ≡ frameMark → (n : ℕ)
       → n ≡ number (take 2 (drop 2 rest)) → 4 + n ≤ length rest → Front.frame n ≡ frontOf rest
   unfolding lengthAt
   front-frame mark e q n f h = rw f (sym (front-whole rest (sym e ∙ q) (rw f at h)))
@@ -51,7 +51,7 @@ pub record Whole (rest : List ℕ) (n : ℕ) : Type 0 where
 pub whole-frame : (rest : List ℕ) (n : ℕ) → Front.frame n ≡ frontOf rest → Whole rest n
 unfolding frontOf
 whole-frame rest n e =
-    go (eqb (length rest) 0) (ltb (length rest) 2) (eqb (number (take 2 rest)) packetMark) (ltb (length rest) (4 + lengthAt rest))
+    go (eqb (length rest) 0) (ltb (length rest) 2) (eqb (number (take 2 rest)) frameMark) (ltb (length rest) (4 + lengthAt rest))
     refl
     e
   where
@@ -70,8 +70,8 @@ whole-frame rest n e =
 pub front-within : (rest : List ℕ) (n : ℕ) → Front.frame n ≡ frontOf rest → 4 + n ≤ length rest
 front-within rest n e = whole-frame rest n e .within
 
-pub frame-length : (rest : List ℕ) (n : ℕ) → Front.frame n ≡ frontOf rest → length (framedBytes n rest) ≡ n
-unfolding framedBytes
+pub frame-length : (rest : List ℕ) (n : ℕ) → Front.frame n ≡ frontOf rest → length (bytesInFrame n rest) ≡ n
+unfolding bytesInFrame
 frame-length rest n e =
     let w = front-within rest n e in
     length-take-le n (drop 4 rest) (rw length-drop (omega arith))

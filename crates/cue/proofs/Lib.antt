@@ -19,4 +19,4 @@ pub mod WriteLaws
 pub mod RoomLaws
 pub mod EmitLaws
 pub mod AnswerLaws
-pub mod GuardedLaws
+pub mod UntrustedLaws

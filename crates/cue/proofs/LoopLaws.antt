@@ -15,7 +15,7 @@ use Rattle.cue.specs.Records.{recordKind, recordBytes, recordAt, withRec
 use Rattle.cue.specs.Packing.{packFrom, packets}
 use Rattle.cue.specs.Output.{outputOf}
 use Rattle.cue.specs.declared.records.Record.{Record}
-use Rattle.cue.specs.Compile.{packed, output, outputBytes, needed}
+use Rattle.cue.specs.Compile.{packed, output, bytesOfOutput, needed}
 use Rattle.cue.specs.Summary.{Progress, none, some, summary, turnedBy}
 use Rattle.cue.specs.Inside.{onward, Planned, planned, Roomy}
 use Rattle.cue.specs.declared.packer.Packer.{Packer}
@@ -27,7 +27,7 @@ use Rattle.cue.proofs.PackerLaws.{Fine, Following, next, grown, output-
 -- what the first pass answers
 unfoldable pub planAnswer : Planned → Answer
 planAnswer (Planned.refused n i) = Answer.refused n i
-planAnswer (Planned.packed css) = Answer.accepted (length (outputBytes css) ∷ length css ∷ [])
+planAnswer (Planned.packed css) = Answer.accepted (length (bytesOfOutput css) ∷ length css ∷ [])
 
 -- records still to come, and the list's end
 pub onward-next : (s : Progress) (x : Step) (xs : List Step) → onward s (x ∷ xs) ≡ onward (advance s x) xs
@@ -143,8 +143,8 @@ held-next list rest index s p h l e = go (h .fuel) (h .enough) (h .same)
         }
 
 -- the packer's numbers at the list's end
-pub end-is : (s : Progress) (u : Bool) → summary s u .end ≡ length (outputBytes (finished s))
-unfolding summary finished outputBytes outputOf
+pub end-is : (s : Progress) (u : Bool) → summary s u .end ≡ length (bytesOfOutput (finished s))
+unfolding summary finished bytesOfOutput outputOf
 end-is none u = refl
 end-is (some css o) u = rw (output-append, length-append, output-one) (omega arith)
 
@@ -155,7 +155,7 @@ packets-is (some css o) u = rw length-append refl
 
 -- what the first pass comes to is what the list needs
 pub needs : (v : Listed) → planAnswer (planned none v) ≡ needed v
-unfolding planAnswer planned onward needed output packed outputBytes
+unfolding planAnswer planned onward needed output packed bytesOfOutput
 needs (refused n i) = refl
 needs (records xs) = rw length-map refl
 

@@ -14,7 +14,7 @@ use Rattle.packet.specs.Step.{Kind, read, write, infoRead, isInfo, carried, isW
 use Rattle.packet.proofs.StepLaws.{pick-plain}
 use Rattle.packet.specs.Rules.{first}
 use Rattle.packet.proofs.RuleLaws.{none-holds, first-of-none}
-use Rattle.cue.specs.Records.{recordRefusals, recordStep, recordKind, recordBytes, recordSpace, valueBytes, upperHalf}
+use Rattle.cue.specs.Records.{recordRefusals, recordStep, recordKind, recordBytes, recordSpace, bytesOfValue, upperHalf}
 use Rattle.cue.specs.Records.{markAt, writeMark, mostRecords}
 
 -- What the rules look at, the index and the list's end apart, is the same where the same bytes stand in front.
@@ -31,7 +31,7 @@ unfolding recordKind markAt
 same-kind r x h = rw (take-append-le 2 r x h) refl
 
 alike : (r x : List ℕ) → recordBytes (recordKind r) ≤ length r → Alike r (r ++ x)
-unfolding recordBytes recordStep recordSpace valueBytes upperHalf recordKind markAt carried isWrite isInfo
+unfolding recordBytes recordStep recordSpace bytesOfValue upperHalf recordKind markAt carried isWrite isInfo
 alike r x h = go (recordKind r) refl h
   where
     go : (k : Kind) → recordKind r ≡ k → recordBytes k ≤ length r → Alike r (r ++ x)

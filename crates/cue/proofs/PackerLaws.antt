@@ -9,19 +9,19 @@ use lib.ListN.{length, length-append}
 use borrow.Author.Tests.{eqb-true, ltb-true, leb-true, lt-leb}
 use Rattle.lbp16.specs.Space.{Space, spaceOf, spaceNumber, isAbsent, row}
 use Rattle.lbp16.proofs.BoolLaws.{or-false, and-true}
-use Rattle.packet.specs.Step.{Kind, Step, isInfo, carried, answered, isWrite, isStatus, namesUnlock, replyBytes, turned, unlocked}
+use Rattle.packet.specs.Step.{Kind, Step, isInfo, carried, answered, isWrite, isStatus, namesUnlock, replyBytes, unlockedAfter, unlocked}
 use Rattle.packet.specs.Bytes.{number}
 use Rattle.packet.specs.Rules.{misaligned, pastEnd, barred}
 use Rattle.packet.specs.Command.{limit, pickKind}
 use Rattle.packet.proofs.StepLaws.{unlocked-append, reply-append, carried-le, answered-le, pick-again}
 use Rattle.cue.specs.Records.{reserved, badElement, brief}
-use Rattle.cue.specs.Packing.{Command, joinAll, packetBytes, elementSteps, commandSteps, packetSteps}
+use Rattle.cue.specs.Packing.{Command, joinAll, bytesOfPacket, elementSteps, commandSteps, packetSteps}
 use Rattle.cue.specs.Packing.{unlockCommand, keepsLimits, Open, commandsOf, sameKind, joined, joins, needsUnlock}
 use Rattle.cue.specs.Packing.{started, turnBy, turn}
 use Rattle.cue.specs.Output.{outputOf}
 use Rattle.cue.specs.Inside.{Roomy}
 use Rattle.cue.specs.Summary.{carriedBy, answeredBy, Progress, none, some, summary, agrees, fits}
-use Rattle.cue.specs.Compile.{outputBytes}
+use Rattle.cue.specs.Compile.{bytesOfOutput}
 use Rattle.cue.specs.Summary.{joinedWith, joinedBy, unlockFor, startedWith, startedBy, closedBy, turnedBy}
 use Rattle.lbp16.specs.declared.space.Row.{Row}
 use Rattle.cue.specs.declared.records.Record.{Record}
@@ -184,8 +184,8 @@ not-unlock x e =
     go true b s h = h
     go false b s h = refl
 
-stays : (b : Bool) (x : Step) → namesUnlock x ≡ false → turned b x ≡ b
-unfolding turned
+stays : (b : Bool) (x : Step) → namesUnlock x ≡ false → unlockedAfter b x ≡ b
+unfolding unlockedAfter
 stays b x e = go (isWrite (x .kind)) (namesUnlock x) e
   where
     go : (w n : Bool) → n ≡ false
@@ -251,14 +251,14 @@ module _ (css : List (List Command)) (o : Open) (u : Bool) (x : Step) (f : Fine 
       let o₂ = joined o x in
       let steps = joined-packet j i in
       let count : length (o .last .elements) + 1 ≡ length (o₂ .last .elements) = rw length-append refl in
-      let bytes : length (packetBytes (commandsOf o)) + carriedBy (brief x) ≡ length (packetBytes (commandsOf o₂)) =
+      let bytes : length (bytesOfPacket (commandsOf o)) + carriedBy (brief x) ≡ length (bytesOfPacket (commandsOf o₂)) =
       rw (carried-brief x (f .plain), joined-bytes o x, f .wide) refl in
       let reply : replyBytes (packetSteps (commandsOf o)) + answeredBy (brief x) ≡ replyBytes (packetSteps (commandsOf o₂)) =
       rw (answered-brief x (f .plain), steps, reply-append) (omega arith) in
       let open? : unlocked false (packetSteps (commandsOf o)) ≡ unlocked false (packetSteps (commandsOf o₂)) =
       rw (steps, unlocked-append, stays _ x (not-unlock x (f .good))) refl in
-      let end : length (outputBytes css) + 4 + length (packetBytes (commandsOf o)) + carriedBy (brief x)
-      ≡ length (outputBytes css) + 4 + length (packetBytes (commandsOf o₂)) =
+      let end : length (bytesOfOutput css) + 4 + length (bytesOfPacket (commandsOf o)) + carriedBy (brief x)
+      ≡ length (bytesOfOutput css) + 4 + length (bytesOfPacket (commandsOf o₂)) =
       omega arith in
       λ k.
       record {
@@ -270,26 +270,26 @@ module _ (css : List (List Command)) (o : Open) (u : Bool) (x : Step) (f : Fine 
         reply = reply k;
         unlocked = open? k;
         unlock = false;
-        frame = length (outputBytes css);
-        word = length (outputBytes css) + 4 + length (packetBytes (o .before));
+        frame = length (bytesOfOutput css);
+        word = length (bytesOfOutput css) + 4 + length (bytesOfPacket (o .before));
         end = end k;
         packets = length css + 1;
       }
 
 -- (b): the new command, where needed behind the unlock
 module _ (cs : List Command) (x : Step) (f : Fine x) where
-  pub unlock-length : (need : Bool) → length (packetBytes (cond need (unlockCommand ∷ []) [])) ≡ cond need 6 0
-  unfolding packetBytes unlockCommand joinAll
+  pub unlock-length : (need : Bool) → length (bytesOfPacket (cond need (unlockCommand ∷ []) [])) ≡ cond need 6 0
+  unfolding bytesOfPacket unlockCommand joinAll
   unlock-length true = simp (length-append, command-length) refl
   unlock-length false = refl
 
-  pub started-before : length (packetBytes (started cs x .before)) ≡ length (packetBytes cs) + cond (needsUnlock cs x) 6 0
+  pub started-before : length (bytesOfPacket (started cs x .before)) ≡ length (bytesOfPacket cs) + cond (needsUnlock cs x) 6 0
   unfolding started
   started-before = rw (packet-bytes-append, length-append, unlock-length) refl
 
-  pub started-length : length (packetBytes (commandsOf (started cs x)))
-      ≡ length (packetBytes cs) + cond (needsUnlock cs x) 6 0 + 4 + length (x .bytes)
-  unfolding commandsOf started packetBytes joinAll
+  pub started-length : length (bytesOfPacket (commandsOf (started cs x)))
+      ≡ length (bytesOfPacket cs) + cond (needsUnlock cs x) 6 0 + 4 + length (x .bytes)
+  unfolding commandsOf started bytesOfPacket joinAll
   started-length =
       let u = unlock-length (needsUnlock cs x) in
       simp (packet-bytes-append, length-append, command-length) (omega arith)
@@ -306,7 +306,7 @@ module _ (cs : List Command) (x : Step) (f : Fine x) where
 
   -- the unlock is open after its command
   opened : (b need : Bool) → unlocked b (packetSteps (cond need (unlockCommand ∷ []) [])) ≡ (b || need)
-  unfolding unlocked packetSteps commandSteps elementSteps unlockCommand turned namesUnlock isStatus isWrite number
+  unfolding unlocked packetSteps commandSteps elementSteps unlockCommand unlockedAfter namesUnlock isStatus isWrite number
   opened true true = refl
   opened true false = refl
   opened false true = refl
@@ -320,11 +320,11 @@ module _ (cs : List Command) (x : Step) (f : Fine x) where
 
   -- the packer knows an open packet of these commands
   pub record Knows (p : Packer) (css : List (List Command)) : Type 0 where
-    pub packet : p .packet ≡ length (packetBytes cs)
+    pub packet : p .packet ≡ length (bytesOfPacket cs)
     pub reply : p .reply ≡ replyBytes (packetSteps cs)
     pub unlocked : p .unlocked ≡ unlocked false (packetSteps cs)
-    pub frame : p .frame ≡ length (outputBytes css)
-    pub end : p .end ≡ length (outputBytes css) + 4 + length (packetBytes cs)
+    pub frame : p .frame ≡ length (bytesOfOutput css)
+    pub end : p .end ≡ length (bytesOfOutput css) + 4 + length (bytesOfPacket cs)
     pub packets : p .packets ≡ length css + 1
 
   module _ (p : Packer) (css : List (List Command)) (n : Knows p css) where
@@ -339,16 +339,16 @@ module _ (cs : List Command) (x : Step) (f : Fine x) where
         let need = unlock-same in
         let u : _≡_ {A = ℕ} (cond (unlockFor p (brief x)) 6 0) (cond (needsUnlock cs x) 6 0) = rw need refl in
         let more : carriedBy (brief x) ≡ length (x .bytes) = rw (carried-brief x (f .plain), f .wide) refl in
-        let bytes : p .packet + cond (unlockFor p (brief x)) 6 0 + 4 + carriedBy (brief x) ≡ length (packetBytes (commandsOf o)) =
+        let bytes : p .packet + cond (unlockFor p (brief x)) 6 0 + 4 + carriedBy (brief x) ≡ length (bytesOfPacket (commandsOf o)) =
         rw (started-length, u, more, n .packet) refl in
         let reply : p .reply + answeredBy (brief x) ≡ replyBytes (packetSteps (commandsOf o)) =
         rw (started-reply, answered-brief x (f .plain), n .reply) refl in
         let open? : (p .unlocked || unlockFor p (brief x)) ≡ unlocked false (packetSteps (commandsOf o)) =
         rw (started-unlocked, need, n .unlocked) refl in
-        let word : p .end + cond (unlockFor p (brief x)) 6 0 ≡ length (outputBytes css) + 4 + length (packetBytes (o .before)) =
+        let word : p .end + cond (unlockFor p (brief x)) 6 0 ≡ length (bytesOfOutput css) + 4 + length (bytesOfPacket (o .before)) =
         rw (started-before, u, n .end) (omega arith) in
         let end : p .end + cond (unlockFor p (brief x)) 6 0 + 4 + carriedBy (brief x)
-        ≡ length (outputBytes css) + 4 + length (packetBytes (commandsOf o)) =
+        ≡ length (bytesOfOutput css) + 4 + length (bytesOfPacket (commandsOf o)) =
         rw (started-length, u, more, n .end) (omega arith) in
         λ k.
         record {
@@ -373,21 +373,21 @@ unfolding summary
 knows-open css o u x f = record { packet = refl; reply = refl; unlocked = refl; frame = refl; end = refl; packets = refl }
 
 -- the output of packets after others
-pub output-append : (css dss : List (List Command)) → outputBytes (css ++ dss) ≡ outputBytes css ++ outputBytes dss
-unfolding outputBytes outputOf
+pub output-append : (css dss : List (List Command)) → bytesOfOutput (css ++ dss) ≡ bytesOfOutput css ++ bytesOfOutput dss
+unfolding bytesOfOutput outputOf
 output-append [] dss = refl
 output-append (cs ∷ css) dss = rw (output-append css dss, append-assoc) refl
 
 -- a closed packet's bytes with its frame
-pub output-one : (cs : List Command) → length (outputBytes (cs ∷ [])) ≡ 4 + length (packetBytes cs)
-unfolding outputBytes outputOf
-output-one cs = framed-bytes (packetBytes cs) [] ∙ omega arith
+pub output-one : (cs : List Command) → length (bytesOfOutput (cs ∷ [])) ≡ 4 + length (bytesOfPacket cs)
+unfolding bytesOfOutput outputOf
+output-one cs = framed-bytes (bytesOfPacket cs) [] ∙ omega arith
 
 pub knows-closed : (css : List (List Command)) (o : Open) (u : Bool) (x : Step) (f : Fine x)
     → Knows [] x f (closedBy (summary (some css o) u)) (css ++ (commandsOf o ∷ []))
-unfolding summary closedBy packetBytes packetSteps replyBytes unlocked
+unfolding summary closedBy bytesOfPacket packetSteps replyBytes unlocked
 knows-closed css o u x f =
-    let out : length (outputBytes (css ++ (commandsOf o ∷ []))) ≡ length (outputBytes css) + 4 + length (packetBytes (commandsOf o)) =
+    let out : length (bytesOfOutput (css ++ (commandsOf o ∷ []))) ≡ length (bytesOfOutput css) + 4 + length (bytesOfPacket (commandsOf o)) =
     rw (output-append, length-append, output-one) (omega arith) in
     record {
       packet = refl;
@@ -399,7 +399,7 @@ knows-closed css o u x f =
     }
 
 pub knows-none : (u : Bool) (x : Step) (f : Fine x) → Knows [] x f (closedBy (summary none u)) []
-unfolding summary closedBy packetBytes packetSteps replyBytes unlocked outputBytes outputOf
+unfolding summary closedBy bytesOfPacket packetSteps replyBytes unlocked bytesOfOutput outputOf
 knows-none u x f = record { packet = refl; reply = refl; unlocked = refl; frame = refl; end = refl; packets = refl }
 
 -- before the first record nothing fits

@@ -9,12 +9,12 @@ use lib.ListN.{length}
 use Rattle.packet.specs.Bytes.{bytesOf}
 use Rattle.packet.specs.Step.{Step, unlocked}
 use Rattle.packet.proofs.StepLaws.{unlocked-append}
-use Rattle.cue.specs.Packing.{Command, joinAll, commandBytes, packetBytes, elementSteps, packetSteps}
+use Rattle.cue.specs.Packing.{Command, joinAll, bytesOfCommand, bytesOfPacket, elementSteps, packetSteps}
 use Rattle.cue.proofs.Relations.{Wide, SoundAll, Mixed}
 
 -- bytes and steps of commands after others, and elements after others
-pub packet-bytes-append : (cs ds : List Command) → packetBytes (cs ++ ds) ≡ packetBytes cs ++ packetBytes ds
-unfolding packetBytes
+pub packet-bytes-append : (cs ds : List Command) → bytesOfPacket (cs ++ ds) ≡ bytesOfPacket cs ++ bytesOfPacket ds
+unfolding bytesOfPacket
 packet-bytes-append [] ds = refl
 packet-bytes-append (c ∷ cs) ds = simp (packet-bytes-append cs ds, append-assoc)
 
@@ -29,8 +29,8 @@ join-append [] es = refl
 join-append (d ∷ ds) es = simp (join-append ds es, append-assoc)
 
 -- word and address have four bytes
-pub command-length : (c : Command) → length (commandBytes c) ≡ 4 + length (joinAll (c .elements))
-unfolding commandBytes bytesOf
+pub command-length : (c : Command) → length (bytesOfCommand c) ≡ 4 + length (joinAll (c .elements))
+unfolding bytesOfCommand bytesOf
 command-length c = omega arith
 
 -- one element more is one step more

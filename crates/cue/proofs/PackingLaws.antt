@@ -12,13 +12,13 @@ use Rattle.lbp16.proofs.BoolLaws.{and-true, beq-true}
 use Rattle.lbp16.proofs.SpaceLaws.{bytes-le, element-pos}
 use Rattle.lbp16.specs.Space.{Space, registers, eeprom, status, information, absent, spaceOf, spaceNumber, isAbsent, row, areaRow}
 use Rattle.packet.specs.Step.{Kind, read, write, infoRead, Step, isInfo, rowBy, carried, answered, isWrite, isStatus, namesUnlock, replyBytes}
-use Rattle.packet.specs.Step.{turned, unlocked}
+use Rattle.packet.specs.Step.{unlockedAfter, unlocked}
 use Rattle.packet.specs.Bytes.{number}
 use Rattle.packet.specs.Rules.{misaligned, pastEnd, barred, anyStep}
 use Rattle.packet.specs.Command.{pickKind, limit}
 use Rattle.packet.proofs.StepLaws.{unlocked-append, reply-append, any-append, any-one, carried-le, answered-le, pick-again, row-plain}
 use Rattle.cue.specs.Records.{badElement, recordBytes}
-use Rattle.cue.specs.Packing.{Command, joinAll, packetBytes, elementSteps, commandSteps, packetSteps}
+use Rattle.cue.specs.Packing.{Command, joinAll, bytesOfPacket, elementSteps, commandSteps, packetSteps}
 use Rattle.cue.specs.Packing.{unlockCommand, keepsLimits, Open, commandsOf, sameKind, joined, joins, needsUnlock}
 use Rattle.cue.specs.Packing.{started, Turn, turnBy, turn, packFrom, packets}
 use Rattle.cue.proofs.RecordLaws.{good-element}
@@ -29,7 +29,7 @@ use Rattle.cue.proofs.PacketLaws.{wide-append, mixed-append, sound-appe
 -- a packet that is sound, keeps the limits and holds these records
 pub record Kept (cs : List Command) (xs : List Step) : Type 0 where
   pub sound : SoundAll false cs
-  pub short : length (packetBytes cs) ≤ limit
+  pub short : length (bytesOfPacket cs) ≤ limit
   pub reply : replyBytes (packetSteps cs) ≤ limit
   pub mixed : Mixed (packetSteps cs) xs
 
@@ -114,7 +114,7 @@ kept : (o : Open) (xs : List Step) → Holding o xs → Kept (commandsOf o) xs
 unfolding commandsOf keepsLimits
 kept o xs h =
     let cs = commandsOf o in
-    let l = and-true (leb (length (packetBytes cs)) limit) (leb (replyBytes (packetSteps cs)) limit) (h .limits) in
+    let l = and-true (leb (length (bytesOfPacket cs)) limit) (leb (replyBytes (packetSteps cs)) limit) (h .limits) in
     record {
       sound = sound-append (h .before) (SoundAll.more (h .last) SoundAll.none);
       short = leb-true _ _ (l .0);
@@ -177,7 +177,7 @@ unlock-sound open? =
 
 readied : (open? need : Bool) (x : Step) → (isWrite (x .kind) && row (x .space) .locked && not open?) ≡ need
     → Readied open? (cond need (unlockCommand ∷ []) []) x
-unfolding packetSteps commandSteps elementSteps unlockCommand unlocked turned namesUnlock isStatus isWrite number
+unfolding packetSteps commandSteps elementSteps unlockCommand unlocked unlockedAfter namesUnlock isStatus isWrite number
 readied open? false x e = record { sound = SoundAll.none; mixed = Mixed.none; unlocks = e }
 readied open? true x e =
     record {
@@ -223,22 +223,22 @@ started-holds cs x xs s m e l =
     }
 
 -- the bytes of an unlock command, and of it with a new command and a packet's frame
-unlock-bytes : (need : Bool) → length (packetBytes (cond need (unlockCommand ∷ []) [])) ≤ 6
-unfolding packetBytes unlockCommand joinAll
+unlock-bytes : (need : Bool) → length (bytesOfPacket (cond need (unlockCommand ∷ []) [])) ≤ 6
+unfolding bytesOfPacket unlockCommand joinAll
 unlock-bytes true = simp (length-append, command-length) (omega arith)
 unlock-bytes false = omega arith
 
 new-bytes : (k : Kind) (s : Space) (a b : Bool) (n : ℕ) → n ≡ carried k s
-    → length (packetBytes (cond (isWrite k && a && b) (unlockCommand ∷ []) [])) + (4 + n) + 4 ≤ 2 * recordBytes k
-unfolding isWrite carried recordBytes packetBytes
+    → length (bytesOfPacket (cond (isWrite k && a && b) (unlockCommand ∷ []) [])) + (4 + n) + 4 ≤ 2 * recordBytes k
+unfolding isWrite carried recordBytes bytesOfPacket
 new-bytes read s a b n e = omega arith
 new-bytes write s a b n e = omega (arith, unlock-bytes (a && b), carried-le write s)
 new-bytes infoRead s a b n e = omega arith
 
 -- A new command with its unlock and the frame of a packet has at most twice the bytes of the record in the list.
 pub started-bytes : (cs : List Command) (x : Step) → length (x .bytes) ≡ carried (x .kind) (x .space)
-    → length (packetBytes (commandsOf (started cs x))) + 4 ≤ length (packetBytes cs) + 2 * recordBytes (x .kind)
-unfolding commandsOf started needsUnlock packetBytes joinAll
+    → length (bytesOfPacket (commandsOf (started cs x))) + 4 ≤ length (bytesOfPacket cs) + 2 * recordBytes (x .kind)
+unfolding commandsOf started needsUnlock bytesOfPacket joinAll
 started-bytes cs x w =
     let n = new-bytes (x .kind) (x .space) (row (x .space) .locked) (not (unlocked false (packetSteps cs))) _ w in
     simp (packet-bytes-append, length-append, command-length) (omega arith)
@@ -263,9 +263,9 @@ fresh-reply x = rw (last-steps, reply-append, unlock-reply) (omega (arith, answe
 
 -- a packet of one record keeps the limits
 fresh-limits : (x : Step) → length (x .bytes) ≡ carried (x .kind) (x .space) → keepsLimits (commandsOf (started [] x)) ≡ true
-unfolding keepsLimits packetBytes
+unfolding keepsLimits bytesOfPacket
 fresh-limits x w =
-    let bytes = length (packetBytes (commandsOf (started [] x))) in
+    let bytes = length (bytesOfPacket (commandsOf (started [] x))) in
     let short : bytes ≤ limit = omega (arith, started-bytes [] x w, record-bytes-le (x .kind)) in
     rw (le-leb bytes limit short) (le-leb _ limit (fresh-reply x))
 

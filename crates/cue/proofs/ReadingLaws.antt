@@ -19,7 +19,7 @@ use Rattle.packet.proofs.StepLaws.{pick-plain, row-plain}
 use Rattle.packet.proofs.RuleLaws.{none-holds}
 use Rattle.packet.proofs.UnlockLaws.{status-number}
 use Rattle.cue.specs.Records.{recordStep, recordSpace, recordKind, recordBytes, recordRefusals, reserved, badElement, upperHalf}
-use Rattle.cue.specs.Records.{markAt, readMark, writeMark, valueBytes, mostRecords, recordAt, brief}
+use Rattle.cue.specs.Records.{markAt, readMark, writeMark, bytesOfValue, mostRecords, recordAt, brief}
 use Rattle.cue.proofs.RecordLaws.{whole, step-bytes}
 
 -- a space that the card has is named by its number
@@ -56,7 +56,7 @@ upper-at rest = rw (middle, drop-drop) refl
 
 pub too-wide-is : (rest : List ℕ) → isAbsent (recordSpace rest) ≡ false
     → (not (eqb (getD rest 2 0) 0) && not (eqb (number (take 2 (drop 8 rest))) 0)) ≡ not (eqb (upperHalf rest) 0)
-unfolding isAbsent recordSpace upperHalf valueBytes row number
+unfolding isAbsent recordSpace upperHalf bytesOfValue row number
 too-wide-is rest =
     let four : drop 4 (take 4 (drop 6 rest)) ≡ [] =
     (let h : length (take 4 (drop 6 rest)) ≤ 4 = rw length-take (omega arith) in drop-of-length-le (take 4 (drop 6 rest)) h) in

@@ -16,7 +16,7 @@ use Rattle.packet.specs.Rules.{first, misaligned, pastEnd, barred}
 use Rattle.packet.proofs.StepLaws.{pick-plain}
 use Rattle.packet.proofs.RuleLaws.{none-holds, FirstHolds, first-holds, Rising, first-within, Lowest, first-lowest}
 use Rattle.cue.specs.Records.{Listed, refused, records, recordsOf, recordsFrom, recordRefusals, recordStep}
-use Rattle.cue.specs.Records.{recordKind, recordBytes, valueBytes, reserved, badElement, markAt, readMark, writeMark}
+use Rattle.cue.specs.Records.{recordKind, recordBytes, bytesOfValue, reserved, badElement, markAt, readMark, writeMark}
 use Rattle.cue.specs.Records.{withRecord, listedAt, mostRecords}
 use Rattle.cue.proofs.Relations.{Good}
 
@@ -54,8 +54,8 @@ whole index rest e =
 
 -- A whole record's step has as many bytes as its element.
 pub step-bytes : (rest : List ℕ) (k : Kind) (s : Space) → recordBytes k ≤ length rest
-    → length (take (carried k s) (valueBytes rest)) ≡ carried k s
-unfolding carried valueBytes recordBytes isWrite
+    → length (take (carried k s) (bytesOfValue rest)) ≡ carried k s
+unfolding carried bytesOfValue recordBytes isWrite
 step-bytes rest read s h = refl
 step-bytes rest write s h = let q = element-le s in simp (length-take, length-drop) (omega arith)
 step-bytes rest infoRead s h = refl

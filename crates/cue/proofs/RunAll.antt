@@ -24,7 +24,7 @@ use Rattle.packet.proofs.StoreLaws.{values-read-append}
 use Rattle.packet.proofs.StepLaws.{row-plain}
 use Rattle.packet.specs.Command.{limit}
 use Rattle.packet.specs.Verdict.{answerTo}
-use Rattle.card.specs.Run.{unlockCell, countCell, cleared, countBytes, counted, badState, outcome}
+use Rattle.card.specs.Run.{unlockCell, countCell, cleared, bytesOfCount, counted, badState, outcome}
 use Rattle.card.proofs.RunLaws.{length-cleared, cleared-outside, cleared-inside, good-state, state-again, run-accepted}
 use Rattle.card.proofs.RunLaws.{length-counted, counted-outside, count-on, count-risen, count-cleared, values-counted}
 use Rattle.cue.specs.Records.{reserved, badElement}
@@ -116,15 +116,15 @@ blank-end : (store : List ℕ) → blank (counted (cleared store)) ≡ blank sto
 unfolding blank counted cleared bytesOf
 blank-end store =
     rw (
-      sets-twice (cleared store) countCell (bytesOf 2 (number (countBytes (cleared store)) + 1)) (0 ∷ 0 ∷ []) refl,
+      sets-twice (cleared store) countCell (bytesOf 2 (number (bytesOfCount (cleared store)) + 1)) (0 ∷ 0 ∷ []) refl,
       sets-sets store unlockCell (0 ∷ 0 ∷ []) countCell (0 ∷ 0 ∷ []) (inr (omega arith)),
     )
     (sets-twice (sets store countCell (0 ∷ 0 ∷ [])) unlockCell (0 ∷ 0 ∷ []) (0 ∷ 0 ∷ []) refl)
 
 -- Records and unlock writes leave the packet count.
 count-stored : (k : Kind) (s : Space) (i : ℕ) (bs store : List ℕ) → length bs ≡ carried k s
-    → Apart i (row s .element) countCell 2 → countBytes (stored k i bs store) ≡ countBytes store
-unfolding countBytes stored carried
+    → Apart i (row s .element) countCell 2 → bytesOfCount (stored k i bs store) ≡ bytesOfCount store
+unfolding bytesOfCount stored carried
 count-stored read s i bs store e h = refl
 count-stored write s i bs store e h = slice-sets store countCell 2 i bs (rw e (swap h))
   where
@@ -134,7 +134,7 @@ count-stored write s i bs store e h = slice-sets store countCell 2 i bs (rw e (s
 count-stored infoRead s i bs store e h = refl
 
 count-kept : {ss xs : List Step} → Mixed ss xs → Good xs → (store : List ℕ)
-    → countBytes (storeAfter ss store) ≡ countBytes store
+    → bytesOfCount (storeAfter ss store) ≡ bytesOfCount store
 unfolding storeAfter after at rowBy isInfo areaRow row carried
 count-kept Mixed.none Good.none store = refl
 count-kept (Mixed.same {x = x} m) (Good.more b p w g) store =
@@ -226,7 +226,7 @@ run-all _ _ (Holds.more {packet = packet} {packets = packets} {ss = ss} {xs = xs
     let again = state-again store next p q n (j .3) fine in
     let r = run-all packets ys h (gs .1) next q (λ i. rooms (suc i)) again (λ i. ok (suc i)) in
     let seen = rw (j .2) at (values-counted packet store p (j .0) fine (j .1)) in
-    let old : countBytes (cleared left) ≡ countBytes store = count-cleared left ∙ count-kept m (gs .0) store in
+    let old : bytesOfCount (cleared left) ≡ bytesOfCount store = count-cleared left ∙ count-kept m (gs .0) store in
     rw (run-accepted packet store p (rooms 0) (j .0) fine (ok 0) (d .short) (j .1), j .2)
     (record {
       accepted = r .accepted;
@@ -246,5 +246,5 @@ run-all _ _ (Holds.more {packet = packet} {packets = packets} {ss = ss} {xs = xs
       count =
           r .count
           ∙ ap (countAfter packets) (count-risen (cleared left) (kept ∙ state .0) ∙ ap (λ o. bytesOf 2 (number o + 1)) old)
-          ∙ count-more packet packets (countBytes store);
+          ∙ count-more packet packets (bytesOfCount store);
     })

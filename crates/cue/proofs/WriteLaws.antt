@@ -17,7 +17,7 @@ use Rattle.lbp16.proofs.SpaceLaws.{size-le}
 use Rattle.card.proofs.ElementLaws.{stored-bytes}
 use Rattle.packet.specs.Bytes.{bytesOf}
 use Rattle.lbp16.proofs.ListLaws.{sets-append}
-use Rattle.cue.specs.Summary.{lastFields, framedAt, unlockedAt, headedAt, wrote, unlockBytes}
+use Rattle.cue.specs.Summary.{lastFields, framedAt, unlockedAt, headedAt, wrote, bytesOfUnlock}
 use Rattle.cue.specs.declared.packer.Packer.{Packer}
 
 pub put2-is : (l : List ℕ) (at v : ℕ) → v < 65536 → set (set l at (v % 256)) (at + 1) (v / 256) ≡ sets l at (bytesOf 2 v)
@@ -28,7 +28,7 @@ unfolding bytesOf
 put4-is l at a b = sets-append l at (bytesOf 2 a) (bytesOf 2 b)
 
 pub unlock-is : (l : List ℕ) (at : ℕ)
-    → sets (sets l at (bytesOf 2 0xD901 ++ bytesOf 2 0x1A)) (at + 4) (bytesOf 2 0x5A02) ≡ sets l at unlockBytes
+    → sets (sets l at (bytesOf 2 0xD901 ++ bytesOf 2 0x1A)) (at + 4) (bytesOf 2 0x5A02) ≡ sets l at bytesOfUnlock
 unfolding bytesOf
 unlock-is l at = sets-append l at (0x01 ∷ 0xD9 ∷ 0x1A ∷ 0x00 ∷ []) (0x02 ∷ 0x5A ∷ [])
 

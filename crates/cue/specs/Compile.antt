@@ -7,17 +7,17 @@ use lib.Dec.{ltb}
 use Rattle.lbp16.specs.Answer.{Answer, refusal}
 use Rattle.packet.specs.Step.{Step}
 use Rattle.cue.specs.Records.{Listed, refused, records, recordsOf}
-use Rattle.cue.specs.Packing.{Command, packets, packetBytes}
+use Rattle.cue.specs.Packing.{Command, packets, bytesOfPacket}
 use Rattle.cue.specs.Output.{outputOf}
 use Rattle.cue.specs.declared.CompileAnswer.{CompileAnswer}
 
 -- the output of packets that are commands
-unfoldable pub outputBytes : List (List Command) → List ℕ
-outputBytes css = outputOf (map packetBytes css)
+unfoldable pub bytesOfOutput : List (List Command) → List ℕ
+bytesOfOutput css = outputOf (map bytesOfPacket css)
 
 -- the packets' bytes, in order, and the whole output
 unfoldable pub packed : List Step → List (List ℕ)
-packed xs = map packetBytes (packets xs)
+packed xs = map bytesOfPacket (packets xs)
 
 unfoldable pub output : List Step → List ℕ
 output xs = outputOf (packed xs)

@@ -10,9 +10,9 @@ use Rattle.lbp16.specs.declared.pointer.Pointers.{Pointers}
 use Rattle.packet.specs.Bytes.{number, bytesOf}
 use Rattle.packet.specs.Step.{Step, storeAfter, valuesRead}
 use Rattle.packet.specs.Command.{limit}
-use Rattle.card.specs.Run.{badState, unlockCell, countCell, countBytes}
+use Rattle.card.specs.Run.{badState, unlockCell, countCell, bytesOfCount}
 use Rattle.cue.specs.Records.{records, recordsOf}
-use Rattle.cue.specs.Output.{parts, apart}
+use Rattle.cue.specs.Output.{frames, apart}
 use Rattle.cue.specs.Compile.{packed}
 use Rattle.cue.specs.Play.{Played, play}
 
@@ -38,7 +38,7 @@ pub record SameAsRecords (xs : List Step) (packets : List (List ℕ)) (store : L
   pub cells : (i : ℕ) → Off unlockCell i → Off countCell i → getD (played .store) i 0 ≡ getD (storeAfter xs store) i 0
   pub unlock : (i : ℕ) → unlockCell ≤ i → i < unlockCell + 2
       → getD (played .store) i 0 ≡ unlockAfter packets (getD store i 0)
-  pub count : countBytes (played .store) ≡ countAfter packets (countBytes store)
+  pub count : bytesOfCount (played .store) ≡ countAfter packets (bytesOfCount store)
 
 -- Of a list that was answered with these bytes and this count, and of what then stands in the room: the list's records
 -- are `xs`; the first `bytes` bytes of the room, taken apart, are the packing rule's packets, `count` of them; and from
@@ -47,7 +47,7 @@ pub record SameAsRecords (xs : List Step) (packets : List (List ℕ)) (store : L
 pub record Demand3 (list room : List ℕ) (bytes count : ℕ) : Type 0 where
   pub xs : List Step
   pub list-records : recordsOf list ≡ records xs
-  pub packets : apart (take bytes room) ≡ parts (packed xs)
+  pub packets : apart (take bytes room) ≡ frames (packed xs)
   pub packet-count : count ≡ length (packed xs)
   pub same : (store : List ℕ) (p : Pointers) (rooms : ℕ → List ℕ) → badState store p ≡ false
       → ((i : ℕ) → length (rooms i) ≡ limit)

@@ -10,7 +10,7 @@ use Rattle.packet.specs.Command.{limit}
 use Rattle.cue.specs.Records.{Listed, recordsOf, mostRecords}
 use Rattle.cue.specs.Records as list
 use Rattle.cue.specs.Packing.{Command, packFrom, packets}
-use Rattle.cue.specs.Compile.{outputBytes}
+use Rattle.cue.specs.Compile.{bytesOfOutput}
 use Rattle.cue.specs.Summary.{Progress, none, some, mostOutput}
 use Rattle.cue.specs.declared.packer.Packer.{Packer}
 
@@ -31,7 +31,7 @@ planned s (list.records xs) = packed (onward s xs)
 -- what the second pass leaves
 unfoldable pub roomAfter : Planned → List ℕ → List ℕ
 roomAfter (refused n i) room = room
-roomAfter (packed css) room = outputBytes css ++ drop (length (outputBytes css)) room
+roomAfter (packed css) room = bytesOfOutput css ++ drop (length (bytesOfOutput css)) room
 
 -- what keeps the packer's sums small
 pub record Roomy (p : Packer) : Type 0 where
@@ -56,4 +56,4 @@ pub record Placed (q : Packer) (room : ℕ) : Type 0 where
 pub record Ready (list room : List ℕ) : Type 0 where
   pub packets : List (List Command)
   pub plan : planned none (recordsOf list) ≡ packed packets
-  pub fits : length (outputBytes packets) ≤ length room
+  pub fits : length (bytesOfOutput packets) ≤ length room

@@ -7,4 +7,4 @@ pub mod Demand3
 pub mod Examples
 pub mod Summary
 pub mod Inside
-pub mod Guarded
+pub mod Untrusted

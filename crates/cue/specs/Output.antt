@@ -9,15 +9,15 @@ use Rattle.packet.specs.Command.{limit}
 use Rattle.cue.specs.declared.frame.Frame.{Frame}
 
 -- "LB", as a number low byte first
-abbrev pub packetMark : ℕ
-packetMark = 0x424C
+abbrev pub frameMark : ℕ
+frameMark = 0x424C
 
 -- the most bytes of a packet's frame: mark, length and packet
 abbrev pub frameRoom : ℕ
 frameRoom = limit + 4
 
 unfoldable pub framed : List ℕ → List ℕ
-framed packet = bytesOf 2 packetMark ++ bytesOf 2 (length packet) ++ packet
+framed packet = bytesOf 2 frameMark ++ bytesOf 2 (length packet) ++ packet
 
 unfoldable pub outputOf : List (List ℕ) → List ℕ
 outputOf [] = []
@@ -26,11 +26,11 @@ outputOf (p ∷ ps) = framed p ++ outputOf ps
 -- An output taken apart at its marks and lengths, or unsound where a mark is missing or a packet is cut.
 pub data Apart : Type 0 where
   unsound : Apart
-  parts : List (List ℕ) → Apart
+  frames : List (List ℕ) → Apart
 
 unfoldable pub withFrame : List ℕ → Apart → Apart
 withFrame p unsound = unsound
-withFrame p (parts ps) = parts (p ∷ ps)
+withFrame p (frames ps) = frames (p ∷ ps)
 
 unfoldable pub lengthAt : List ℕ → ℕ
 lengthAt rest = number (take 2 (drop 2 rest))
@@ -47,25 +47,25 @@ unfoldable pub frontOf : List ℕ → Front
 frontOf rest =
     cond (eqb (length rest) 0) end
     (cond (ltb (length rest) 2) cut
-    (cond (eqb (number (take 2 rest)) packetMark)
+    (cond (eqb (number (take 2 rest)) frameMark)
     (cond (ltb (length rest) (4 + lengthAt rest)) cut (frame (lengthAt rest)))
     unmarked))
 
 -- the bytes in the frame at the front, if it has n, and those behind it
-unfoldable pub framedBytes : ℕ → List ℕ → List ℕ
-framedBytes n rest = take n (drop 4 rest)
+unfoldable pub bytesInFrame : ℕ → List ℕ → List ℕ
+bytesInFrame n rest = take n (drop 4 rest)
 
 unfoldable pub behindFrame : ℕ → List ℕ → List ℕ
 behindFrame n rest = drop (4 + n) rest
 
 unfoldable pub withFront : Front → List ℕ → Apart → Apart
-withFront end rest others = parts []
+withFront end rest others = frames []
 withFront cut rest others = unsound
 withFront unmarked rest others = unsound
-withFront (frame n) rest others = withFrame (framedBytes n rest) others
+withFront (frame n) rest others = withFrame (bytesInFrame n rest) others
 
 unfoldable pub apartFrom : ℕ → List ℕ → Apart
-apartFrom zero rest = parts []
+apartFrom zero rest = frames []
 apartFrom (suc fuel) rest = withFront (frontOf rest) rest (apartFrom fuel (behindFrame (lengthAt rest) rest))
 
 unfoldable pub apart : List ℕ → Apart

@@ -36,12 +36,12 @@ joinAll [] = []
 joinAll (e ∷ es) = e ++ joinAll es
 
 -- a command's bytes: word, address, and the elements that are written
-unfoldable pub commandBytes : Command → List ℕ
-commandBytes c = bytesOf 2 (wordOf (commandFields c)) ++ bytesOf 2 (c .address) ++ joinAll (c .elements)
+unfoldable pub bytesOfCommand : Command → List ℕ
+bytesOfCommand c = bytesOf 2 (wordOf (commandFields c)) ++ bytesOf 2 (c .address) ++ joinAll (c .elements)
 
-unfoldable pub packetBytes : List Command → List ℕ
-packetBytes [] = []
-packetBytes (c ∷ cs) = commandBytes c ++ packetBytes cs
+unfoldable pub bytesOfPacket : List Command → List ℕ
+bytesOfPacket [] = []
+bytesOfPacket (c ∷ cs) = bytesOfCommand c ++ bytesOfPacket cs
 
 -- a command's steps, d from one element to the next
 unfoldable pub elementSteps : Kind → Space → ℕ → ℕ → List (List ℕ) → List Step
@@ -63,7 +63,7 @@ unlockCommand =
 
 -- both limits: the packet's bytes and its reply's
 unfoldable pub keepsLimits : List Command → Bool
-keepsLimits cs = leb (length (packetBytes cs)) limit && leb (replyBytes (packetSteps cs)) limit
+keepsLimits cs = leb (length (bytesOfPacket cs)) limit && leb (replyBytes (packetSteps cs)) limit
 
 -- The open packet, with its last command apart.
 pub record Open : Type 0 where

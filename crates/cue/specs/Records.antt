@@ -31,15 +31,15 @@ recordBytes k = cond (isWrite k) 10 6
 unfoldable pub recordSpace : List ℕ → Space
 recordSpace rest = spaceOf (getD rest 2 0)
 
-unfoldable pub valueBytes : List ℕ → List ℕ
-valueBytes rest = take 4 (drop 6 rest)
+unfoldable pub bytesOfValue : List ℕ → List ℕ
+bytesOfValue rest = take 4 (drop 6 rest)
 
 -- A 2-byte element takes the value's lower half.
 unfoldable pub recordStep : List ℕ → Step
 recordStep rest =
     let k = recordKind rest in
     let s = recordSpace rest in
-    record { kind = k; space = s; address = number (take 2 (drop 4 rest)); bytes = take (carried k s) (valueBytes rest) }
+    record { kind = k; space = s; address = number (take 2 (drop 4 rest)); bytes = take (carried k s) (bytesOfValue rest) }
 
 -- what a record names, a write's value apart; and the same of its step
 unfoldable pub recordAt : List ℕ → Record
@@ -60,7 +60,7 @@ badElement x =
 
 -- the part of the value that the element has no room for
 unfoldable pub upperHalf : List ℕ → ℕ
-upperHalf rest = number (drop (row (recordSpace rest) .element) (valueBytes rest))
+upperHalf rest = number (drop (row (recordSpace rest) .element) (bytesOfValue rest))
 
 -- the most records that a list may have
 abbrev pub mostRecords : ℕ

@@ -13,9 +13,9 @@ use Rattle.packet.specs.Bytes.{bytesOf}
 use Rattle.packet.specs.Step.{isWrite, carried, answered, replyBytes, unlocked}
 use Rattle.packet.specs.Command.{pickKind, limit}
 use Rattle.cue.specs.Records.{mostRecords}
-use Rattle.cue.specs.Packing.{Open, Command, packetBytes, packetSteps, commandsOf}
-use Rattle.cue.specs.Output.{packetMark}
-use Rattle.cue.specs.Compile.{outputBytes}
+use Rattle.cue.specs.Packing.{Open, Command, bytesOfPacket, packetSteps, commandsOf}
+use Rattle.cue.specs.Output.{frameMark}
+use Rattle.cue.specs.Compile.{bytesOfOutput}
 use Rattle.cue.specs.declared.records.Record.{Record}
 use Rattle.cue.specs.declared.packer.Packer.{Packer}
 
@@ -53,19 +53,19 @@ summary none unlock =
       packets = 0;
     }
 summary (some css o) unlock =
-    let frame = length (outputBytes css) in
+    let frame = length (bytesOfOutput css) in
     record {
       write = isWrite (o .last .kind);
       space = spaceNumber (o .last .space);
       address = o .last .address;
       count = length (o .last .elements);
-      packet = length (packetBytes (commandsOf o));
+      packet = length (bytesOfPacket (commandsOf o));
       reply = replyBytes (packetSteps (commandsOf o));
       unlocked = unlocked false (packetSteps (commandsOf o));
       unlock = unlock;
       frame = frame;
-      word = frame + 4 + length (packetBytes (o .before));
-      end = frame + 4 + length (packetBytes (commandsOf o));
+      word = frame + 4 + length (bytesOfPacket (o .before));
+      end = frame + 4 + length (bytesOfPacket (commandsOf o));
       packets = length css + 1;
     }
 
@@ -150,8 +150,8 @@ turnedBy p r =
 
 -- What the second pass writes for a record: the packet's mark and length, an unlock command that the record put in, the
 -- last command's word and address, and the element's bytes.
-unfoldable pub frameBytes : ℕ → List ℕ
-frameBytes n = bytesOf 2 packetMark ++ bytesOf 2 n
+unfoldable pub bytesOfMark : ℕ → List ℕ
+bytesOfMark n = bytesOf 2 frameMark ++ bytesOf 2 n
 
 unfoldable pub lastFields : Packer → Fields
 lastFields q =
@@ -165,20 +165,20 @@ lastFields q =
       count = q .count;
     }
 
-unfoldable pub headBytes : Packer → List ℕ
-headBytes q = bytesOf 2 (wordOf (lastFields q)) ++ bytesOf 2 (q .address)
+unfoldable pub bytesOfHeader : Packer → List ℕ
+bytesOfHeader q = bytesOf 2 (wordOf (lastFields q)) ++ bytesOf 2 (q .address)
 
-abbrev pub unlockBytes : List ℕ
-unlockBytes = 0x01 ∷ 0xD9 ∷ 0x1A ∷ 0x00 ∷ 0x02 ∷ 0x5A ∷ []
+abbrev pub bytesOfUnlock : List ℕ
+bytesOfUnlock = 0x01 ∷ 0xD9 ∷ 0x1A ∷ 0x00 ∷ 0x02 ∷ 0x5A ∷ []
 
 unfoldable pub framedAt : Packer → List ℕ → List ℕ
-framedAt q room = sets room (q .frame) (frameBytes (q .packet))
+framedAt q room = sets room (q .frame) (bytesOfMark (q .packet))
 
 unfoldable pub unlockedAt : Packer → List ℕ → List ℕ
-unlockedAt q room = cond (q .unlock) (sets room (q .word - 6) unlockBytes) room
+unlockedAt q room = cond (q .unlock) (sets room (q .word - 6) bytesOfUnlock) room
 
 unfoldable pub headedAt : Packer → List ℕ → List ℕ
-headedAt q room = sets room (q .word) (headBytes q)
+headedAt q room = sets room (q .word) (bytesOfHeader q)
 
 unfoldable pub wrote : Packer → List ℕ → List ℕ → List ℕ
 wrote q bytes room = sets (headedAt q (unlockedAt q (framedAt q room))) (q .end - length bytes) bytes

@@ -4,10 +4,10 @@ use lbp16::Refusal;
 
 mod emit;
 pub mod frame;
-pub mod guarded;
 pub mod packer;
 pub mod plan;
 pub mod records;
+pub mod untrusted;
 
 ghost use mathlib.Core.Path.{_≡_};
 ghost use Rattle.cue.specs.Demand3.{Demand3};

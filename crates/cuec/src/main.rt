@@ -7,6 +7,6 @@ fn main() {
     let mut input = [0u8; 16385];
     let taken = io::read_full(STDIN_FILENO, &mut input);
     let mut room = [0u8; 32768];
-    let said = report::report(&input[..taken], &mut room);
+    let said = cuec_output::report(&input[..taken], &mut room);
     io::write_all(STDOUT_FILENO, &room[..said]);
 }

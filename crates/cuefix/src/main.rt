@@ -1,12 +1,12 @@
 // The salvaging program: a damaged cue list on standard input, a playable one, or an account, on standard output.
-use account::Request;
-use account::Told;
-use account::lines;
+use cuefix_output::Request;
+use cuefix_output::Told;
+use cuefix_output::lines;
 use libc::STDIN_FILENO;
 use libc::STDOUT_FILENO;
 
 fn take(request: Request, input: &mut [u8]) -> usize {
-    let most = account::most_read(request);
+    let most = cuefix_output::most_read(request);
     if input.len() < most {
         return 0;
     }
@@ -74,7 +74,7 @@ fn answer(
     if input.len() < taken {
         return Told::TooLong;
     }
-    account::answer(request, &input[..taken], room, log)
+    cuefix_output::answer(request, &input[..taken], room, log)
 }
 
 // `input` has room for one byte more than a list may have, so that a longer one is noticed.
@@ -93,7 +93,7 @@ fn serve(
 fn main() {
     let mut word = [0u8; 8];
     let n = os::arg(1, &mut word);
-    let request = account::request_of(os::arg_count(), &word[..n]);
+    let request = cuefix_output::request_of(os::arg_count(), &word[..n]);
     serve(
         request,
         &mut [0; 1000001],

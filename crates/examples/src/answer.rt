@@ -1,5 +1,5 @@
 // Answers as the values of a form: 1, number and place of a refusal, or 0, two values to pass over, and those of the answer.
-use card::run::RanList;
+use card::run::RanLent;
 use cue::CompileAnswer;
 use independent::Independence;
 use lbp16::Refusal;
@@ -22,7 +22,7 @@ fn refused(r: Refusal) -> [u64; 9] {
 }
 
 // The reply's bytes twice, and the elements moved.
-pub(crate) fn of_packet(ran: RanList) -> [u64; 9] {
+pub(crate) fn of_packet(ran: RanLent) -> [u64; 9] {
     let answer = ran.answer;
     match answer {
         Verdict::Accepted(n) => [0, 0, 0, n, n, ran.elements, 0, 0, 0],

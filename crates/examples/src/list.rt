@@ -104,6 +104,6 @@ fn found(room: [u8; 256], n: usize) {
 // A recorded show judged on a fresh card: packets and replies in turn, each behind "LB" and its length.
 pub(crate) fn judged(recording: &[u8]) {
     let mut room = [0u8; 256];
-    let n = findings::findings(recording, &mut room);
+    let n = showcheck_output::findings(recording, &mut room);
     found(room, n);
 }

@@ -75,7 +75,7 @@ fn run_on(sent: &[u8], before: Card) -> Done {
     let mut reply = [0u8; LIMIT];
     let mut store = before.store;
     let mut pointers = before.pointers;
-    let ran = run::run_list(sent, &mut store, &mut pointers, &mut reply);
+    let ran = run::run_lent(sent, &mut store, &mut pointers, &mut reply);
     let values = answer::of_packet(ran);
     let card = with_state(store, pointers, before.read);
     Done {

@@ -14,8 +14,8 @@ use Rattle.lbp16.proofs.BoolLaws.{or-false}
 use Rattle.packet.specs.Verdict.{verdictListed}
 use Rattle.packet.specs.Counts.{elementsMoved}
 use Rattle.packet.specs.declared.judge.Verdict.{Verdict}
-use Rattle.card.specs.Run.{ListOutcome, asList, runList, ranList}
-use Rattle.card.specs.declared.run.RanList.{RanList}
+use Rattle.card.specs.Run.{LentOutcome, asLent, runLent, ranLent}
+use Rattle.card.specs.declared.run.RanLent.{RanLent}
 use Rattle.spi.specs.Spi.{Burst, runBurst, burstLeft, mostInBurst}
 use Rattle.card.proofs.RunLaws.{CheckRefused, RunRefused, refusals-listed}
 use Rattle.spi.proofs.SpiLaws.{burst-refused-in-table}
@@ -36,17 +36,17 @@ four-stored l i a b c d =
     rw (one, two, three) refl
 
 -- what a run's call leaves, from what the run answers and leaves
-pub ran-left : (o : ListOutcome) (r : RanList) (n : Numbers) (store pointers reply : List ℕ)
-    → ranList r store pointers reply ≡ o
+pub ran-left : (o : LentOutcome) (r : RanLent) (n : Numbers) (store pointers reply : List ℕ)
+    → ranLent r store pointers reply ≡ o
     → n ≡ numbersOf (verdictListed (r .answer))
     → runLeft (n .0) (n .1) (r .elements) store pointers reply ≡ runBy o
-unfolding ranList numbersOf
+unfolding ranLent numbersOf
 ran-left o r n store pointers reply done g = rw g (ap runBy done)
 
 -- No refusal of a run has the number 0, so a run that returns 0 has done the packet's commands.
 run-never-zero : (packet store pointers reply : List ℕ) (n place : ℕ)
-    → runList packet store pointers reply .answer ≡ Answer.refused n place → n ≡ 0 → ⊥
-unfolding runList asList
+    → runLent packet store pointers reply .answer ≡ Answer.refused n place → n ≡ 0 → ⊥
+unfolding runLent asLent
 run-never-zero packet store pointers reply n place e z = by-count (eqb (length pointers) 8) refl
   where
     listed : RunRefused packet store (pointersOf pointers) reply n place → ⊥
@@ -67,15 +67,15 @@ given-by-number packet (Answer.refused zero place) number elements never n e = a
 given-by-number packet (Answer.refused (suc m) place) number elements never n e = rw n e
 
 -- the elements that a run's call answers
-pub run-elements : (packet store pointers reply : List ℕ) (r : RanList) (n : Numbers) (store′ pointers′ reply′ : List ℕ)
-    → ranList r store′ pointers′ reply′ ≡ runList packet store pointers reply
+pub run-elements : (packet store pointers reply : List ℕ) (r : RanLent) (n : Numbers) (store′ pointers′ reply′ : List ℕ)
+    → ranLent r store′ pointers′ reply′ ≡ runLent packet store pointers reply
     → n ≡ numbersOf (verdictListed (r .answer))
     → r .elements ≡ elementsMoved (verdictListed (r .answer)) packet
     → r .elements ≡ elementsGiven (n .0) packet
-unfolding ranList numbersOf
+unfolding ranLent numbersOf
 run-elements packet store pointers reply r n store′ pointers′ reply′ done g e =
     given-by-number packet (verdictListed (r .answer)) (n .0) (r .elements)
-    (λ m place q. run-never-zero packet store pointers reply m place (sym (ap (λ (o : ListOutcome). o .answer) done) ∙ q))
+    (λ m place q. run-never-zero packet store pointers reply m place (sym (ap (λ (o : LentOutcome). o .answer) done) ∙ q))
     (ap (λ (m : Numbers). m .0) g)
     e
 

@@ -12,7 +12,7 @@ use Rattle.tight.specs.Demand3.{TightDemand3}
 use Rattle.tight.proofs.Demand3Laws.{tight-demand3}
 use Rattle.planner.specs.Planner.{TightenedBy, Tightened, EightBytes}
 use Rattle.head.specs.Exports.{numberOf, valueOf, countOf, numbersOf, CompileExport, compileLeft, exportCompile}
-use Rattle.head.specs.Tighter.{TightenExport, EightExport}
+use Rattle.head.specs.TightExports.{TightenExport, EightExport}
 use Rattle.head.specs.declared.numbers.Numbers.{Numbers}
 use Rattle.head.proofs.ExportLaws.{never-zero}
 

@@ -9,7 +9,7 @@ use Rattle.lbp16.specs.Word.{fieldsOf, bit, written}
 use Rattle.lbp16.specs.declared.word.Fields.{Fields}
 use Rattle.packet.specs.Verdict.{answerTo}
 use Rattle.packet.specs.Counts.{countsOf, sum}
-use Rattle.card.specs.Run.{ListOutcome, checkedList, runList}
+use Rattle.card.specs.Run.{LentOutcome, checkedLent, runLent}
 use Rattle.spi.specs.Spi.{Burst, runBurst}
 use Rattle.cue.specs.Compile.{compiled}
 use Rattle.head.specs.declared.numbers.Numbers.{Numbers}
@@ -48,7 +48,7 @@ abbrev pub givenBy : Answer → Given
 givenBy a = given (numberOf a) (valueOf a)
 
 unfoldable pub exportCheck : List ℕ → List ℕ → List ℕ → Given
-exportCheck packet store pointers = givenBy (answerTo (checkedList packet store pointers))
+exportCheck packet store pointers = givenBy (answerTo (checkedLent packet store pointers))
 
 -- All that head_compile returns and leaves.
 pub record CompileExport : Type 0 where
@@ -94,11 +94,11 @@ abbrev pub runLeft : ℕ → ℕ → ℕ → List ℕ → List ℕ → List ℕ 
 runLeft number value elements store pointers reply =
     record { number = number; value = value; elements = elements; store = store; pointers = pointers; reply = reply }
 
-abbrev pub runBy : ListOutcome → RunExport
+abbrev pub runBy : LentOutcome → RunExport
 runBy o = runLeft (numberOf (o .answer)) (valueOf (o .answer)) (o .elements) (o .store) (o .pointers) (o .reply)
 
 unfoldable pub exportRun : List ℕ → List ℕ → List ℕ → List ℕ → RunExport
-exportRun packet store pointers reply = runBy (runList packet store pointers reply)
+exportRun packet store pointers reply = runBy (runLent packet store pointers reply)
 
 -- How many elements head_run answers, by the number that it returns: the sum of the counts of the packet's commands for 0, else none.
 unfoldable pub elementsGiven : ℕ → List ℕ → ℕ
@@ -106,8 +106,8 @@ elementsGiven zero packet = sum (countsOf packet)
 elementsGiven (suc n) packet = 0
 
 -- A word's fields as seven bytes: write, address, info, space, size, increment, count. A flag is 0 or 1.
-unfoldable pub fieldBytes : Fields → List ℕ
-fieldBytes f =
+unfoldable pub bytesOfFields : Fields → List ℕ
+bytesOfFields f =
     bit (f .write)
     ∷ bit (f .address)
     ∷ bit (f .info)
@@ -140,7 +140,7 @@ fieldsLeft number fields = record { number = number; fields = fields }
 -- Refused with 13 where there is not room for exactly seven bytes.
 unfoldable pub exportFields : ℕ → List ℕ → FieldsExport
 exportFields word fields =
-    cond (eqb (length fields) 7) (fieldsLeft 0 (fieldBytes (fieldsOf word))) (fieldsLeft 13 fields)
+    cond (eqb (length fields) 7) (fieldsLeft 0 (bytesOfFields (fieldsOf word))) (fieldsLeft 13 fields)
 
 -- a byte of a flag that is neither 0 nor 1
 unfoldable pub badFlags : List ℕ → Bool

@@ -8,13 +8,13 @@ ghost use Prim.Native.Nat.{_+_, _≤_};
 ghost use lib.ListN.{length};
 ghost use lib.Seq.{sets};
 ghost use lib.Dec.{eqb};
-ghost use Rattle.lbp16.specs.Pointer.{spaceList, pointerList};
+ghost use Rattle.lbp16.specs.Pointer.{lentSpaces, lentPointers};
 ghost use Rattle.lbp16.specs.Word.{bit};
-ghost use Rattle.head.specs.Exports.{fieldBytes, fieldsFrom, badFlags};
+ghost use Rattle.head.specs.Exports.{bytesOfFields, fieldsFrom, badFlags};
 
 fn put_spaces(p: SpacePointers, ps: &mut [u32], at: usize)
     requires { ⌜ at + 4 ≤ length (now ps) ⌝ }
-    ensures { λ r. ⌜ now (ps .exit) ≡ sets (now (ps .entry)) at (spaceList p) ⌝ }
+    ensures { λ r. ⌜ now (ps .exit) ≡ sets (now (ps .entry)) at (lentSpaces p) ⌝ }
 {
     ps[at] = p.registers.at;
     ps[at + 1] = p.eeprom.at;
@@ -24,7 +24,7 @@ fn put_spaces(p: SpacePointers, ps: &mut [u32], at: usize)
 
 pub(crate) fn put_pointers(p: Pointers, ps: &mut [u32])
     requires { ⌜ length (now ps) ≡ 8 ⌝ }
-    ensures { λ r. ⌜ now (ps .exit) ≡ pointerList p ⌝ }
+    ensures { λ r. ⌜ now (ps .exit) ≡ lentPointers p ⌝ }
 {
     put_spaces(p.plain, ps, 0);
     put_spaces(p.info, ps, 4);
@@ -38,7 +38,7 @@ pub(crate) fn flag(set: bool) -> u8
 
 pub(crate) fn put_fields(f: Fields, bytes: &mut [u8])
     requires { ⌜ length (now bytes) ≡ 7 ⌝ }
-    ensures { λ r. ⌜ now (bytes .exit) ≡ fieldBytes f ⌝ }
+    ensures { λ r. ⌜ now (bytes .exit) ≡ bytesOfFields f ⌝ }
 {
     bytes[0] = flag(f.write);
     bytes[1] = flag(f.address);

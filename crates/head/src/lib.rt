@@ -1,16 +1,16 @@
 // What C programs call; include/head.h declares it. A function that can refuse returns the refusal's number, 0 if accepted.
-mod headers;
+mod independent_exports;
 mod interlock_exports;
 mod lent;
 mod numbers;
-mod panels;
-pub mod part;
-mod recorded;
-mod repair;
-pub mod serial;
-mod tighter;
-mod two_lists;
-mod why_refused;
+mod panel_exports;
+pub mod parts_exports;
+mod reason_exports;
+mod recording_exports;
+mod salvage_exports;
+mod spi_exports;
+pub mod sserial_exports;
+mod tight_exports;
 
 use card::check;
 use card::run;
@@ -30,7 +30,7 @@ ghost use Rattle.head.specs.Exports.{compileLeft, exportCompile, fieldsL
 pub extern "C" fn head_check(packet: &[u8], store: &[u8], pointers: &[u32], value: &mut u64) -> u32
     ensures { λ r. ⌜ given r (now (value .exit)) ≡ exportCheck (now (packet .entry)) (now (store .entry)) (now (pointers .entry)) ⌝ }
 {
-    let given = numbers::of_verdict(check::check_list(packet, store, pointers));
+    let given = numbers::of_verdict(check::check_lent(packet, store, pointers));
     *value = given.1;
     given.0
 }
@@ -50,7 +50,7 @@ pub extern "C" fn head_run(
     ensures summed { λ r. ⌜ now (elements .exit) ≡ elementsGiven r (now (packet .entry)) ⌝ }
     ensures bounded { λ r. ⌜ now (elements .exit) ≤ mostElements ⌝ }
 {
-    let ran = run::run_list(packet, store, pointers, reply);
+    let ran = run::run_lent(packet, store, pointers, reply);
     *elements = ran.elements;
     let answer = ran.answer;
     let given = numbers::of_verdict(answer);

@@ -14,7 +14,7 @@ use Rattle.packet.specs.Step.{Step, storeAfter, valuesRead}
 use Rattle.packet.specs.Command.{limit}
 use Rattle.packet.specs.Judge.{accepted}
 use Rattle.packet.proofs.StoreLaws.{length-after}
-use Rattle.card.specs.Run.{badState, unlockCell, countCell, cleared, countBytes, counted, outcome}
+use Rattle.card.specs.Run.{badState, unlockCell, countCell, cleared, bytesOfCount, counted, outcome}
 use Rattle.card.proofs.RunLaws.{length-cleared, length-counted, good-state, state-again, run-accepted, count-on}
 use Rattle.cue.specs.Play.{Played, play}
 use Rattle.cue.specs.Demand3.{Off, unlockAfter, countAfter}
@@ -91,8 +91,8 @@ same-blank a b l h =
 
 -- and are equal if besides the two cells hold the same.
 pub same-store : (a b : List ℕ) → length a ≡ length b → blank a ≡ blank b
-    → ((i : ℕ) → unlockCell ≤ i → i < unlockCell + 2 → getD a i 0 ≡ getD b i 0) → countBytes a ≡ countBytes b → a ≡ b
-unfolding countBytes
+    → ((i : ℕ) → unlockCell ≤ i → i < unlockCell + 2 → getD a i 0 ≡ getD b i 0) → bytesOfCount a ≡ bytesOfCount b → a ≡ b
+unfolding bytesOfCount
 same-store a b l e u c = ext-getD 0 a b l (λ i _. go i (side unlockCell 2 i) (side countCell 2 i))
   where
     counts : (i : ℕ) → i < 2 → getD a (countCell + i) 0 ≡ getD b (countCell + i) 0
@@ -158,7 +158,7 @@ module _ (ps qs : List (List ℕ)) where
 
 -- All packets of one list and then all of another do what the records do: those of the one and then those of the other.
 pub record Turned (ps qs : List (List ℕ)) (xs ys : List Step) (store : List ℕ) (t : InTurn) : Type 0 where
-  pub count : countBytes (t .other .store) ≡ countAfter (ps ++ qs) (countBytes store)
+  pub count : bytesOfCount (t .other .store) ≡ countAfter (ps ++ qs) (bytesOfCount store)
   pub accepted : (t .one .accepted && t .other .accepted) ≡ true
   pub bytes : length (t .other .store) ≡ length store
   pub cells : blank (t .other .store) ≡ blank (storeAfter ys (storeAfter xs store))
@@ -180,7 +180,7 @@ turned ps qs xs ys hx hy gx gy store p rooms more fine ok okay =
     let same = alike ys gy (f .store) (storeAfter xs store) (same-blank (f .store) (storeAfter xs store) (s .bytes) (s .cells)) in
     let other = play qs more (f .store) (f .pointers) in
     record {
-      count = r .count ∙ ap (countAfter qs) (s .count) ∙ count-both ps qs (countBytes store);
+      count = r .count ∙ ap (countAfter qs) (s .count) ∙ count-both ps qs (bytesOfCount store);
       accepted = rw (s .accepted, r .accepted);
       bytes = r .bytes ∙ length-after ys (f .store) ∙ s .bytes ∙ length-after xs store;
       cells = same-blank (other .store) (storeAfter ys (f .store)) (r .bytes) (r .cells) ∙ same .1;

@@ -7,8 +7,8 @@ use lib.ListN.{length, take, getD}
 use Rattle.lbp16.specs.Answer.{Answer}
 use Rattle.lbp16.specs.declared.pointer.Pointers.{Pointers}
 use Rattle.packet.specs.Command.{limit}
-use Rattle.card.specs.Run.{badState, unlockCell, countBytes}
-use Rattle.cue.specs.Output.{parts, apart, outputOf}
+use Rattle.card.specs.Run.{badState, unlockCell, bytesOfCount}
+use Rattle.cue.specs.Output.{frames, apart, outputOf}
 use Rattle.cue.specs.Compile.{compiled}
 use Rattle.cue.specs.Play.{Played, play}
 use Rattle.cue.specs.Demand3.{unlockAfter, countAfter}
@@ -19,7 +19,7 @@ pub record CompilesTo (list : List ℕ) (packets : List (List ℕ)) : Type 0 whe
   pub accepted : (room : List ℕ) → length (outputOf packets) ≤ length room
       → compiled list room .answer ≡ Answer.accepted (length (outputOf packets) ∷ length packets ∷ [])
   pub left : (room : List ℕ) (bytes count : ℕ) → compiled list room .answer ≡ Answer.accepted (bytes ∷ count ∷ [])
-      → apart (take bytes (compiled list room .room)) ≡ parts packets
+      → apart (take bytes (compiled list room .room)) ≡ frames packets
 
 -- All packets of one list run, then all of another on the store and pointers that those left.
 pub record InTurn : Type 0 where
@@ -42,7 +42,7 @@ pub record SameEitherWay (ps qs : List (List ℕ)) (store : List ℕ) (forth bac
   pub second-values : forth .other .replies ≡ back .one .replies
   pub unlock : (i : ℕ) → unlockCell ≤ i → i < unlockCell + 2
       → getD (forth .other .store) i 0 ≡ unlockAfter (ps ++ qs) (getD store i 0)
-  pub count : countBytes (forth .other .store) ≡ countAfter (ps ++ qs) (countBytes store)
+  pub count : bytesOfCount (forth .other .store) ≡ countAfter (ps ++ qs) (bytesOfCount store)
 
 -- Of two lists: from every state that refusal 1 does not turn away, with reply rooms of 1,472 bytes whatever they hold, their
 -- packets do the same in either order. Pointers are not compared.

@@ -21,7 +21,7 @@ unfolding Guard.shares Guard.faulty Guard.soundFrom Guard.soundness Guard.touche
 guards = 0
 
 unfoldable packets : ℕ
-unfolding all guards Bytes.pairsOf Command.areaBytes Info.areaWords Guarded.soundFirst Guarded.placeFrom Guarded.protectedPlace
+unfolding all guards Bytes.pairsOf Command.bytesOfArea Info.areaWords Guarded.soundFirst Guarded.placeFrom Guarded.protectedPlace
     Guarded.heldBack Guarded.guardedVerdict Guarded.guardedPacket
 packets = 0
 

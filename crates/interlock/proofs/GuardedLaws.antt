@@ -10,16 +10,16 @@ use borrow.Author.Tests.{eq-eqb, ne-eqb, eqb-true, eqb-false}
 use Rattle.lbp16.specs.Answer.{Answer}
 use Rattle.lbp16.specs.Pointer.{pointersOf}
 use Rattle.lbp16.specs.declared.pointer.Pointers.{Pointers}
-use Rattle.lbp16.proofs.PointerLaws.{list-back}
+use Rattle.lbp16.proofs.PointerLaws.{lent-back}
 use Rattle.packet.specs.Step.{replyBytes}
 use Rattle.packet.specs.Command.{limit}
 use Rattle.packet.specs.Judge.{Carried, Verdict, refused, accepted, judge}
 use Rattle.packet.specs.Counts.{elementsMoved}
 use Rattle.packet.specs.Verdict.{answerTo, verdictListed}
-use Rattle.card.specs.Run.{checked, outcome, runVerdict, runPacket, checkedList, Outcome, ListOutcome, asList, runList, ranList}
-use Rattle.card.specs.declared.run.RanList.{RanList}
+use Rattle.card.specs.Run.{checked, outcome, runVerdict, runPacket, checkedLent, Outcome, LentOutcome, asLent, runLent, ranLent}
+use Rattle.card.specs.declared.run.RanLent.{RanLent}
 use Rattle.card.proofs.RunLaws.{checked-cases}
-use Rattle.card.proofs.AnswerLaws.{may-run-list, list-other}
+use Rattle.card.proofs.AnswerLaws.{may-run-lent, lent-other}
 use Rattle.interlock.specs.Guard.{soundness, protected}
 use Rattle.interlock.specs.Guarded.{soundFirst, protectedPlace, heldBack, guardedVerdict, guardedCheck, guardedPacket, guardedRun}
 use Rattle.interlock.specs.Inside.{insteadOf}
@@ -40,11 +40,11 @@ judged-run packet store p reply c = go (eqb (length reply) limit)
         e
     go false e = let z : _≡_ {A = ℕ} 0 1 = cc in absurd (omega arith)
 
-judged-list : (packet store list : List ℕ) (c : Carried) → checkedList packet store list ≡ accepted c
+judged-list : (packet store list : List ℕ) (c : Carried) → checkedLent packet store list ≡ accepted c
     → (length list ≡ 8) × (judge (pointersOf list) packet ≡ accepted c)
 unfolding answerTo
 judged-list packet store list c e =
-    let m = may-run-list packet store list (replyBytes (c .steps)) (sym (ap answerTo e)) in (m .0, sym (m .3) ∙ e)
+    let m = may-run-lent packet store list (replyBytes (c .steps)) (sym (ap answerTo e)) in (m .0, sym (m .3) ∙ e)
 
 module _ (guard : List ℕ) (p : Pointers) (packet : List ℕ) where
   -- A guard that is not sound is refused, whatever the plain verdict is.
@@ -128,17 +128,17 @@ module _ (guard packet store pointers : List ℕ) where
   module _ (values : List ℕ) (sound : Answer.accepted values ≡ soundness guard) (place : ℕ)
       (walked : length pointers ≡ 8 → (end : Carried) → judge (pointersOf pointers) packet ≡ accepted end
       → place ≡ protectedPlace guard (pointersOf pointers) packet) where
-    found-list : (c : Carried) → checkedList packet store pointers ≡ accepted c
+    found-list : (c : Carried) → checkedLent packet store pointers ≡ accepted c
         → (judge (pointersOf pointers) packet ≡ accepted c) × (place ≡ protectedPlace guard (pointersOf pointers) packet)
     found-list c e = let (l, j) = judged-list packet store pointers c e in (j, walked l c j)
 
-    pub check-passes : place ≡ length packet → (a : Answer) → a ≡ answerTo (checkedList packet store pointers)
+    pub check-passes : place ≡ length packet → (a : Answer) → a ≡ answerTo (checkedLent packet store pointers)
         → a ≡ answerTo (guardedCheck guard packet store pointers)
     unfolding guardedCheck
     check-passes e a h =
         h ∙ ap answerTo (sym (none-found guard _ packet values (sym sound) place _ found-list e))
 
-    pub check-stopped : (place ≡ length packet → ⊥) → (a : Answer) → a ≡ insteadOf (answerTo (checkedList packet store pointers)) place
+    pub check-stopped : (place ≡ length packet → ⊥) → (a : Answer) → a ≡ insteadOf (answerTo (checkedLent packet store pointers)) place
         → a ≡ answerTo (guardedCheck guard packet store pointers)
     unfolding guardedCheck
     check-stopped e a h =
@@ -170,25 +170,25 @@ none-held packet a b place e = let (n, (i, is)) = always b place in none-moved p
 -- The run, as the code comes to it.
 module _ (guard packet store pointers reply : List ℕ) where
   refused-outcome : (v : Verdict) (n i : ℕ) → answerTo v ≡ Answer.refused n i → length pointers ≡ 8
-      → asList (outcome v store (pointersOf pointers) reply)
+      → asLent (outcome v store (pointersOf pointers) reply)
       ≡ record { answer = Answer.refused n i; elements = 0; store = store; reply = reply; pointers = pointers }
-  unfolding answerTo asList outcome
-  refused-outcome (refused m k) n i e l = rw (e, list-back pointers l) refl
+  unfolding answerTo asLent outcome
+  refused-outcome (refused m k) n i e l = rw (e, lent-back pointers l) refl
   refused-outcome (accepted c) n i e l = let z : _≡_ {A = ℕ} 0 1 = cc in absurd (omega arith)
 
   refused-run : (n i : ℕ)
       → (length pointers ≡ 8
       → answerTo (guardedVerdict guard (pointersOf pointers) packet (runVerdict packet store (pointersOf pointers) reply)) ≡ Answer.refused n i)
       → ((length pointers ≡ 8 → ⊥) → answerTo (soundFirst (soundness guard) (refused 1 0)) ≡ Answer.refused n i)
-      → (r : RanList) → verdictListed (r .answer) ≡ Answer.refused n i → r .elements ≡ 0
-      → ranList r store pointers reply ≡ guardedRun guard packet store pointers reply
-  unfolding guardedRun guardedPacket ranList
+      → (r : RanLent) → verdictListed (r .answer) ≡ Answer.refused n i → r .elements ≡ 0
+      → ranLent r store pointers reply ≡ guardedRun guard packet store pointers reply
+  unfolding guardedRun guardedPacket ranLent
   refused-run n i eight other r a z = rw (a, z) (go (eqb (length pointers) 8) refl)
     where
       go : (b : Bool) → eqb (length pointers) 8 ≡ b
-          → _≡_ {A = ListOutcome} (record { answer = Answer.refused n i; elements = 0; store = store; reply = reply; pointers = pointers })
+          → _≡_ {A = LentOutcome} (record { answer = Answer.refused n i; elements = 0; store = store; reply = reply; pointers = pointers })
           (cond b
-          (asList
+          (asLent
           (outcome (guardedVerdict guard (pointersOf pointers) packet (runVerdict packet store (pointersOf pointers) reply)) store
           (pointersOf pointers)
           reply))
@@ -203,12 +203,12 @@ module _ (guard packet store pointers reply : List ℕ) where
       go false q = rw (other (eqb-false _ _ q)) refl
 
   same-verdict : length reply ≡ limit → length pointers ≡ 8
-      → runVerdict packet store (pointersOf pointers) reply ≡ checkedList packet store pointers
-  unfolding runVerdict checkedList
+      → runVerdict packet store (pointersOf pointers) reply ≡ checkedLent packet store pointers
+  unfolding runVerdict checkedLent
   same-verdict room l = rw (eq-eqb _ _ room, eq-eqb _ _ l) refl
 
-  pub run-unsound : (n i : ℕ) → Answer.refused n i ≡ soundness guard → (r : RanList) → verdictListed (r .answer) ≡ Answer.refused n i
-      → r .elements ≡ 0 → ranList r store pointers reply ≡ guardedRun guard packet store pointers reply
+  pub run-unsound : (n i : ℕ) → Answer.refused n i ≡ soundness guard → (r : RanLent) → verdictListed (r .answer) ≡ Answer.refused n i
+      → r .elements ≡ 0 → ranLent r store pointers reply ≡ guardedRun guard packet store pointers reply
   unfolding answerTo soundFirst
   run-unsound n i e = refused-run n i (λ _. ap answerTo (unsound guard (pointersOf pointers) packet n i e _)) (λ _. rw (← e) refl)
 
@@ -219,17 +219,17 @@ module _ (guard packet store pointers reply : List ℕ) where
         → (judge (pointersOf pointers) packet ≡ accepted c) × (place ≡ protectedPlace guard (pointersOf pointers) packet)
     found-run l c e = let j = judged-run packet store (pointersOf pointers) reply c e in (j, walked l c j)
 
-    pub run-passes : place ≡ length packet → (o : ListOutcome) → o ≡ runList packet store pointers reply
+    pub run-passes : place ≡ length packet → (o : LentOutcome) → o ≡ runLent packet store pointers reply
         → o ≡ guardedRun guard packet store pointers reply
-    unfolding runList guardedRun runPacket guardedPacket soundFirst answerTo
+    unfolding runLent guardedRun runPacket guardedPacket soundFirst answerTo
     run-passes e o h = h ∙ go (eqb (length pointers) 8) refl
       where
         go : (b : Bool) → eqb (length pointers) 8 ≡ b
-            → _≡_ {A = ListOutcome}
-            (cond b (asList (outcome (runVerdict packet store (pointersOf pointers) reply) store (pointersOf pointers) reply))
+            → _≡_ {A = LentOutcome}
+            (cond b (asLent (outcome (runVerdict packet store (pointersOf pointers) reply) store (pointersOf pointers) reply))
             (record { answer = Answer.refused 1 0; elements = 0; store = store; reply = reply; pointers = pointers }))
             (cond b
-            (asList
+            (asLent
             (outcome (guardedVerdict guard (pointersOf pointers) packet (runVerdict packet store (pointersOf pointers) reply)) store
             (pointersOf pointers)
             reply))
@@ -242,11 +242,11 @@ module _ (guard packet store pointers reply : List ℕ) where
             }))
         go true q =
             let same = none-found guard (pointersOf pointers) packet values (sym sound) place _ (found-run (eqb-true _ _ q)) e in
-            ap (λ v. asList (outcome v store (pointersOf pointers) reply)) (sym same)
+            ap (λ v. asLent (outcome v store (pointersOf pointers) reply)) (sym same)
         go false q = rw (← sound) refl
 
-    pub run-room : (length reply ≡ limit → ⊥) → (r : RanList) → verdictListed (r .answer) ≡ Answer.refused 1 0 → r .elements ≡ 0
-        → ranList r store pointers reply ≡ guardedRun guard packet store pointers reply
+    pub run-room : (length reply ≡ limit → ⊥) → (r : RanLent) → verdictListed (r .answer) ≡ Answer.refused 1 0 → r .elements ≡ 0
+        → ranLent r store pointers reply ≡ guardedRun guard packet store pointers reply
     unfolding runVerdict soundFirst answerTo
     run-room h =
         refused-run 1 0
@@ -257,21 +257,21 @@ module _ (guard packet store pointers reply : List ℕ) where
         (λ c z. let y : _≡_ {A = ℕ} 0 1 = cc in absurd (omega arith)))))
         (λ _. rw (← sound) refl)
 
-    pub run-stopped : (place ≡ length packet → ⊥) → length reply ≡ limit → (r : RanList)
-        → verdictListed (r .answer) ≡ insteadOf (answerTo (checkedList packet store pointers)) place → r .elements ≡ 0
-        → ranList r store pointers reply ≡ guardedRun guard packet store pointers reply
+    pub run-stopped : (place ≡ length packet → ⊥) → length reply ≡ limit → (r : RanLent)
+        → verdictListed (r .answer) ≡ insteadOf (answerTo (checkedLent packet store pointers)) place → r .elements ≡ 0
+        → ranLent r store pointers reply ≡ guardedRun guard packet store pointers reply
     unfolding soundFirst answerTo insteadOf
-    run-stopped e room r a z = go (always (answerTo (checkedList packet store pointers)) place)
+    run-stopped e room r a z = go (always (answerTo (checkedLent packet store pointers)) place)
       where
-        go : (n : ℕ) × ((i : ℕ) × (insteadOf (answerTo (checkedList packet store pointers)) place ≡ Answer.refused n i))
-            → ranList r store pointers reply ≡ guardedRun guard packet store pointers reply
+        go : (n : ℕ) × ((i : ℕ) × (insteadOf (answerTo (checkedLent packet store pointers)) place ≡ Answer.refused n i))
+            → ranLent r store pointers reply ≡ guardedRun guard packet store pointers reply
         go (n, (i, is)) =
             refused-run n i
             (λ l.
             one-found guard (pointersOf pointers) packet values (sym sound) place _ (found-run l) e
             ∙ ap (λ v. insteadOf (answerTo v) place) (same-verdict room l)
             ∙ is)
-            (λ l. rw (← sound) (ap (λ v. insteadOf (answerTo v) place) (sym (list-other packet store pointers l)) ∙ is))
+            (λ l. rw (← sound) (ap (λ v. insteadOf (answerTo v) place) (sym (lent-other packet store pointers l)) ∙ is))
             r
             (a ∙ is)
             z

@@ -19,7 +19,7 @@ use Rattle.packet.specs.Judge.{Carried, accepted, begin, carry, judge}
 use Rattle.packet.proofs.StoreLaws.{Spared, spared-byte, length-after}
 use Rattle.packet.proofs.StepLaws.{any-append}
 use Rattle.packet.proofs.RefusalLaws.{all-passed, reaches-keeps}
-use Rattle.card.specs.Run.{cleared, outcome, ListOutcome, asList}
+use Rattle.card.specs.Run.{cleared, outcome, LentOutcome, asLent}
 use Rattle.card.proofs.RunLaws.{length-cleared, length-counted, cleared-outside, counted-outside}
 use Rattle.interlock.specs.Guard.{touches, IsProtected, writesProtected, protected}
 use Rattle.interlock.specs.Guarded.{guardedPacket, guardedRun, guardedBurst}
@@ -89,11 +89,11 @@ packet-kept guard packet store p reply =
     ))
 
 run-kept : (guard packet store pointers reply : List ℕ) → Kept guard store (guardedRun guard packet store pointers reply .store)
-unfolding guardedRun asList
+unfolding guardedRun asLent
 run-kept guard packet store pointers reply =
     go (eqb (length pointers) 8) _ _ (packet-kept guard packet store (pointersOf pointers) reply) (refl, λ i _. refl)
   where
-    go : (b : Bool) (o other : ListOutcome) → Kept guard store (o .store) → Kept guard store (other .store)
+    go : (b : Bool) (o other : LentOutcome) → Kept guard store (o .store) → Kept guard store (other .store)
         → Kept guard store (cond b o other .store)
     go true o other k l = k
     go false o other k l = l

@@ -20,7 +20,7 @@ use Rattle.packet.proofs.StoreLaws.{length-after}
 use Rattle.card.specs.Run.{unlockCell, cleared, counted, badState, checked, Outcome, outcome, runVerdict}
 use Rattle.card.proofs.RunLaws.{good-state, state-again, length-cleared, length-counted, run-accepted}
 use Rattle.cue.specs.Records.{records, recordsOf}
-use Rattle.cue.specs.Output.{parts, apart}
+use Rattle.cue.specs.Output.{frames, apart}
 use Rattle.cue.specs.Compile.{packed, compiled}
 use Rattle.cue.specs.Play.{Played, isAccepted, replyLength, play}
 use Rattle.cue.proofs.Relations.{Mixed, Does, Holds}
@@ -182,7 +182,7 @@ held-stopped guard list i e =
 -- And so has every output that the checker of tighter packing accepts for it.
 pub held-stopped-tight : (guard list : List ℕ) (i : ℕ) → guardedList guard list ≡ Answer.refused 71 i → (proposal : List ℕ) (count : ℕ)
     → Tight.checked list proposal ≡ Tight.accepted count
-    → (packets : List (List ℕ)) × ((apart proposal ≡ parts packets) × SomeStopped guard packets)
+    → (packets : List (List ℕ)) × ((apart proposal ≡ frames packets) × SomeStopped guard packets)
 held-stopped-tight guard list i e proposal count a =
     let h = held-back guard list i e in
     let t = accepted-is list proposal count a in

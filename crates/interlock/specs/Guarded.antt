@@ -13,7 +13,7 @@ use Rattle.packet.specs.Rules.{Rule, first}
 use Rattle.packet.specs.Command.{fieldsAt, commandBytes, stepsAt, pointersAfter}
 use Rattle.packet.specs.Judge.{Verdict, refused, accepted}
 use Rattle.packet.specs.Verdict.{answerTo}
-use Rattle.card.specs.Run.{Outcome, outcome, runVerdict, checkedList, ListOutcome, asList}
+use Rattle.card.specs.Run.{Outcome, outcome, runVerdict, checkedLent, LentOutcome, asLent}
 use Rattle.spi.specs.Spi.{Burst, headerOf, firstWord, burstSteps, burstRefusals, burstOutcome}
 use Rattle.cue.specs.Records.{Listed, recordsOf}
 use Rattle.cue.specs.Records
@@ -49,16 +49,16 @@ guardedVerdict guard p packet v = soundFirst (soundness guard) (heldBack guard p
 
 -- The check, on pointers that are lent as a list.
 unfoldable pub guardedCheck : List ℕ → List ℕ → List ℕ → List ℕ → Verdict
-guardedCheck guard packet store pointers = guardedVerdict guard (pointersOf pointers) packet (checkedList packet store pointers)
+guardedCheck guard packet store pointers = guardedVerdict guard (pointersOf pointers) packet (checkedLent packet store pointers)
 
 -- The run: a refusal leaves all as it was.
 unfoldable pub guardedPacket : List ℕ → List ℕ → List ℕ → Pointers → List ℕ → Outcome
 guardedPacket guard packet store p reply = outcome (guardedVerdict guard p packet (runVerdict packet store p reply)) store p reply
 
 -- The same with pointers lent as a list; another count of them than eight is refused with 1.
-unfoldable pub guardedRun : List ℕ → List ℕ → List ℕ → List ℕ → List ℕ → ListOutcome
+unfoldable pub guardedRun : List ℕ → List ℕ → List ℕ → List ℕ → List ℕ → LentOutcome
 guardedRun guard packet store pointers reply =
-    cond (eqb (length pointers) 8) (asList (guardedPacket guard packet store (pointersOf pointers) reply))
+    cond (eqb (length pointers) 8) (asLent (guardedPacket guard packet store (pointersOf pointers) reply))
     (record {
       answer = answerTo (soundFirst (soundness guard) (refused 1 0));
       elements = 0;

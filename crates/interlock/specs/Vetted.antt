@@ -11,7 +11,7 @@ use Rattle.packet.specs.Step.{Step}
 use Rattle.packet.specs.Command.{limit}
 use Rattle.card.specs.Run.{badState}
 use Rattle.cue.specs.Records.{records, recordsOf}
-use Rattle.cue.specs.Output.{parts, apart}
+use Rattle.cue.specs.Output.{frames, apart}
 use Rattle.cue.specs.Compile.{packed}
 use Rattle.cue.specs.Play.{Played, isAccepted, replyLength}
 use Rattle.cue.specs.Demand3.{SameAsRecords}
@@ -55,7 +55,7 @@ SomeStopped guard (packet ∷ rest) = Stopped guard packet ⊎ SomeStopped guard
 pub record GuardedDemand3 (guard list room : List ℕ) (bytes count : ℕ) : Type 0 where
   pub xs : List Step
   pub list-records : recordsOf list ≡ records xs
-  pub packets : apart (take bytes room) ≡ parts (packed xs)
+  pub packets : apart (take bytes room) ≡ frames (packed xs)
   pub packet-count : count ≡ length (packed xs)
   pub passes : AllPass guard (packed xs)
   pub same : (store : List ℕ) (p : Pointers) (rooms : ℕ → List ℕ) → badState store p ≡ false
@@ -67,7 +67,7 @@ pub record GuardedTight (guard list proposal : List ℕ) (count : ℕ) : Type 0 
   pub xs : List Step
   pub list-records : recordsOf list ≡ records xs
   pub packets : List (List ℕ)
-  pub taken-apart : apart proposal ≡ parts packets
+  pub taken-apart : apart proposal ≡ frames packets
   pub packet-count : count ≡ length packets
   pub passes : AllPass guard packets
   pub same : (store : List ℕ) (p : Pointers) (rooms : ℕ → List ℕ) → badState store p ≡ false

@@ -4,7 +4,7 @@ mod walk;
 
 use card::check;
 use card::run;
-use card::run::RanList;
+use card::run::RanLent;
 use cue::CompileAnswer;
 use cue::plan;
 use lbp16::Refusal;
@@ -18,7 +18,7 @@ ghost use Prim.Native.Nat.{ℕ, _≤_};
 ghost use Rattle.lbp16.specs.Answer.{Answer};
 ghost use Rattle.packet.specs.Counts.{elementsMoved};
 ghost use Rattle.packet.specs.Verdict.{answerTo, verdictListed};
-ghost use Rattle.card.specs.Run.{checkedList, ranList, mostElements};
+ghost use Rattle.card.specs.Run.{checkedLent, ranLent, mostElements};
 ghost use Rattle.spi.specs.Spi.{burstLeft, mostInBurst};
 ghost use Rattle.interlock.specs.Guard.{soundness, protected};
 ghost use Rattle.interlock.specs.Guarded.{guardedCheck, guardedRun, promised, guardedBurst, guardedList};
@@ -33,9 +33,9 @@ pub fn guard(guard: &[u32]) -> Verdict
 
 // The check's refusal, or 71 at this place where it accepts.
 fn held_back(packet: &[u8], store: &[u8], pointers: &[u32], place: usize) -> Verdict
-    ensures { λ r. ⌜ verdictListed r ≡ insteadOf (answerTo (checkedList (now (packet .entry)) (now (store .entry)) (now (pointers .entry)))) place ⌝ }
+    ensures { λ r. ⌜ verdictListed r ≡ insteadOf (answerTo (checkedLent (now (packet .entry)) (now (store .entry)) (now (pointers .entry)))) place ⌝ }
 {
-    let answer = check::check_list(packet, store, pointers);
+    let answer = check::check_lent(packet, store, pointers);
     let Verdict::Accepted(_) = answer else {
         return answer;
     };
@@ -53,7 +53,7 @@ pub fn check(packet: &[u8], store: &[u8], pointers: &[u32], guard: &[u32]) -> Ve
     };
     let place = walk::protected_place(packet, pointers, guard);
     if place == packet.len() {
-        return check::check_list(packet, store, pointers);
+        return check::check_lent(packet, store, pointers);
     }
     held_back(packet, store, pointers, place)
 }
@@ -66,30 +66,30 @@ pub fn run(
     pointers: &mut [u32],
     reply: &mut [u8],
     guard: &[u32],
-) -> RanList
-    ensures ran { λ r. ⌜ ranList r (now (store .exit)) (now (pointers .exit)) (now (reply .exit))
+) -> RanLent
+    ensures ran { λ r. ⌜ ranLent r (now (store .exit)) (now (pointers .exit)) (now (reply .exit))
         ≡ guardedRun (now (guard .entry)) (now (packet .entry)) (now (store .entry)) (now (pointers .entry)) (now (reply .entry)) ⌝ }
     ensures summed { λ r. ⌜ r .elements ≡ elementsMoved (verdictListed (r .answer)) (now (packet .entry)) ⌝ }
     ensures bounded { λ r. ⌜ r .elements ≤ mostElements ⌝ }
 {
     let sound = ranges::soundness(guard);
     let Verdict::Accepted(_) = sound else {
-        return RanList {
+        return RanLent {
             answer: sound,
             elements: 0,
         };
     };
     let place = walk::protected_place(packet, pointers, guard);
     if place == packet.len() {
-        return run::run_list(packet, store, pointers, reply);
+        return run::run_lent(packet, store, pointers, reply);
     }
     if reply.len() != command::LIMIT {
-        return RanList {
+        return RanLent {
             answer: judge::refused(1, 0),
             elements: 0,
         };
     }
-    RanList {
+    RanLent {
         answer: held_back(packet, store, pointers, place),
         elements: 0,
     }

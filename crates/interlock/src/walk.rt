@@ -106,7 +106,7 @@ pub(crate) fn protected_place(packet: &[u8], pointers: &[u32], guard: &[u32]) ->
         return packet.len();
     }
     let mut rest = packet;
-    let mut p = Pointers::from_list(pointers);
+    let mut p = Pointers::from_lent(pointers);
     while 0 < rest.len() {
         let f = command::fields_at(rest);
         let used = address(p, f, rest);

@@ -11,7 +11,7 @@ use borrow.Author.Tests.{ltb-false, le-ltb}
 use Rattle.lbp16.proofs.BoolLaws.{or-false}
 use Rattle.lbp16.specs.Space.{Space, registers, eeprom, status, information, absent, areaRow, isAbsent}
 use Rattle.lbp16.specs.Pointer.{advanced, ofSpace, withSpace, pointerOf, withPointer, over, someOver, aboveSize}
-use Rattle.lbp16.specs.Pointer.{spacesAt, pointersOf, spaceList, pointerList, spaceSlot, slotOf}
+use Rattle.lbp16.specs.Pointer.{spacesAt, pointersOf, lentSpaces, lentPointers, spaceSlot, slotOf}
 use Rattle.lbp16.specs.declared.pointer.SpacePointers.{SpacePointers}
 use Rattle.lbp16.specs.declared.pointer.Pointers.{Pointers}
 
@@ -103,26 +103,26 @@ pointer-le p e false s = space-le (p .plain) false (or-false _ (someOver (p .inf
 pointer-le p e true s = space-le (p .info) true (or-false (someOver (p .plain) false) _ e .1) s
 
 -- Eight numbers are the list of the pointers that they are, and pointers those of their list.
-pub list-back : (ps : List ℕ) → length ps ≡ 8 → pointerList (pointersOf ps) ≡ ps
-unfolding pointerList spaceList pointersOf spacesAt
-list-back (a ∷ b ∷ c ∷ d ∷ e ∷ f ∷ g ∷ h ∷ []) l = refl
-list-back [] l = absurd (omega arith)
-list-back (a ∷ []) l = absurd (omega arith)
-list-back (a ∷ b ∷ []) l = absurd (omega arith)
-list-back (a ∷ b ∷ c ∷ []) l = absurd (omega arith)
-list-back (a ∷ b ∷ c ∷ d ∷ []) l = absurd (omega arith)
-list-back (a ∷ b ∷ c ∷ d ∷ e ∷ []) l = absurd (omega arith)
-list-back (a ∷ b ∷ c ∷ d ∷ e ∷ f ∷ []) l = absurd (omega arith)
-list-back (a ∷ b ∷ c ∷ d ∷ e ∷ f ∷ g ∷ []) l = absurd (omega arith)
-list-back (a ∷ b ∷ c ∷ d ∷ e ∷ f ∷ g ∷ h ∷ i ∷ ps) l = absurd (omega arith)
+pub lent-back : (ps : List ℕ) → length ps ≡ 8 → lentPointers (pointersOf ps) ≡ ps
+unfolding lentPointers lentSpaces pointersOf spacesAt
+lent-back (a ∷ b ∷ c ∷ d ∷ e ∷ f ∷ g ∷ h ∷ []) l = refl
+lent-back [] l = absurd (omega arith)
+lent-back (a ∷ []) l = absurd (omega arith)
+lent-back (a ∷ b ∷ []) l = absurd (omega arith)
+lent-back (a ∷ b ∷ c ∷ []) l = absurd (omega arith)
+lent-back (a ∷ b ∷ c ∷ d ∷ []) l = absurd (omega arith)
+lent-back (a ∷ b ∷ c ∷ d ∷ e ∷ []) l = absurd (omega arith)
+lent-back (a ∷ b ∷ c ∷ d ∷ e ∷ f ∷ []) l = absurd (omega arith)
+lent-back (a ∷ b ∷ c ∷ d ∷ e ∷ f ∷ g ∷ []) l = absurd (omega arith)
+lent-back (a ∷ b ∷ c ∷ d ∷ e ∷ f ∷ g ∷ h ∷ i ∷ ps) l = absurd (omega arith)
 
-pub back-list : (p : Pointers) → pointersOf (pointerList p) ≡ p
-unfolding pointerList spaceList pointersOf spacesAt
-back-list p = refl
+pub back-lent : (p : Pointers) → pointersOf (lentPointers p) ≡ p
+unfolding lentPointers lentSpaces pointersOf spacesAt
+back-lent p = refl
 
-pub list-length : (p : Pointers) → length (pointerList p) ≡ 8
-unfolding pointerList spaceList
-list-length p = refl
+pub lent-length : (p : Pointers) → length (lentPointers p) ≡ 8
+unfolding lentPointers lentSpaces
+lent-length p = refl
 
 -- What stands at a pointer's slot is that pointer;
 pub slot-read : (ps : List ℕ) (i : Bool) (s : Space) → cond (ltb (slotOf i s) 8) (getD ps (slotOf i s) 0) 0 ≡ pointerOf (pointersOf ps) i s
@@ -154,12 +154,12 @@ slot-below i absent e = let z : _≡_ {A = ℕ} 0 1 = cc in absurd (omega arith)
 -- and a number put there sets that pointer alone.
 pub slot-written : (ps : List ℕ) → length ps ≡ 8 → (i : Bool) (s : Space) (n : ℕ) → isAbsent s ≡ false
     → pointersOf (set ps (slotOf i s) n) ≡ withPointer (pointersOf ps) i s n
-unfolding withPointer pointersOf withSpace spacesAt pointerList spaceList slotOf spaceSlot isAbsent
+unfolding withPointer pointersOf withSpace spacesAt lentPointers lentSpaces slotOf spaceSlot isAbsent
 slot-written ps l i s n e =
-    ap (λ (qs : List ℕ). pointersOf (set qs (slotOf i s) n)) (sym (list-back ps l)) ∙ go (pointersOf ps) i s e
+    ap (λ (qs : List ℕ). pointersOf (set qs (slotOf i s) n)) (sym (lent-back ps l)) ∙ go (pointersOf ps) i s e
   where
     go : (p : Pointers) (i : Bool) (s : Space) → isAbsent s ≡ false
-        → pointersOf (set (pointerList p) (slotOf i s) n) ≡ withPointer p i s n
+        → pointersOf (set (lentPointers p) (slotOf i s) n) ≡ withPointer p i s n
     go p false registers e = refl
     go p false eeprom e = refl
     go p false status e = refl

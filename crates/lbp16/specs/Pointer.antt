@@ -73,11 +73,11 @@ spacesAt ps i =
 unfoldable pub pointersOf : List ℕ → Pointers
 pointersOf ps = record { plain = spacesAt ps 0; info = spacesAt ps 4 }
 
-unfoldable pub spaceList : SpacePointers → List ℕ
-spaceList p = p .registers .at ∷ p .eeprom .at ∷ p .status .at ∷ p .information .at ∷ []
+unfoldable pub lentSpaces : SpacePointers → List ℕ
+lentSpaces p = p .registers .at ∷ p .eeprom .at ∷ p .status .at ∷ p .information .at ∷ []
 
-unfoldable pub pointerList : Pointers → List ℕ
-pointerList p = spaceList (p .plain) ++ spaceList (p .info)
+unfoldable pub lentPointers : Pointers → List ℕ
+lentPointers p = lentSpaces (p .plain) ++ lentSpaces (p .info)
 
 -- where a pointer stands among the eight; that of a space that the card lacks is none of them
 unfoldable pub spaceSlot : Space → ℕ

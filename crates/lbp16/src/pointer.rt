@@ -7,7 +7,7 @@ ghost use lib.Dec.{ltb};
 ghost use lib.ListN.{getD};
 ghost use Rattle.lbp16.specs.Space.{spaceOf};
 ghost use Rattle.lbp16.specs.Pointer.{advanced, freshSpaces, fresh, ofSpace, withSpace, pointerOf, withPointer, aboveSize};
-ghost use Rattle.lbp16.specs.Pointer.{spacesAt, pointersOf, pointerList, spaceSlot, slotOf};
+ghost use Rattle.lbp16.specs.Pointer.{spacesAt, pointersOf, lentPointers, spaceSlot, slotOf};
 
 // Wider than the sixteen bits of an address, since it may stand past the end of a space.
 pub struct Pointer {
@@ -55,15 +55,15 @@ pub struct SpacePointers {
 
 impl SpacePointers {
     // Those of spaces 0, 2, 6 and 7, from `at` on.
-    fn from_list(list: &[u32], at: usize) -> Self
+    fn from_lent(lent: &[u32], at: usize) -> Self
         requires { ⌜ at ≤ 4 ⌝ }
-        ensures { λ r. ⌜ r ≡ spacesAt (now (list .entry)) at ⌝ }
+        ensures { λ r. ⌜ r ≡ spacesAt (now (lent .entry)) at ⌝ }
     {
         SpacePointers {
-            registers: Pointer::new(at_slot(list, at)),
-            eeprom: Pointer::new(at_slot(list, at + 1)),
-            status: Pointer::new(at_slot(list, at + 2)),
-            information: Pointer::new(at_slot(list, at + 3)),
+            registers: Pointer::new(at_slot(lent, at)),
+            eeprom: Pointer::new(at_slot(lent, at + 1)),
+            status: Pointer::new(at_slot(lent, at + 2)),
+            information: Pointer::new(at_slot(lent, at + 3)),
         }
     }
 
@@ -125,17 +125,17 @@ impl Pointers {
     }
 
     // Eight pointers that stand one after the other; one that is missing counts as 0.
-    pub fn from_list(list: &[u32]) -> Self
-        ensures { λ r. ⌜ r ≡ pointersOf (now (list .entry)) ⌝ }
+    pub fn from_lent(lent: &[u32]) -> Self
+        ensures { λ r. ⌜ r ≡ pointersOf (now (lent .entry)) ⌝ }
     {
         Pointers {
-            plain: SpacePointers::from_list(list, 0),
-            info: SpacePointers::from_list(list, 4),
+            plain: SpacePointers::from_lent(lent, 0),
+            info: SpacePointers::from_lent(lent, 4),
         }
     }
 
     pub fn listed(self) -> [u32; 8]
-        ensures { λ r. ⌜ r ≡ pointerList self ⌝ }
+        ensures { λ r. ⌜ r ≡ lentPointers self ⌝ }
     {
         let plain = self.plain;
         let info = self.info;
@@ -213,15 +213,15 @@ pub fn slot_of(info: bool, space: u8) -> usize
 }
 
 // The number at a slot; 0 where the list ends before it.
-pub fn at_slot(list: &[u32], slot: usize) -> u32
-    ensures { λ r. ⌜ r ≡ getD (now (list .entry)) slot 0 ⌝ }
+pub fn at_slot(lent: &[u32], slot: usize) -> u32
+    ensures { λ r. ⌜ r ≡ getD (now (lent .entry)) slot 0 ⌝ }
 {
-    if slot < list.len() { list[slot] } else { 0 }
+    if slot < lent.len() { lent[slot] } else { 0 }
 }
 
 // The pointer at such a slot; 0 at that of a space that the card lacks.
-pub fn pointer_in(list: &[u32], slot: usize) -> u32
-    ensures { λ r. ⌜ r ≡ cond (ltb slot 8) (getD (now (list .entry)) slot 0) 0 ⌝ }
+pub fn pointer_in(lent: &[u32], slot: usize) -> u32
+    ensures { λ r. ⌜ r ≡ cond (ltb slot 8) (getD (now (lent .entry)) slot 0) 0 ⌝ }
 {
-    if slot < 8 { at_slot(list, slot) } else { 0 }
+    if slot < 8 { at_slot(lent, slot) } else { 0 }
 }

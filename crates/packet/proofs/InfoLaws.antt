@@ -12,7 +12,7 @@ use Rattle.lbp16.specs.declared.word.Fields.{Fields}
 use Rattle.lbp16.specs.declared.pointer.Pointers.{Pointers}
 use Rattle.packet.specs.Bytes.{bytesOf, pairsOf}
 use Rattle.packet.specs.Step.{Kind, read, write, infoRead, Step, isInfo, carried, source, stored, after, seen}
-use Rattle.packet.specs.Command.{kindOf, rowOf, payload, elements, areaBytes, handed, stepsAt, pointersAfter}
+use Rattle.packet.specs.Command.{kindOf, rowOf, payload, elements, bytesOfArea, handed, stepsAt, pointersAfter}
 use Rattle.packet.specs.Judge.{Carried, accepted, begin, carry, judge}
 use Rattle.packet.proofs.StoreLaws.{AllWhole, whole-append, source-end}
 use Rattle.packet.proofs.RefusalLaws.{all-passed, reaches-keeps}
@@ -44,8 +44,8 @@ unfolding handed
 area-alone p q f rest other e h = rw (e, h)
 
 -- An area has 16 bytes,
-pub area-length : (s : Space) (n : ℕ) → length (areaBytes s n) ≡ infoRow .bytes
-unfolding areaBytes areaWords pairsOf bytesOf infoRow
+pub area-length : (s : Space) (n : ℕ) → length (bytesOfArea s n) ≡ infoRow .bytes
+unfolding bytesOfArea areaWords pairsOf bytesOf infoRow
 area-length s n = go (isAbsent s) _ _ _ _
   where
     go : (b : Bool) (cookie sizes ranges pointer : ℕ)

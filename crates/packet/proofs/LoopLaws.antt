@@ -9,8 +9,8 @@ use lib.ListN.{length, take, drop, set, length-take, length-drop, length-set}
 use Rattle.lbp16.specs.Answer.{Answer}
 use Rattle.lbp16.specs.Space.{spaceOf}
 use Rattle.lbp16.specs.Word.{bit}
-use Rattle.lbp16.specs.Pointer.{pointersOf, pointerList}
-use Rattle.lbp16.proofs.PointerLaws.{list-length, back-list, slot-below, slot-written}
+use Rattle.lbp16.specs.Pointer.{pointersOf, lentPointers}
+use Rattle.lbp16.proofs.PointerLaws.{lent-length, back-lent, slot-below, slot-written}
 use lib.Dec.{eqb}
 use borrow.Author.Tests.{eq-eqb}
 use Rattle.lbp16.specs.declared.pointer.Pointers.{Pointers}
@@ -143,25 +143,25 @@ at-step {rest = rest} s some k z f =
     record { some = omega arith; whole = omega arith; again = rw (f, tail-whole) (at-next rest s some z) }
 
 -- The loop as the code has it: the pointers as eight numbers, and the place told by what is left.
-pub record Checking (list packet pointers : List ℕ) (open? : Bool) (reply : ℕ) (rest : List ℕ) : Type 0 where
+pub record Checking (lent packet pointers : List ℕ) (open? : Bool) (reply : ℕ) (rest : List ℕ) : Type 0 where
   pub carried : Carried
   pub eight : length pointers ≡ 8
   pub within : reply ≤ limit
   pub left : length rest ≤ length packet
-  pub here : At (pointersOf list) packet carried (record { pointers = pointersOf pointers; unlocked = open?; reply = reply })
+  pub here : At (pointersOf lent) packet carried (record { pointers = pointersOf pointers; unlocked = open?; reply = reply })
       (length packet - length rest)
       rest
 
-pub checking-start : (list packet : List ℕ) → length list ≡ 8 → Checking list packet list false 0 packet
+pub checking-start : (lent packet : List ℕ) → length lent ≡ 8 → Checking lent packet lent false 0 packet
 unfolding start
-checking-start list packet e =
+checking-start lent packet e =
     let z : length packet - length packet ≡ 0 = omega arith in
     record {
-      carried = begin (pointersOf list);
+      carried = begin (pointersOf lent);
       eight = e;
       within = omega arith;
       left = le-refl _;
-      here = rw z (at-begin (pointersOf list) packet);
+      here = rw z (at-begin (pointersOf lent) packet);
     }
 
 -- what is found, as a refusal
@@ -171,17 +171,17 @@ which-number n at zero place k e = let z : _≡_ {A = ℕ} 0 1 = cc in absurd (o
 which-number n at (suc m) place k e = (cc, λ z. omega arith, cc)
 
 -- What a turn leaves.
-pub record Checked (list packet pointers : List ℕ) (open? : Bool) (reply : ℕ) (rest : List ℕ) (r : Reach) : Type 0 where
+pub record Checked (lent packet pointers : List ℕ) (open? : Bool) (reply : ℕ) (rest : List ℕ) (r : Reach) : Type 0 where
   pub some : 2 ≤ r .bytes
   pub whole : r .bytes ≤ length rest
   pub slot : r .slot < 8
   pub answers : reply + r .answered ≤ limit
-  pub again : Checking list packet (set pointers (r .slot) (r .next)) open? (reply + r .answered)
+  pub again : Checking lent packet (set pointers (r .slot) (r .next)) open? (reply + r .answered)
       (take (length rest - r .bytes) (drop (r .bytes) rest))
 
-module _ {list packet pointers : List ℕ} {open? : Bool} {reply : ℕ} {rest : List ℕ}
-    (s : Checking list packet pointers open? reply rest) where
-  pub checking-end : length rest ≡ 0 → Answer.accepted (reply ∷ []) ≡ answerTo (judge (pointersOf list) packet)
+module _ {lent packet pointers : List ℕ} {open? : Bool} {reply : ℕ} {rest : List ℕ}
+    (s : Checking lent packet pointers open? reply rest) where
+  pub checking-end : length rest ≡ 0 → Answer.accepted (reply ∷ []) ≡ answerTo (judge (pointersOf lent) packet)
   checking-end e = verdict-end rest (s .here) e
 
   module _ (some : 0 < length rest) (pass : Passed (pointersOf pointers) open? reply (fieldsAt rest) rest) (r : Reach)
@@ -204,7 +204,7 @@ module _ {list packet pointers : List ℕ} {open? : Bool} {reply : ℕ} {rest : 
         h
         (ap (λ (t : Reach). t .answered) e))
 
-    next-checked : (o : Bool) → o ≡ unlockedBy open? (fieldsAt rest) (r .used) rest → Checked list packet pointers o reply rest r
+    next-checked : (o : Bool) → o ≡ unlockedBy open? (fieldsAt rest) (r .used) rest → Checked lent packet pointers o reply rest r
     unfolding reachFrom
     next-checked o h =
         let k : r .bytes ≡ commandBytes (fieldsAt rest) = ap (λ (t : Reach). t .bytes) e in
@@ -246,7 +246,7 @@ module _ {list packet pointers : List ℕ} {open? : Bool} {reply : ℕ} {rest : 
 
     -- A refusal is the packet's, at the place that is found.
     pub checking-refused : (n : ℕ) → j .found .which ≡ Refused n
-        → Answer.refused n (j .found .place) ≡ answerTo (judge (pointersOf list) packet)
+        → Answer.refused n (j .found .place) ≡ answerTo (judge (pointersOf lent) packet)
     unfolding whichListed number
     checking-refused n w =
         let e = which-number n _ _ _ _ (sym (ap (λ (x : Which). whichListed x (j .found .place)) w) ∙ which-found) in
@@ -262,24 +262,24 @@ module _ {list packet pointers : List ℕ} {open? : Bool} {reply : ℕ} {rest : 
       checking-passed = rw fields-found (passed _ _ _ _ _ (bit-found .0))
 
       pub checking-next : (o : Bool) → o ≡ unlockedBy open? (j .found .fields) (j .reach .used) rest
-          → Checked list packet pointers o reply rest (j .reach)
+          → Checked lent packet pointers o reply rest (j .reach)
       checking-next o h =
           let pass = rw fields-found at checking-passed in
           next-checked some pass (j .reach) (q .reach (passes _ _ _ _ _ pass)) o (rw fields-found at h)
 
       -- A plain command to space 0 does not turn the unlock.
-      pub checking-registers : ForRegisters (fieldsAt rest) → Checked list packet pointers open? reply rest (j .reach)
+      pub checking-registers : ForRegisters (fieldsAt rest) → Checked lent packet pointers open? reply rest (j .reach)
       checking-registers r =
           checking-next open? (sym (unlock-kept _ _ _ _ _ _ _ (not-status _ (rw (fields-found, r .space) (and-false (fieldsAt rest .write))))))
 
     -- Nor does a read.
     pub checking-read : whichListed (j .found .which) (j .found .place) ≡ Answer.accepted (0 ∷ []) → (o : Bool) → o ≡ open?
-        → Checked list packet pointers o reply rest (j .reach)
+        → Checked lent packet pointers o reply rest (j .reach)
     checking-read is o e =
         let w : j .found .fields .write ≡ false = bit-clear _ (bit-found 0 is .1) in
         checking-next 0 is o (e ∙ sym (unlock-kept _ _ _ _ _ _ _ (not-status _ (rw w refl))))
 
 -- pointers by value, judged as their list
-pub judge-listed : (p : Pointers) (packet list : List ℕ) (a : Answer) → list ≡ pointerList p
-    → a ≡ answerTo (cond (eqb (length list) 8) (judge (pointersOf list) packet) (refused 1 0)) → a ≡ answerTo (judge p packet)
-judge-listed p packet list a e h = h ∙ rw (e, eq-eqb _ _ (list-length p), back-list p) refl
+pub judge-listed : (p : Pointers) (packet lent : List ℕ) (a : Answer) → lent ≡ lentPointers p
+    → a ≡ answerTo (cond (eqb (length lent) 8) (judge (pointersOf lent) packet) (refused 1 0)) → a ≡ answerTo (judge p packet)
+judge-listed p packet lent a e h = h ∙ rw (e, eq-eqb _ _ (lent-length p), back-lent p) refl

@@ -7,14 +7,14 @@ use native.Mathlib.Omega.{arith}
 use Rattle.lbp16.proofs.SpaceLaws.{element-le, area-element-le}
 use Rattle.lbp16.specs.Space.{Space, row, areaRow}
 use Rattle.packet.specs.Step.{Kind, read, write, infoRead, Step, isInfo, isWrite, rowBy, carried, answered}
-use Rattle.packet.specs.Step.{replyBytes, turned, unlocked}
+use Rattle.packet.specs.Step.{replyBytes, unlockedAfter, unlocked}
 use Rattle.packet.specs.Rules.{anyStep}
 use Rattle.packet.specs.Command.{pickKind}
 
 pub unlocked-append : (open? : Bool) (ss ts : List Step) → unlocked open? (ss ++ ts) ≡ unlocked (unlocked open? ss) ts
 unfolding unlocked
 unlocked-append open? [] ts = refl
-unlocked-append open? (s ∷ ss) ts = unlocked-append (turned open? s) ss ts
+unlocked-append open? (s ∷ ss) ts = unlocked-append (unlockedAfter open? s) ss ts
 
 pub reply-append : (ss ts : List Step) → replyBytes (ss ++ ts) ≡ replyBytes ss + replyBytes ts
 unfolding replyBytes

@@ -10,10 +10,10 @@ use lib.Seq.{drop-drop}
 use borrow.Author.Tests.{eqb-true, ne-eqb}
 use Rattle.lbp16.specs.Space.{Space, status, row, spaceOf}
 use Rattle.lbp16.specs.declared.word.Fields.{Fields}
-use Rattle.packet.specs.Step.{Kind, read, write, infoRead, isInfo, carried, isWrite, isStatus, namesUnlock, turned, unlocked}
+use Rattle.packet.specs.Step.{Kind, read, write, infoRead, isInfo, carried, isWrite, isStatus, namesUnlock, unlockedAfter, unlocked}
 use Rattle.packet.specs.Inside.{statusWrite, unlockedBy}
 use Rattle.packet.specs.Bytes.{number}
-use Rattle.packet.specs.Command.{payload, elements, kindOf, headerBytes, addressUsed, stride, areaBytes, handed, stepsAt}
+use Rattle.packet.specs.Command.{payload, elements, kindOf, headerBytes, addressUsed, stride, bytesOfArea, handed, stepsAt}
 use Rattle.lbp16.specs.Pointer.{pointerOf}
 use Rattle.lbp16.specs.declared.pointer.Pointers.{Pointers}
 use Rattle.packet.proofs.SliceLaws.{tail-whole}
@@ -24,14 +24,14 @@ use Rattle.lbp16.proofs.CaseLaws.{space-cases}
 -- one element of a write to space 6
 pub unlock-step : (o : Bool) (n a d : ℕ) (bs : List ℕ)
     → unlocked o (elements write status (suc n) a d bs)
-    ≡ unlocked (turned o (statusWrite a (take 2 bs))) (elements write status n (a + d) d (drop 2 bs))
+    ≡ unlocked (unlockedAfter o (statusWrite a (take 2 bs))) (elements write status n (a + d) d (drop 2 bs))
 unfolding unlocked elements payload carried row
 unlock-step o n a d bs = refl
 
 -- the same, i elements after the start
 pub unlock-again : (o : Bool) (n i a d : ℕ) (bs : List ℕ) → i < n
     → unlocked o (elements write status (n - i) a d (drop (i * 2) bs))
-    ≡ unlocked (turned o (statusWrite a (take 2 (drop (i * 2) bs))))
+    ≡ unlocked (unlockedAfter o (statusWrite a (take 2 (drop (i * 2) bs))))
     (elements write status (n - (i + 1)) (a + d) d (drop ((i + 1) * 2) bs))
 unlock-again o n i a d bs h =
     let e : n - i ≡ suc (n - (i + 1)) = omega arith in
@@ -41,7 +41,7 @@ unlock-again o n i a d bs h =
 -- No other command turns it.
 pub unlock-kept : (o : Bool) (k : Kind) (s : Space) (n a d : ℕ) (bs : List ℕ) → (isWrite k && isStatus s) ≡ false
     → unlocked o (elements k s n a d bs) ≡ o
-unfolding unlocked elements turned namesUnlock
+unfolding unlocked elements unlockedAfter namesUnlock
 unlock-kept o k s zero a d bs e = refl
 unlock-kept o k s (suc n) a d bs e =
     ap (λ (t : Bool). unlocked t (elements k s n (a + d) d (drop (carried k s) bs))) (go (isWrite k) (isStatus s) (eqb a 0x1A) e)
@@ -86,7 +86,7 @@ unlock-handed o p f rest = go (kindOf f)
     go : (k : Kind)
         → unlocked o
         (elements k (spaceOf (f .space)) (f .count) (addressUsed p f rest) (stride f)
-        (cond (isInfo k) (areaBytes (spaceOf (f .space)) (pointerOf p false (spaceOf (f .space)))) (drop (headerBytes f) rest)))
+        (cond (isInfo k) (bytesOfArea (spaceOf (f .space)) (pointerOf p false (spaceOf (f .space)))) (drop (headerBytes f) rest)))
         ≡ unlocked o
         (elements k (spaceOf (f .space)) (f .count) (addressUsed p f rest) (stride f) (drop (headerBytes f) rest))
     go read = refl

@@ -70,15 +70,15 @@ elements k s (suc n) a d bytes =
     ∷ elements k s n (a + d) d (drop (carried k s) bytes)
 
 -- a space's info area while its pointer stands at n
-unfoldable pub areaBytes : Space → ℕ → List ℕ
-areaBytes s n = pairsOf (areaWords s n)
+unfoldable pub bytesOfArea : Space → ℕ → List ℕ
+bytesOfArea s n = pairsOf (areaWords s n)
 
 -- What the elements are handed: an info read the area with the pointer as it stands before the command, a plain command the
 -- bytes that follow its header.
 unfoldable pub handed : Pointers → Fields → List ℕ → List ℕ
 handed p f rest =
     let s = spaceOf (f .space) in
-    cond (isInfo (kindOf f)) (areaBytes s (pointerOf p false s)) (drop (headerBytes f) rest)
+    cond (isInfo (kindOf f)) (bytesOfArea s (pointerOf p false s)) (drop (headerBytes f) rest)
 
 unfoldable pub stepsAt : Pointers → Fields → List ℕ → List Step
 stepsAt p f rest =

@@ -94,10 +94,10 @@ isWrite infoRead = false
 unfoldable pub namesUnlock : Step → Bool
 namesUnlock s = eqb (s .address) 0x1A && isStatus (s .space)
 
-unfoldable pub turned : Bool → Step → Bool
-turned open? s = cond (isWrite (s .kind) && namesUnlock s) (eqb (number (s .bytes)) 0x5A02) open?
+unfoldable pub unlockedAfter : Bool → Step → Bool
+unlockedAfter open? s = cond (isWrite (s .kind) && namesUnlock s) (eqb (number (s .bytes)) 0x5A02) open?
 
 -- whether the unlock is open after the steps
 unfoldable pub unlocked : Bool → List Step → Bool
 unlocked open? [] = open?
-unlocked open? (s ∷ ss) = unlocked (turned open? s) ss
+unlocked open? (s ∷ ss) = unlocked (unlockedAfter open? s) ss

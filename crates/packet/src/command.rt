@@ -15,7 +15,7 @@ ghost use lib.Dec.{eqb};
 ghost use Rattle.lbp16.specs.Space.{spaceOf, status};
 ghost use Rattle.lbp16.specs.Word.{fieldsOf};
 ghost use Rattle.lbp16.specs.Pointer.{advanced, withPointer, pointersOf, slotOf};
-ghost use Rattle.packet.specs.Step.{Kind, isInfo, carried, turned, unlocked};
+ghost use Rattle.packet.specs.Step.{Kind, isInfo, carried, unlockedAfter, unlocked};
 ghost use Rattle.packet.specs.Inside.{statusWrite, unlockedBy};
 ghost use Rattle.packet.specs.Command.{fieldsAt, kindOf, rowOf, headerBytes, commandBytes, addressBy, addressUsed, stride, elements};
 ghost use Rattle.packet.specs.Reach.{reachFrom, reachAt};
@@ -142,8 +142,8 @@ pub fn stride_of(f: Fields) -> u32
 }
 
 // Whether the unlock is open after one element, at `at` in `data`, is written to an address of space 6.
-fn turned_by(open: bool, address: usize, data: &[u8], at: usize) -> bool
-    ensures { λ r. ⌜ r ≡ turned «open» (statusWrite address (take 2 (drop at (now («data» .entry))))) ⌝ }
+fn unlock_by_write(open: bool, address: usize, data: &[u8], at: usize) -> bool
+    ensures { λ r. ⌜ r ≡ unlockedAfter «open» (statusWrite address (take 2 (drop at (now («data» .entry))))) ⌝ }
 {
     if address == 0x1A {
         bytes::pair_at(data, at) == 0x5A02
@@ -163,7 +163,7 @@ fn unlock_after(open: bool, count: u8, used: u32, stride: u32, data: &[u8]) -> b
     let mut address = used as usize;
     let mut i: usize = 0;
     while i < n {
-        now_open = turned_by(now_open, address, data, i * 2);
+        now_open = unlock_by_write(now_open, address, data, i * 2);
         address += step;
         i += 1;
     }

@@ -4,7 +4,7 @@ ghost use mathlib.Core.List.{[], _∷_};
 ghost use Prim.Native.Nat.{_%_};
 ghost use Rattle.lbp16.specs.Space.{spaceOf};
 ghost use Rattle.packet.specs.Bytes.{pairsOf};
-ghost use Rattle.packet.specs.Command.{areaBytes};
+ghost use Rattle.packet.specs.Command.{bytesOfArea};
 
 // Eight numbers, low bytes first: the four given, the pointer's low sixteen bits, and no name.
 fn area(cookie: u16, sizes: u16, ranges: u16, pointer: u32) -> [u8; 16]
@@ -33,7 +33,7 @@ fn area(cookie: u16, sizes: u16, ranges: u16, pointer: u32) -> [u8; 16]
 
 // The area of a space whose pointer stands at `pointer`: cookie, MEMSIZES, MEMRANGES, pointer and name; zeros of an absent one.
 pub fn area_bytes(space: u8, pointer: u32) -> [u8; 16]
-    ensures { λ r. ⌜ r ≡ areaBytes (spaceOf space) pointer ⌝ }
+    ensures { λ r. ⌜ r ≡ bytesOfArea (spaceOf space) pointer ⌝ }
 {
     match space {
         0 => area(0x5A00, 0x8104, 16, pointer),

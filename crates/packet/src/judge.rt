@@ -19,19 +19,19 @@ pub enum Verdict {
     Refused(Refusal),
 }
 
-fn copied(list: &[u32]) -> [u32; 8]
-    requires { ⌜ length (now list) ≡ 8 ⌝ }
-    ensures { λ r. ⌜ r ≡ now (list .entry) ⌝ }
+fn copied(lent: &[u32]) -> [u32; 8]
+    requires { ⌜ length (now lent) ≡ 8 ⌝ }
+    ensures { λ r. ⌜ r ≡ now (lent .entry) ⌝ }
 {
     [
-        list[0],
-        list[1],
-        list[2],
-        list[3],
-        list[4],
-        list[5],
-        list[6],
-        list[7],
+        lent[0],
+        lent[1],
+        lent[2],
+        lent[3],
+        lent[4],
+        lent[5],
+        lent[6],
+        lent[7],
     ]
 }
 
@@ -48,14 +48,14 @@ pub fn refused(number: u32, place: usize) -> Verdict
 
 // The reply length, or the refusal of the earliest command that is refused, on pointers that are lent as a list. Another count of
 // them than eight is refused with 1.
-pub fn judge_list(packet: &[u8], list: &[u32]) -> Verdict
+pub fn judge_lent(packet: &[u8], lent: &[u32]) -> Verdict
     ensures { λ r. ⌜ verdictListed r
-        ≡ answerTo (cond (eqb (length (now (list .entry))) 8) (judge (pointersOf (now (list .entry))) (now (packet .entry))) (refused 1 0)) ⌝ }
+        ≡ answerTo (cond (eqb (length (now (lent .entry))) 8) (judge (pointersOf (now (lent .entry))) (now (packet .entry))) (refused 1 0)) ⌝ }
 {
-    if list.len() != 8 {
+    if lent.len() != 8 {
         return refused(1, 0);
     }
-    let mut pointers = copied(list);
+    let mut pointers = copied(lent);
     let mut unlocked = false;
     let mut reply: usize = 0;
     let mut rest = packet;
@@ -99,6 +99,6 @@ pub fn judge_list(packet: &[u8], list: &[u32]) -> Verdict
 pub fn judge(packet: &[u8], p: Pointers) -> Verdict
     ensures { λ r. ⌜ verdictListed r ≡ answerTo (judge p (now (packet .entry))) ⌝ }
 {
-    let list = p.listed();
-    judge_list(packet, &list)
+    let lent = p.listed();
+    judge_lent(packet, &lent)
 }

@@ -52,18 +52,18 @@ module _ (mask : ℕ) (byte : mask < 256) where
   pub names-none : none (named mask) ≡ eqb mask 0
   names-none = beq-true _ _ (all-hold _ 256 every-none mask byte)
 
--- a mask turned over names a channel where the mask does not
-turned : ℕ → ℕ → Bool
-turned channel mask = Bool·beq (names (255 - mask) channel) (not (names mask channel))
+-- a mask's complement names a channel where the mask does not
+flipped : ℕ → ℕ → Bool
+flipped channel mask = Bool·beq (names (255 - mask) channel) (not (names mask channel))
 
-every-turned : all (λ c. all (turned c) 256) 8 ≡ true
-unfolding all turned names
-every-turned = refl
+every-flipped : all (λ c. all (flipped c) 256) 8 ≡ true
+unfolding all flipped names
+every-flipped = refl
 
 names-not : (mask channel : ℕ) → mask < 256 → channel < 8 → names (255 - mask) channel ≡ not (names mask channel)
-unfolding turned
+unfolding flipped
 names-not mask channel byte h =
-    beq-true _ _ (all-hold (turned channel) 256 (all-hold (λ c. all (turned c) 256) 8 every-turned channel h) mask byte)
+    beq-true _ _ (all-hold (flipped channel) 256 (all-hold (λ c. all (flipped c) 256) 8 every-flipped channel h) mask byte)
 
 -- two masks both name a channel where their common bits do
 bit-and : (x y : ℕ) → x < 2 → y < 2 → eqb (bitAnd x y) 1 ≡ eqb x 1 && eqb y 1

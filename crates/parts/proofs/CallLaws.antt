@@ -9,9 +9,9 @@ use lib.ListN.{length, take, drop, getD, length-append, length-take, length-drop
 use lib.Seq.{take-all, drop-at, length-take-le}
 use borrow.Author.Tests.{lt-ltb, le-ltb, eq-eqb, ne-eqb, ltb-false, eqb-false}
 use Rattle.lbp16.specs.Answer.{refused}
-use Rattle.cue.specs.Guarded.{anyOf}
+use Rattle.cue.specs.Untrusted.{anyOf}
 use Rattle.cue.specs.declared.packer.Packer.{Packer}
-use Rattle.cue.proofs.GuardedLaws.{none-of}
+use Rattle.cue.proofs.UntrustedLaws.{none-of}
 use Rattle.parts.specs.Taking.{Stopped, called, partTaken, answerBy, answered}
 use Rattle.parts.specs.State.{Held, heldPacking, unopened, pairAt, packerAt, standingOf, stateOf, badNumbers, badState, bytesOfState}
 use Rattle.parts.specs.Parts.{PartCall, untouched, leaves, partOf, partLeft}

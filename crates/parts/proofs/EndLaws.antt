@@ -9,7 +9,7 @@ use Rattle.packet.specs.Step.{Step}
 use Rattle.cue.specs.Records.{records, recordsOf}
 use Rattle.cue.specs.Packing.{Command, packets}
 use Rattle.cue.specs.Compile.{packed, output}
-use Rattle.cue.specs.Compile.{outputBytes}
+use Rattle.cue.specs.Compile.{bytesOfOutput}
 use Rattle.cue.proofs.RecordLaws.{records-good}
 use Rattle.cue.proofs.PackerLaws.{output-append, output-one}
 use Rattle.cue.proofs.RunAll.{run-all}
@@ -21,20 +21,20 @@ use Rattle.parts.proofs.FollowLaws.{Placed}
 
 -- a packet's output has its mark and length
 pub output-more : (cs : List Command) (css : List (List Command))
-    → length (outputBytes (cs ∷ css)) ≡ length (outputBytes (cs ∷ [])) + length (outputBytes css)
-output-more cs css = ap length (output-append (cs ∷ []) css) ∙ length-append (outputBytes (cs ∷ [])) (outputBytes css)
+    → length (bytesOfOutput (cs ∷ css)) ≡ length (bytesOfOutput (cs ∷ [])) + length (bytesOfOutput css)
+output-more cs css = ap length (output-append (cs ∷ []) css) ∙ length-append (bytesOfOutput (cs ∷ [])) (bytesOfOutput css)
 
 -- where all the output is out, no packet is still to come
-none-later : (css later : List (List Command)) → outputBytes css ≡ outputBytes (css ++ later) → later ≡ []
+none-later : (css later : List (List Command)) → bytesOfOutput css ≡ bytesOfOutput (css ++ later) → later ≡ []
 none-later css [] e = refl
 none-later css (cs ∷ later) e =
-    let n : length (outputBytes css) ≡ length (outputBytes css) + length (outputBytes (cs ∷ later)) =
+    let n : length (bytesOfOutput css) ≡ length (bytesOfOutput css) + length (bytesOfOutput (cs ∷ later)) =
     ap length e ∙ rw (output-append, length-append) refl in
     absurd (omega (arith, output-more cs later, output-one cs))
 
 demand3-of : (list out : List ℕ) (xs : List Step) (css : List (List Command)) → recordsOf list ≡ records xs → css ≡ packets xs
-    → out ≡ outputBytes css → Demand3InParts list out css
-unfolding packed output outputBytes
+    → out ≡ bytesOfOutput css → Demand3InParts list out css
+unfolding packed output bytesOfOutput
 demand3-of list out xs css e c all =
     let good = records-good list xs e in
     let whole : out ≡ output xs = all ∙ rw c refl in
@@ -52,10 +52,10 @@ demand3-of list out xs css e c all =
 
 -- Demand 3, where all of a good list's output is out.
 pub demand3-in-parts : (list out : List ℕ) (p : Placed list out) (xs : List Step) → recordsOf list ≡ records xs
-    → out ≡ outputBytes (packets xs) → Demand3InParts list out (p .packets)
+    → out ≡ bytesOfOutput (packets xs) → Demand3InParts list out (p .packets)
 unfolding packetsOf packetsBy
 demand3-in-parts list out p xs e all =
     let whole : packets xs ≡ p .packets ++ p .later = rw e at (p .front) in
-    let none = none-later (p .packets) (p .later) (sym (p .bytes) ∙ all ∙ ap outputBytes whole) in
+    let none = none-later (p .packets) (p .later) (sym (p .bytes) ∙ all ∙ ap bytesOfOutput whole) in
     let c : p .packets ≡ packets xs = sym (append-nil (p .packets)) ∙ rw (← none) (sym whole) in
     demand3-of list out xs (p .packets) e c (p .bytes)

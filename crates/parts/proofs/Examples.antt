@@ -24,15 +24,15 @@ all : Bool
 unfolding Space.spaceOf Space.spaceNumber Space.areaRow Space.isAbsent Space.row Word.bit Word.wordOf Bytes.number Bytes.bytesOf
     Step.isInfo Step.rowBy Step.carried Step.answered Step.isStatus Step.isWrite Step.namesUnlock Rules.first Rules.misaligned
     Rules.pastEnd Rules.barred
-    Records.markAt Records.recordKind Records.recordBytes Records.recordSpace Records.valueBytes Records.recordStep
+    Records.markAt Records.recordKind Records.recordBytes Records.recordSpace Records.bytesOfValue Records.recordStep
     Records.reserved Records.badElement Records.upperHalf Records.recordRefusals
     Records.brief Summary.carriedBy Summary.answeredBy Summary.summary Summary.agrees Summary.fits Summary.joinedBy Summary.unlockFor
-    Summary.startedBy Summary.closedBy Summary.turnedBy Summary.frameBytes Summary.lastFields Summary.headBytes Summary.framedAt
+    Summary.startedBy Summary.closedBy Summary.turnedBy Summary.bytesOfMark Summary.lastFields Summary.bytesOfHeader Summary.framedAt
     Summary.unlockedAt Summary.headedAt Summary.wrote
     Taking.unknownMark Taking.decidedAt Taking.faultedBy Taking.recordTaken Taking.byteTaken Taking.isGoing Taking.goesOn
     Taking.oneMore Taking.bytesTaken Taking.endTaken Taking.partTaken Taking.answerBy Taking.answered Taking.called
     State.unopened State.written State.heldTurned State.heldPacking State.pairAt State.packerAt State.standingOf State.stateOf
-    State.badNumbers State.badState State.standingByte State.padded State.numberBytes State.packerBytes State.bytesOfState
+    State.badNumbers State.badState State.standingByte State.padded State.numberBytes State.bytesOfPacker State.bytesOfState
     Parts.untouched Parts.leaves Parts.partOf Promise.freshState
 all = true
 

@@ -16,7 +16,7 @@ use Rattle.cue.specs.Records.{Listed, records, refused, recordsOf, recordsFrom}
 use Rattle.cue.specs.Packing.{Command, packets}
 use Rattle.packet.specs.Bytes.{number}
 use Rattle.cue.specs.Summary.{summary}
-use Rattle.cue.specs.Compile.{outputBytes}
+use Rattle.cue.specs.Compile.{bytesOfOutput}
 use Rattle.parts.specs.Taking.{State, Standing, going, ended, faulted, Taken, Stopped, isGoing, called, answerBy, answered, fresh}
 use Rattle.parts.specs.Rule.{Opened, none, packingRule, lastOf, closedFrom, openAfter, goodFrom, goodRecords, packetsBy, packetsOf}
 use Rattle.parts.specs.State.{Held, heldPacking, unopened, pairAt, packerAt, standingOf, stateOf, badNumbers, badState, bytesOfState}
@@ -168,9 +168,9 @@ module _ (list : List ℕ) (at : ℕ) (state out : List ℕ) (s : State Opened) 
       said e g z = said-end packingRule s part (rw e at g) (rw e at z)
 
       -- with nothing handed out, what was out before is all
-      all-before : (css : List (List Command)) → out ++ c .left .out ≡ outputBytes css → c .left .out ≡ [] → packetsOf list ≡ css
-          → out ≡ outputBytes (packetsOf list)
-      all-before css b z e = sym (append-nil out) ∙ rw z at b ∙ ap outputBytes (sym e)
+      all-before : (css : List (List Command)) → out ++ c .left .out ≡ bytesOfOutput css → c .left .out ≡ [] → packetsOf list ≡ css
+          → out ≡ bytesOfOutput (packetsOf list)
+      all-before css b z e = sym (append-nil out) ∙ rw z at b ∙ ap bytesOfOutput (sym e)
 
       pub goes : (xs : List Step) → recordsOf list ≡ records xs → Goes list state out part last room
       unfolding answered answerBy packetsOf packetsBy
@@ -235,7 +235,7 @@ module _ (list : List ℕ) (at : ℕ) (state out : List ℕ) (s : State Opened) 
 
       -- accepted, with the end said and nothing written: the list is good, and all of it was out before
       pub at-end : last ≡ true → partOf state part last room .answer ≡ Answer.accepted (0 ∷ [])
-          → (xs : List Step) × (recordsOf list ≡ records xs) × (out ≡ outputBytes (packets xs))
+          → (xs : List Step) × (recordsOf list ≡ records xs) × (out ≡ bytesOfOutput (packets xs))
       unfolding answered answerBy
       at-end l e = go (c .left .state .standing) refl (reached-next .here) (sym answer-is ∙ e)
         where
@@ -244,14 +244,14 @@ module _ (list : List ℕ) (at : ℕ) (state out : List ℕ) (s : State Opened) 
 
           go : (k : Standing) → c .left .state .standing ≡ k → Here list (drop (c .taken) part ++ n .rest) (c .left .state) css k
               → answerBy k (c .left .state .index) (length (c .left .out)) ≡ Answer.accepted (0 ∷ [])
-              → (xs : List Step) × (recordsOf list ≡ records xs) × (out ≡ outputBytes (packets xs))
+              → (xs : List Step) × (recordsOf list ≡ records xs) × (out ≡ bytesOfOutput (packets xs))
           go going g r a = let z : length (c .left .out) ≡ 0 = cc in absurd (said l g z)
           go ended g r a =
               let z : length (c .left .out) ≡ 0 = cc in
               let (xs, listed, all) = r in
               let none : c .left .out ≡ [] = empty-is _ z in
-              let o : out ≡ outputBytes css = sym (append-nil out) ∙ rw none at (reached-next .bytes) in
-              (xs, listed, o ∙ ap outputBytes all)
+              let o : out ≡ bytesOfOutput css = sym (append-nil out) ∙ rw none at (reached-next .bytes) in
+              (xs, listed, o ∙ ap bytesOfOutput all)
           go (faulted k) g r a = let z : _≡_ {A = ℕ} 0 1 = cc in absurd (omega arith)
 
 -- what is still to come, by what stands
@@ -278,7 +278,7 @@ front-by list left s css (faulted n) h = ([], rw (h .0, append-nil) (sym (h .1))
 pub record Placed (list out : List ℕ) : Type 0 where
   pub packets : List (List Command)
   pub later : List (List Command)
-  pub bytes : out ≡ outputBytes packets
+  pub bytes : out ≡ bytesOfOutput packets
   pub front : packetsOf list ≡ packets ++ later
 
 pub placed : {list : List ℕ} {at : ℕ} {state out : List ℕ} {s : State Opened} → Follows list at state out s → Placed list out

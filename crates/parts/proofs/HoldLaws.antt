@@ -10,7 +10,7 @@ use Rattle.lbp16.specs.Space.{Space}
 use Rattle.packet.specs.Step.{Kind, Step, isInfo, isWrite, isStatus}
 use Rattle.packet.specs.Rules.{first}
 use Rattle.cue.specs.Records.{Listed, records, refused, recordsOf, recordKind, recordBytes, recordStep, recordRefusals}
-use Rattle.cue.specs.Packing.{Command, packetBytes, elementSteps, commandSteps, unlockCommand, Open, commandsOf, joined, started}
+use Rattle.cue.specs.Packing.{Command, bytesOfPacket, elementSteps, commandSteps, unlockCommand, Open, commandsOf, joined, started}
 use Rattle.cue.specs.Packing.{turn, packFrom, packets}
 use Rattle.cue.specs.Compile.{packed}
 use Rattle.cue.proofs.Relations.{Good, Holds}
@@ -173,7 +173,7 @@ whole-packets list = go (recordsOf list) refl
 -- So packets that are out hold the first of the good records, in order.
 pub record Front (xs : List Step) (css : List (List Command)) : Type 0 where
   pub held : recordsHeld css ≡ take (countHeld css) xs
-  pub holds : Holds (map packetBytes css) (recordsHeld css)
+  pub holds : Holds (map bytesOfPacket css) (recordsHeld css)
   pub good : Good (recordsHeld css)
 
 front-holds : (ys zs : List Step) (css : List (List Command)) → packets ys ≡ css → Good ys → Front (ys ++ zs) css

@@ -9,9 +9,9 @@ use lib.Seq.{drop-drop}
 use Rattle.lbp16.specs.Answer.{Answer}
 use Rattle.packet.specs.Step.{Step}
 use Rattle.cue.specs.Records.{records, recordsOf}
-use Rattle.cue.specs.Packing.{packetBytes}
+use Rattle.cue.specs.Packing.{bytesOfPacket}
 use Rattle.cue.specs.Compile.{packed, output}
-use Rattle.cue.specs.Compile.{outputBytes}
+use Rattle.cue.specs.Compile.{bytesOfOutput}
 use Rattle.cue.proofs.PackerLaws.{output-append}
 use Rattle.cue.proofs.RunAll.{run-all}
 use Rattle.parts.specs.Taking.{State}
@@ -39,7 +39,7 @@ promise {list} {at} {state} {out} {s} calls =
       bytes = p .bytes;
       front = p .front;
       held = h .held;
-      same = run-all (map packetBytes (p .packets)) (recordsHeld (p .packets)) (h .holds) (h .good);
+      same = run-all (map bytesOfPacket (p .packets)) (recordsHeld (p .packets)) (h .holds) (h .good);
       good = λ xs e part last room n w. goes list at state out s f part last room n w xs e;
       demand3 =
           λ part room n w a. let (xs, e, all) = at-end list at state out s f part true room n w refl a in
@@ -51,11 +51,11 @@ promise {list} {at} {state} {out} {s} calls =
 -- One part with all the bytes, called until nothing comes out, writes the whole list's output.
 module _ (list : List ℕ) (xs : List Step) (e : recordsOf list ≡ records xs) (room : List ℕ) (w : frameRoom ≤ length room) where
   abbrev total : List ℕ
-  total = outputBytes (packetsOf list)
+  total = bytesOfOutput (packetsOf list)
 
   out-le : {at : ℕ} {state out : List ℕ} {s : State Opened} → Promise list at state out s → length out ≤ length total
   out-le p =
-      let f : total ≡ outputBytes (p .packets) ++ outputBytes (p .later) = rw (p .front, output-append) refl in
+      let f : total ≡ bytesOfOutput (p .packets) ++ bytesOfOutput (p .later) = rw (p .front, output-append) refl in
       let n = simp length-append at (ap length f) in
       rw (p .bytes) (omega arith)
 
@@ -92,7 +92,7 @@ module _ (list : List ℕ) (xs : List Step) (e : recordsOf list ≡ records xs) 
           rw (b, drop-drop (c .taken) at list, ← append-assoc) (more (rw l (omega arith)))
 
   pub one-part : (fuel : ℕ) → length total < fuel → drained fuel freshState list room ≡ output xs
-  unfolding output packed packetsOf packetsBy outputBytes
+  unfolding output packed packetsOf packetsBy bytesOfOutput
   one-part fuel h =
       let total-is : total ≡ output xs = rw e refl in
       drains fuel Calls.none (omega arith) ∙ total-is

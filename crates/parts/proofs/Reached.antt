@@ -14,7 +14,7 @@ use Rattle.packet.specs.Rules.{first}
 use Rattle.cue.specs.Records.{records, refused, recordsOf, recordsFrom, recordKind, recordBytes, recordStep, recordRefusals}
 use Rattle.cue.specs.Packing.{Command, packets}
 use Rattle.cue.specs.Output.{outputOf}
-use Rattle.cue.specs.Compile.{outputBytes}
+use Rattle.cue.specs.Compile.{bytesOfOutput}
 use Rattle.cue.proofs.OwnBytesLaws.{same-kind, same-step}
 use Rattle.cue.proofs.PackingLaws.{record-bytes-le}
 use Rattle.cue.proofs.WalkLaws.{records-next, records-end}
@@ -46,7 +46,7 @@ Here list left s css (faulted n) = (recordsOf list ≡ refused n (s .index)) × 
 -- `out`: all that was written so far
 pub record Reached (list left : List ℕ) (s : State Opened) (out : List ℕ) : Type 0 where
   pub css : List (List Command)
-  pub bytes : out ≡ outputBytes css
+  pub bytes : out ≡ bytesOfOutput css
   pub here : Here list left s css (s .standing)
 
 pub while-going : {list left : List ℕ} {s : State Opened} {css : List (List Command)} → Here list left s css (s .standing)
@@ -54,7 +54,7 @@ pub while-going : {list left : List ℕ} {s : State Opened} {css : List (List Co
 while-going {list} {left} {s} {css} h e = subst (λ (k : Standing). Here list left s css k) e h
 
 pub begun : (list : List ℕ) → Reached list list (fresh none) []
-unfolding fresh recordsOf goodRecords withRecords closedFrom openAfter outputBytes outputOf
+unfolding fresh recordsOf goodRecords withRecords closedFrom openAfter bytesOfOutput outputOf
 begun list =
     record {
       css = [];
@@ -160,7 +160,7 @@ module _ (list left : List ℕ) (b : ℕ) (s : State Opened) (css : List (List C
             )
 
   -- the byte's output behind what was written before
-  pub reached-byte : (out : List ℕ) → out ≡ outputBytes css → s .standing ≡ going
+  pub reached-byte : (out : List ℕ) → out ≡ bytesOfOutput css → s .standing ≡ going
       → let t = byteTaken packingRule s b in Reached list left (t .state) (out ++ t .out)
   unfolding byteTaken packingRule recordTaken faultedBy
   reached-byte out o g = go (ltb (length shown) (decidedAt (s .index) shown)) refl
@@ -240,7 +240,7 @@ all-taken r t (b ∷ bs) g = go (goesOn t) refl (all-taken r (byteTaken r (t .st
     go false k more g = let z : _≡_ {A = ℕ} 0 1 = cc in absurd (omega arith)
 
 -- The list's end.
-module _ (list : List ℕ) (s : State Opened) (css : List (List Command)) (out : List ℕ) (o : out ≡ outputBytes css)
+module _ (list : List ℕ) (s : State Opened) (css : List (List Command)) (out : List ℕ) (o : out ≡ bytesOfOutput css)
     (h : Before list [] s css) where
   all-out : s .collected ≡ [] → (xs : List Step) × (recordsOf list ≡ records xs) × (css ++ lastOf (s .packet) ≡ packets xs)
   all-out e =

@@ -10,7 +10,7 @@ use lib.Seq.{drop-drop}
 use Rattle.cue.specs.Records.{refused, recordsOf}
 use Rattle.cue.specs.Packing.{Command}
 use Rattle.cue.specs.Output.{outputOf}
-use Rattle.cue.specs.Compile.{outputBytes}
+use Rattle.cue.specs.Compile.{bytesOfOutput}
 use Rattle.parts.specs.Taking.{State}
 use Rattle.parts.specs.Rule.{Opened}
 use Rattle.cue.specs.Output.{frameRoom}
@@ -21,8 +21,8 @@ use Rattle.parts.proofs.FollowLaws.{Placed, placed, calls-follow, fails
 
 -- with more of a list's output out, fewer of its packets are still to come
 fewer-later : (css later css₂ later₂ : List (List Command)) → css ++ later ≡ css₂ ++ later₂
-    → length (outputBytes css) < length (outputBytes css₂) → length later₂ < length later
-unfolding outputBytes outputOf
+    → length (bytesOfOutput css) < length (bytesOfOutput css₂) → length later₂ < length later
+unfolding bytesOfOutput outputOf
 fewer-later [] later [] later₂ e h = absurd (omega arith)
 fewer-later [] later (cs₂ ∷ css₂) later₂ e h =
     let n : length later ≡ length (cs₂ ∷ css₂) + length later₂ = ap length e ∙ length-append (cs₂ ∷ css₂) later₂ in
@@ -67,7 +67,7 @@ module _ (list : List ℕ) (m i : ℕ) (e : recordsOf list ≡ refused m i) wher
             let b : bytesWritten (c .answer) ≡ w .bytes = rw (w .answer) refl in
             let n : length (written c) ≡ w .bytes =
             written-size state (drop at list) true (rooms 0) (calls-follow calls .fine) (wide 0) ∙ b in
-            let l : length (outputBytes (p .packets)) < length (outputBytes (q .packets)) =
+            let l : length (bytesOfOutput (p .packets)) < length (bytesOfOutput (q .packets)) =
             rw (← p .bytes, ← q .bytes, length-append, n) (omega (arith, w .some refl)) in
             let k = fewer-later (p .packets) (p .later) (q .packets) (q .later) (sym (p .front) ∙ q .front) l in
             let r = more k in

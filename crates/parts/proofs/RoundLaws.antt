@@ -14,12 +14,12 @@ use Rattle.lbp16.proofs.WordLaws.{bit-read}
 use Rattle.packet.specs.Bytes.{number, bytesOf}
 use Rattle.packet.proofs.ByteLaws.{number-of-bytes}
 use Rattle.cue.specs.Summary.{Progress, summary}
-use Rattle.cue.specs.Guarded.{anyOf}
+use Rattle.cue.specs.Untrusted.{anyOf}
 use Rattle.cue.specs.declared.packer.Packer.{Packer}
-use Rattle.cue.proofs.GuardedLaws.{any-false}
+use Rattle.cue.proofs.UntrustedLaws.{any-false}
 use Rattle.cue.proofs.PackerLaws.{Following}
 use Rattle.parts.specs.Taking.{State, Standing, going, ended, faulted}
-use Rattle.parts.specs.State.{Held, unopened, pairAt, packerAt, padded, numberBytes, packerBytes, standingByte, standingOf, stateOf}
+use Rattle.parts.specs.State.{Held, unopened, pairAt, packerAt, padded, numberBytes, bytesOfPacker, standingByte, standingOf, stateOf}
 use Rattle.parts.specs.State.{badNumbers, badState, bytesOfState}
 use Rattle.parts.specs.Inside.{Alone, Sound}
 use Rattle.parts.proofs.StateLaws.{length-packer}
@@ -79,11 +79,11 @@ module _ (t : State Held) where
   p = t .packet .packer
 
   packer-unopened : (u : Bool) → p ≡ summary Progress.none u → packerAt (bytesOfState t) ≡ relocked p
-  unfolding bytesOfState padded bytesOf packerAt pairAt packerBytes number unopened summary numberBytes
+  unfolding bytesOfState padded bytesOf packerAt pairAt bytesOfPacker number unopened summary numberBytes
   packer-unopened u e = rw e refl
 
   packer-alone : Alone p → p .address < 65536 → packerAt (bytesOfState t) ≡ relocked p
-  unfolding bytesOfState padded bytesOf packerAt pairAt packerBytes numberBytes
+  unfolding bytesOfState padded bytesOf packerAt pairAt bytesOfPacker numberBytes
   packer-alone a h =
       let n : eqb (p .packets) 0 ≡ false = rw (a .packets) refl in
       let size = two-bytes (p .packet) (omega (arith, a .packet)) in
@@ -213,7 +213,7 @@ module _ (t : State Held) (g : InRange t) (s : Sound (t .packet .packer)) (low :
   -- the parts of the state's bytes
   room-again : drop 28 (bytesOfState t) ≡ t .packet .room
   unfolding bytesOfState padded bytesOf
-  room-again = drop-at (packerBytes (t .packet .packer)) (t .packet .room) 12 (length-packer (t .packet .packer))
+  room-again = drop-at (bytesOfPacker (t .packet .packer)) (t .packet .room) 12 (length-packer (t .packet .packer))
 
   collected-again : take (getD (bytesOfState t) 1 0) (take 10 (drop 2 (bytesOfState t))) ≡ t .collected
   unfolding bytesOfState padded bytesOf
@@ -240,7 +240,7 @@ module _ (t : State Held) (g : InRange t) (s : Sound (t .packet .packer)) (low :
   length-again : length (bytesOfState t) ≡ 1504
   unfolding bytesOfState padded bytesOf
   length-again =
-      let n : length (packerBytes (t .packet .packer) ++ t .packet .room) ≡ 1488 =
+      let n : length (bytesOfPacker (t .packet .packer) ++ t .packet .room) ≡ 1488 =
       rw (length-append, length-packer, wide) refl in
       rw n refl
 

@@ -17,7 +17,7 @@ use Rattle.cue.specs.Packing.{Open, commandsOf, started, turn}
 use Rattle.cue.specs.Output.{outputOf}
 use Rattle.cue.specs.Inside.{roomAfter}
 use Rattle.cue.specs.Summary.{Progress, summary, turnedBy, joinedBy, startedBy, closedBy, agrees, fits}
-use Rattle.cue.specs.Compile.{outputBytes}
+use Rattle.cue.specs.Compile.{bytesOfOutput}
 use Rattle.cue.specs.Records.{brief}
 use Rattle.cue.specs.declared.packer.Packer.{Packer}
 use Rattle.cue.proofs.RecordLaws.{good-element}
@@ -46,7 +46,7 @@ pub record Same (o : Opened) (h : Held) : Type 0 where
   pub low : h .packer .address < 65536
 
 pub same-first : (room : List ℕ) → length room ≡ 1476 → Same none (record { packer = unopened; room = room })
-unfolding unopened summary roomAfter finished outputBytes outputOf
+unfolding unopened summary roomAfter finished bytesOfOutput outputOf
 same-first room l =
     record {
       following = record { unlock = false; packer = refl; rising = tt };
@@ -59,9 +59,9 @@ same-first room l =
     }
 
 -- the front of the room is the open packet's output
-room-front : (s : Progress) (u : Bool) (old : List ℕ) → take (summary s u .end) (roomOf s old) ≡ outputBytes (finished s)
+room-front : (s : Progress) (u : Bool) (old : List ℕ) → take (summary s u .end) (roomOf s old) ≡ bytesOfOutput (finished s)
 unfolding roomAfter
-room-front s u old = rw end-is (take-append-seam (outputBytes (finished s)) _)
+room-front s u old = rw end-is (take-append-seam (bytesOfOutput (finished s)) _)
 
 last-finished : (o : Opened) → lastOf o ≡ finished (progressOf o)
 unfolding lastOf finished
@@ -71,12 +71,12 @@ last-finished (some o) = refl
 pub same-last : (o : Opened) (h : Held) → Same o h → packingRule .last o ≡ heldPacking .last h
 unfolding packingRule heldPacking
 same-last o h s =
-    sym (rw (s .now, s .following .packer) (room-front (progressOf o) (s .following .unlock) (s .old)) ∙ ap outputBytes (sym (last-finished o)))
+    sym (rw (s .now, s .following .packer) (room-front (progressOf o) (s .following .unlock) (s .old)) ∙ ap bytesOfOutput (sym (last-finished o)))
 
 -- the output of an open packet that a packer knows
 alone-length : (o : Open) (q : Packer) → Following (Progress.some [] o) q → q .packet ≤ 1472
-    → length (outputBytes (finished (Progress.some [] o))) ≤ 1476
-unfolding summary outputBytes outputOf
+    → length (bytesOfOutput (finished (Progress.some [] o))) ≤ 1476
+unfolding summary bytesOfOutput outputOf
 alone-length o q f h =
     let e = end-is (Progress.some [] o) (f .unlock) in
     let k = rw (f .packer) at h in
@@ -119,7 +119,7 @@ module _ (o : Opened) (h : Held) (x : Step) (s : Same o h) (f : Fine x) (p : Ope
   pub kept-open : Same (some p) (written q x (h .room))
   unfolding written
   kept-open =
-      let l : length (outputBytes (finished (advance (progressOf o) x))) ≤ length (s .old) =
+      let l : length (bytesOfOutput (finished (advance (progressOf o) x))) ≤ length (s .old) =
       rw (e, s .long) (alone-length p q follows (grown (h .packer) (brief x) .packet)) in
       record {
         following = follows;
@@ -156,13 +156,13 @@ module _ (o : Open) (h : Held) (x : Step) (s : Same (some o) h) (f : Fine x) (p 
 -- The packet kept and the packing rule's hand out the same and stay alike.
 pub same-turn : (o : Opened) (h : Held) (x : Step) → Same o h → Fine x
     → (packingRule .turned o x .out ≡ heldPacking .turned h x .out) × Same (packingRule .turned o x .packet) (heldPacking .turned h x .packet)
-unfolding packingRule heldPacking closes opens outputBytes outputOf advance lastOf
+unfolding packingRule heldPacking closes opens bytesOfOutput outputOf advance lastOf
 same-turn none h x s f =
     rw (turned-open none h x s f (started [] x) refl) (refl, kept-open none h x s f (started [] x) refl)
 same-turn (some o) h x s f = turn-cases o x (λ t. turn o x ≡ t → Goal) (λ _ e. open-case _ e) (λ _ e. open-case _ e) closing refl
   where
     Goal : Type 0
-    Goal = (outputBytes (turn o x .closed) ≡ heldTurned h x .out) × Same (some (turn o x .open?)) (heldTurned h x .packet)
+    Goal = (bytesOfOutput (turn o x .closed) ≡ heldTurned h x .out) × Same (some (turn o x .open?)) (heldTurned h x .packet)
 
     open-case : (p : Open) → turn o x ≡ record { closed = []; open? = p } → Goal
     open-case p e =

@@ -13,9 +13,9 @@ use Rattle.packet.specs.Bytes.{number}
 use Rattle.packet.specs.Command.{pickKind}
 use Rattle.packet.specs.Rules.{first}
 use Rattle.packet.proofs.RuleLaws.{none-holds}
-use Rattle.cue.specs.Guarded.{anyOf, turnedWithin, putWithin}
+use Rattle.cue.specs.Untrusted.{anyOf, turnedWithin, putWithin}
 use Rattle.cue.proofs.PackingLaws.{record-bytes-le}
-use Rattle.cue.proofs.GuardedLaws.{none-of}
+use Rattle.cue.proofs.UntrustedLaws.{none-of}
 use Rattle.cue.specs.Records.{markAt, readMark, writeMark, recordKind, recordBytes, recordStep, recordRefusals, mostRecords}
 use Rattle.cue.specs.Records.{recordAt}
 use Rattle.cue.specs.declared.records.Record.{Record}

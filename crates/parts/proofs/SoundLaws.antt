@@ -12,11 +12,11 @@ use Rattle.packet.specs.Step.{Step}
 use Rattle.cue.specs.Summary.{Progress, summary, agrees, fits, joinedBy, startedBy, closedBy, turnedBy, wrote}
 use Rattle.cue.specs.Records.{brief}
 use Rattle.cue.specs.Inside.{Roomy}
-use Rattle.cue.specs.Summary.{framedAt, unlockedAt, headedAt, unlockBytes}
-use Rattle.cue.specs.Guarded.{anyOf, outsideTests}
+use Rattle.cue.specs.Summary.{framedAt, unlockedAt, headedAt, bytesOfUnlock}
+use Rattle.cue.specs.Untrusted.{anyOf, outsideTests}
 use Rattle.cue.specs.declared.records.Record.{Record}
 use Rattle.cue.specs.declared.packer.Packer.{Packer}
-use Rattle.cue.proofs.GuardedLaws.{any-false}
+use Rattle.cue.proofs.UntrustedLaws.{any-false}
 use Rattle.cue.proofs.PackerLaws.{Grown, grown, none-turned}
 use Rattle.lbp16.proofs.SpaceLaws.{number-le}
 use Rattle.parts.specs.Inside.{Alone, Sound}
@@ -140,8 +140,8 @@ length-unlocked : (q : Packer) (room : List ℕ) → length (unlockedAt q room) 
 unfolding unlockedAt
 length-unlocked q room = go (q .unlock)
   where
-    go : (b : Bool) → length (cond b (sets room (q .word - 6) unlockBytes) room) ≡ length room
-    go true = length-sets room (q .word - 6) unlockBytes
+    go : (b : Bool) → length (cond b (sets room (q .word - 6) bytesOfUnlock) room) ≡ length room
+    go true = length-sets room (q .word - 6) bytesOfUnlock
     go false = refl
 
 pub length-wrote : (q : Packer) (bytes room : List ℕ) → length (wrote q bytes room) ≡ length room

@@ -11,7 +11,7 @@ use Rattle.lbp16.specs.Word.{bit}
 use Rattle.packet.specs.Bytes.{bytesOf}
 use borrow.Author.Tests.{ne-eqb}
 use Rattle.cue.specs.declared.packer.Packer.{Packer}
-use Rattle.parts.specs.State.{unopened, pairAt, packerAt, padded, numberBytes, packerBytes, standingByte, standingOf, bytesOfState}
+use Rattle.parts.specs.State.{unopened, pairAt, packerAt, padded, numberBytes, bytesOfPacker, standingByte, standingOf, bytesOfState}
 use Rattle.parts.specs.Inside.{keptAt, meant, Ranged}
 use Rattle.parts.specs.declared.state.Kept.{Kept}
 
@@ -75,18 +75,18 @@ pub numbers-none : (p q : Packer) → p .packets ≡ 0
       end = 0;
       packets = 0;
     }
-    → numberBytes q ≡ packerBytes p
-unfolding numberBytes packerBytes padded bytesOf bit
+    → numberBytes q ≡ bytesOfPacker p
+unfolding numberBytes bytesOfPacker padded bytesOf bit
 numbers-none p q e f = rw (e, f) refl
 
-pub numbers-some : (p : Packer) → (p .packets ≡ 0 → ⊥) → numberBytes p ≡ packerBytes p
-unfolding packerBytes
+pub numbers-some : (p : Packer) → (p .packets ≡ 0 → ⊥) → numberBytes p ≡ bytesOfPacker p
+unfolding bytesOfPacker
 numbers-some p z = rw (ne-eqb (p .packets) 0 z) refl
 
-pub packer-put : (p q : Packer) (w u : ℕ) → numberBytes q ≡ packerBytes p → w ≡ bit (q .write) → u ≡ bit (q .unlocked)
+pub packer-put : (p q : Packer) (w u : ℕ) → numberBytes q ≡ bytesOfPacker p → w ≡ bit (q .write) → u ≡ bit (q .unlocked)
     → w ∷ q .space ∷ q .address % 256 ∷ q .address / 256 % 256 ∷ q .count ∷ u ∷ q .packet % 256 ∷ q .packet / 256 % 256
     ∷ q .reply % 256 ∷ q .reply / 256 % 256 ∷ q .word % 256 ∷ q .word / 256 % 256 ∷ []
-    ≡ packerBytes p
+    ≡ bytesOfPacker p
 unfolding numberBytes bytesOf
 packer-put p q w u e a b = rw (a, b) e
 
@@ -111,8 +111,8 @@ unfolding padded
 length-padded zero i l = refl
 length-padded (suc n) i l = ap suc (length-padded n (suc i) l)
 
-pub length-packer : (p : Packer) → length (packerBytes p) ≡ 12
-unfolding packerBytes numberBytes bytesOf padded
+pub length-packer : (p : Packer) → length (bytesOfPacker p) ≡ 12
+unfolding bytesOfPacker numberBytes bytesOf padded
 length-packer p = go (eqb (p .packets) 0)
   where
     go : (b : Bool)
@@ -130,7 +130,7 @@ standing-again (suc zero) = refl
 standing-again (suc (suc n)) = refl
 
 save-parts : (k : Kept) (room b p : List ℕ) → Ranged k → b ≡ padded 10 0 (take (k .collected) (k .bytes))
-    → p ≡ packerBytes (k .packer)
+    → p ≡ bytesOfPacker (k .packer)
     → (k .stands % 256 ∷ k .collected % 256 ∷ padded 10 0 b) ++ bytesOf 4 (k .index) ++ padded 12 0 p ++ room
     ≡ bytesOfState (meant k room)
 unfolding bytesOfState meant
@@ -140,11 +140,11 @@ save-parts k room b p r e f =
     let x : k .stands % 256 ≡ k .stands = omega (arith, r .stands) in
     let y : k .collected % 256 ≡ k .collected = omega (arith, r .collected) in
     let u : padded 10 0 b ≡ padded 10 0 c = padded-self 10 b (rw e (length-padded 10 0 c)) ∙ e in
-    let v : padded 12 0 p ≡ packerBytes (k .packer) = padded-self 12 p (rw f (length-packer (k .packer))) ∙ f in
+    let v : padded 12 0 p ≡ bytesOfPacker (k .packer) = padded-self 12 p (rw f (length-packer (k .packer))) ∙ f in
     rw (x, y, u, v, standing-again, n) refl
 
 pub saved : (k : Kept) (s b p now : List ℕ) → Ranged k → b ≡ padded 10 0 (take (k .collected) (k .bytes))
-    → p ≡ packerBytes (k .packer)
+    → p ≡ bytesOfPacker (k .packer)
     → now ≡ (k .stands % 256 ∷ k .collected % 256
     ∷ getD b 0 0 ∷ getD b 1 0 ∷ getD b 2 0 ∷ getD b 3 0 ∷ getD b 4 0 ∷ getD b 5 0 ∷ getD b 6 0 ∷ getD b 7 0 ∷ getD b 8 0 ∷ getD b 9 0
     ∷ k .index % 256 ∷ k .index / 256 % 256 ∷ k .index / 256 / 256 % 256 ∷ k .index / 256 / 256 / 256 % 256

@@ -16,13 +16,13 @@ use Rattle.packet.specs.Rules.{first}
 use Rattle.cue.specs.Records.{recordStep, recordRefusals}
 use Rattle.cue.specs.Summary.{Progress, summary, carriedBy, turnedBy, wrote}
 use Rattle.cue.specs.Records.{recordAt, brief}
-use Rattle.cue.specs.Guarded.{turnedWithin, putWithin}
+use Rattle.cue.specs.Untrusted.{turnedWithin, putWithin}
 use Rattle.cue.specs.declared.records.Record.{Record}
 use Rattle.cue.specs.declared.packer.Packer.{Packer}
 use Rattle.cue.proofs.ReadingLaws.{passing}
 use Rattle.cue.proofs.PackerLaws.{grown, carried-brief}
 use Rattle.cue.proofs.EmitLaws.{element-whole, bytes-are}
-use Rattle.cue.proofs.GuardedLaws.{turned-roomy}
+use Rattle.cue.proofs.UntrustedLaws.{turned-roomy}
 use Rattle.parts.specs.State.{Held, unopened, heldTurned, heldPacking, written, standingOf}
 use Rattle.parts.specs.Inside.{Alone, Sound, Good, Rooms, Ranged, Turns, Leaves, meant}
 use Rattle.parts.proofs.SoundLaws.{sound-roomy, sound-end, first-alone, next-sound, alone-within, length-wrote}

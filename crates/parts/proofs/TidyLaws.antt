@@ -11,7 +11,7 @@ use borrow.Author.Tests.{ne-eqb}
 use Rattle.lbp16.proofs.WordLaws.{bit-written}
 use Rattle.packet.specs.Bytes.{number, bytesOf}
 use Rattle.parts.specs.Taking.{State}
-use Rattle.parts.specs.State.{Held, pairAt, packerAt, padded, numberBytes, packerBytes, stateOf, bytesOfState}
+use Rattle.parts.specs.State.{Held, pairAt, packerAt, padded, numberBytes, bytesOfPacker, stateOf, bytesOfState}
 use Rattle.parts.proofs.StateLaws.{padded-is, padded-self, length-padded, standing-again}
 
 -- bytes that are 0 behind some
@@ -119,8 +119,8 @@ module _ (s : List ℕ) (long : length s ≡ 1504) (byte : (i : ℕ) → getD s 
       let z : n / 256 / 256 / 256 % 256 ≡ getD s 15 0 = rw f (omega (arith, byte 15)) in
       rw (w, x, y, z) refl
 
-  packer-bytes : (pairAt s 22 ≡ 0 → ⊥) → getD s 16 0 ≤ 1 → getD s 21 0 ≤ 1 → packerBytes (packerAt s) ≡ padded 12 16 s
-  unfolding packerBytes numberBytes packerAt padded
+  packer-bytes : (pairAt s 22 ≡ 0 → ⊥) → getD s 16 0 ≤ 1 → getD s 21 0 ≤ 1 → bytesOfPacker (packerAt s) ≡ padded 12 16 s
+  unfolding bytesOfPacker numberBytes packerAt padded
   packer-bytes z w u =
       rw (
         ne-eqb (pairAt s 22) 0 z,

@@ -15,7 +15,7 @@ use Rattle.packet.proofs.RuleLaws.{none-holds}
 use Rattle.packet.proofs.SliceLaws.{tail-whole}
 use Rattle.cue.specs.Records.{recordKind, recordBytes, recordStep, recordRefusals, mostRecords}
 use Rattle.cue.specs.Records.{recordAt}
-use Rattle.cue.specs.Guarded.{turnedWithin, putWithin}
+use Rattle.cue.specs.Untrusted.{turnedWithin, putWithin}
 use Rattle.cue.specs.declared.records.Record.{Record}
 use Rattle.cue.specs.declared.packer.Packer.{Packer}
 use Rattle.cue.proofs.ReadingLaws.{passing}

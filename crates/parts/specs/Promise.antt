@@ -12,10 +12,10 @@ use Rattle.packet.specs.Step.{Step}
 use Rattle.packet.specs.Command.{limit}
 use Rattle.card.specs.Run.{badState}
 use Rattle.cue.specs.Records.{records, refused, recordsOf}
-use Rattle.cue.specs.Packing.{Command, packetBytes}
+use Rattle.cue.specs.Packing.{Command, bytesOfPacket}
 use Rattle.cue.specs.Play.{play}
 use Rattle.cue.specs.Demand3.{SameAsRecords, Demand3}
-use Rattle.cue.specs.Compile.{outputBytes}
+use Rattle.cue.specs.Compile.{bytesOfOutput}
 use Rattle.parts.specs.Taking.{State, Stopped, called, answered, fresh}
 use Rattle.parts.specs.Rule.{Opened, packingRule, goodRecords, packetsOf, recordsHeld, countHeld}
 use Rattle.parts.specs.State.{stateBytes}
@@ -64,13 +64,13 @@ pub record AsRule (q : Stopped Opened) (c : PartCall) : Type 0 where
 pub record Goes (list state out part : List ℕ) (last : Bool) (room : List ℕ) : Type 0 where
   pub bytes : ℕ
   pub answer : partOf state part last room .answer ≡ Answer.accepted (bytes ∷ [])
-  pub all-out : last ≡ true → bytes ≡ 0 → out ≡ outputBytes (packetsOf list)
+  pub all-out : last ≡ true → bytes ≡ 0 → out ≡ bytesOfOutput (packetsOf list)
 
 -- What it answers, if the list is refused with n at i: this refusal, when all packets that the records before the bad
 -- one closed are out; or no refusal, and then something is written if the end is said.
 pub record Fails (list state out part : List ℕ) (last : Bool) (room : List ℕ) (n i : ℕ) : Type 0 where
   pub answer : partOf state part last room .answer ≡ Answer.refused n i
-  pub all-out : out ≡ outputBytes (packetsOf list)
+  pub all-out : out ≡ bytesOfOutput (packetsOf list)
 
 pub record Writes (state part : List ℕ) (last : Bool) (room : List ℕ) : Type 0 where
   pub bytes : ℕ
@@ -111,12 +111,12 @@ pub record Promise (list : List ℕ) (at : ℕ) (state out : List ℕ) (s : Stat
   -- the packets that are out, and those of the list still to come
   pub packets : List (List Command)
   pub later : List (List Command)
-  pub bytes : out ≡ outputBytes packets
+  pub bytes : out ≡ bytesOfOutput packets
   pub front : packetsOf list ≡ packets ++ later
   -- the records that the packets out so far hold are the list's first, as many as the counts of their commands say, unlocks
   -- apart; and what running these packets does
   pub held : recordsHeld packets ≡ take (countHeld packets) (goodRecords list)
-  pub same : RunAs (map packetBytes packets) (recordsHeld packets)
+  pub same : RunAs (map bytesOfPacket packets) (recordsHeld packets)
   -- what the next call answers, with room enough
   pub good : (xs : List Step) → recordsOf list ≡ records xs → (part : List ℕ) (last : Bool) (room : List ℕ)
       → Continues list at part last → frameRoom ≤ length room → Goes list state out part last room

@@ -8,7 +8,7 @@ use Rattle.packet.specs.Step.{Step, isWrite, isStatus}
 use Rattle.packet.specs.Rules.{first}
 use Rattle.cue.specs.Records.{Listed, records, refused, recordsOf, recordKind, recordBytes, recordStep, recordRefusals}
 use Rattle.cue.specs.Packing.{Command, commandSteps, Open, commandsOf, started, turn, packets}
-use Rattle.cue.specs.Compile.{outputBytes}
+use Rattle.cue.specs.Compile.{bytesOfOutput}
 use Rattle.parts.specs.Taking.{Packing}
 
 -- The open packet, if there is one.
@@ -33,8 +33,8 @@ lastOf (some o) = commandsOf o ∷ []
 unfoldable pub packingRule : Packing Opened
 packingRule =
     record {
-      turned = λ o x. record { out = outputBytes (closes o x); packet = opens o x };
-      last = λ o. outputBytes (lastOf o);
+      turned = λ o x. record { out = bytesOfOutput (closes o x); packet = opens o x };
+      last = λ o. bytesOfOutput (lastOf o);
     }
 
 -- the packets that these records close, and the open packet after them

@@ -22,7 +22,7 @@ use Rattle.packet.specs.Command.{limit}
 use Rattle.cue.specs.Records.{mostRecords}
 use Rattle.cue.specs.Summary.{Progress, summary, turnedBy, wrote}
 use Rattle.cue.specs.Records.{brief}
-use Rattle.cue.specs.Guarded.{anyOf}
+use Rattle.cue.specs.Untrusted.{anyOf}
 use Rattle.cue.specs.Output.{frameRoom}
 use Rattle.cue.specs.declared.packer.Packer.{Packer}
 use Rattle.parts.specs.Taking.{Packing, Turned, Standing, going, ended, faulted, State}
@@ -129,11 +129,11 @@ numberBytes p =
     bit (p .write) ∷ p .space ∷ bytesOf 2 (p .address) ++ (p .count ∷ bit (p .unlocked) ∷ bytesOf 2 (p .packet))
     ++ bytesOf 2 (p .reply) ++ bytesOf 2 (p .word)
 
-unfoldable pub packerBytes : Packer → List ℕ
-packerBytes p = cond (eqb (p .packets) 0) (padded 12 0 []) (numberBytes p)
+unfoldable pub bytesOfPacker : Packer → List ℕ
+bytesOfPacker p = cond (eqb (p .packets) 0) (padded 12 0 []) (numberBytes p)
 
 -- The bytes that mean a state.
 unfoldable pub bytesOfState : State Held → List ℕ
 bytesOfState s =
     (standingByte (s .standing) ∷ length (s .collected) ∷ padded 10 0 (s .collected)) ++ bytesOf 4 (s .index)
-    ++ packerBytes (s .packet .packer) ++ s .packet .room
+    ++ bytesOfPacker (s .packet .packer) ++ s .packet .room

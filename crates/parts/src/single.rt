@@ -2,11 +2,11 @@
 use crate::layout;
 use crate::state;
 use crate::state::Kept;
-use cue::guarded;
 use cue::records;
 use cue::records::MOST;
 use cue::records::READ_MARK;
 use cue::records::WRITE_MARK;
+use cue::untrusted;
 use packet::bytes;
 use packet::command::LIMIT;
 ghost use mathlib.Core.Path.{_≡_};
@@ -14,7 +14,7 @@ ghost use mathlib.Core.List.{[], _∷_};
 ghost use mathlib.Core.Bool.{true, false};
 ghost use lib.ListN.{length, take, drop, getD};
 ghost use Rattle.packet.specs.Bytes.{number};
-ghost use Rattle.cue.specs.Guarded.{anyOf};
+ghost use Rattle.cue.specs.Untrusted.{anyOf};
 ghost use Rattle.parts.specs.State.{stateBytes, badNumbers};
 ghost use Rattle.parts.specs.Inside.{keptAt, unfitTests, Marked, Waits, Single};
 
@@ -123,11 +123,11 @@ pub(crate) fn completed(k: Kept, part: &[u8], last: bool, s: &mut [u8]) -> bool
     if records::record_refusal(&rest[..shown], index) != 0 {
         return false;
     }
-    let packer = guarded::turned(k.packer, records::record_at(&rest[..shown]));
+    let packer = untrusted::turned(k.packer, records::record_at(&rest[..shown]));
     if packer.packets == 2 {
         return false;
     }
-    guarded::put(packer, &rest[..shown], &mut s[layout::OPEN..]);
+    untrusted::put(packer, &rest[..shown], &mut s[layout::OPEN..]);
     let bytes = k.bytes;
     let after = Kept {
         stands: 0,

@@ -10,8 +10,8 @@ ghost use mathlib.Core.Path.{_≡_};
 ghost use Prim.Native.Nat.{_<_};
 ghost use lib.ListN.{length, take, drop, getD};
 ghost use Rattle.lbp16.specs.Word.{bit};
-ghost use Rattle.cue.specs.Guarded.{anyOf};
-ghost use Rattle.parts.specs.State.{stateBytes, packerAt, badNumbers, numberBytes, packerBytes, bytesOfState};
+ghost use Rattle.cue.specs.Untrusted.{anyOf};
+ghost use Rattle.parts.specs.State.{stateBytes, packerAt, badNumbers, numberBytes, bytesOfPacker, bytesOfState};
 ghost use Rattle.parts.specs.Inside.{keptAt, meant, Ranged};
 
 // `stands`: 0 while bytes are taken, 1 after the list's end, otherwise a fault's number. `collected` of `bytes` are the
@@ -106,7 +106,7 @@ fn flag(set: bool) -> u8
 
 // What the state keeps of a packer: its numbers, all 0 where no packet is open.
 fn shown(p: Packer) -> Packer
-    ensures { λ r. ⌜ numberBytes r ≡ packerBytes p ⌝ }
+    ensures { λ r. ⌜ numberBytes r ≡ bytesOfPacker p ⌝ }
 {
     if p.packets == 0 {
         return Packer {

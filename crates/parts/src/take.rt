@@ -1,11 +1,11 @@
 // What one byte, and a part's bytes, do to the state. `room` holds the open packet, `out` is for what is handed out.
 use crate::state::Kept;
-use cue::guarded;
 use cue::packer::Packer;
 use cue::records;
 use cue::records::MOST;
 use cue::records::READ_MARK;
 use cue::records::WRITE_MARK;
+use cue::untrusted;
 use packet::bytes;
 ghost use mathlib.Core.Path.{_≡_};
 ghost use mathlib.Core.List.{_++_};
@@ -77,12 +77,12 @@ fn turned(p: Packer, rest: &[u8], room: &[u8], out: &mut [u8]) -> Turn
         (now (out .exit)) (now (out .entry)) ⌝ }
 {
     let r = records::record_at(rest);
-    let q = guarded::turned(p, r);
+    let q = untrusted::turned(p, r);
     if q.packets == 2 {
         let end = p.end;
         put_front(&room[..end], out);
         return Turn {
-            packer: guarded::turned(Packer::empty(), r),
+            packer: untrusted::turned(Packer::empty(), r),
             written: end,
         };
     }
@@ -99,7 +99,7 @@ fn record_taken(k: Kept, rest: &[u8], room: &mut [u8], out: &mut [u8]) -> Took
         (now (room .exit)) (now (out .exit)) (now (out .entry)) ⌝ }
 {
     let t = turned(k.packer, rest, room, out);
-    guarded::put(t.packer, rest, room);
+    untrusted::put(t.packer, rest, room);
     let bytes = k.bytes;
     let packer = t.packer;
     Took {
@@ -176,7 +176,7 @@ fn record_joined(p: Packer, index: usize, rest: &[u8], room: &mut [u8]) -> Run
         };
     }
     let r = records::record_at(rest);
-    let q = guarded::turned(p, r);
+    let q = untrusted::turned(p, r);
     if q.packets == 2 {
         return Run {
             taken: 0,
@@ -184,7 +184,7 @@ fn record_joined(p: Packer, index: usize, rest: &[u8], room: &mut [u8]) -> Run
             index,
         };
     }
-    guarded::put(q, rest, room);
+    untrusted::put(q, rest, room);
     Run {
         taken: records::record_bytes(r.write),
         packer: q,

@@ -16,8 +16,8 @@ use Rattle.packet.specs.Rules.{pastEnd, barred, anyStep}
 use Rattle.packet.specs.Command.{limit}
 use Rattle.packet.proofs.StepLaws.{row-plain}
 use Rattle.cue.specs.Records.{badElement}
-use Rattle.cue.specs.Packing.{Command, Open, commandFields, commandBytes}
-use Rattle.cue.specs.Packing.{packetBytes, joinAll, elementSteps, commandSteps, packetSteps}
+use Rattle.cue.specs.Packing.{Command, Open, commandFields, bytesOfCommand}
+use Rattle.cue.specs.Packing.{bytesOfPacket, joinAll, elementSteps, commandSteps, packetSteps}
 use Rattle.cue.specs.Packing.{commandsOf, joined, started, packFrom, packets}
 use Rattle.cue.specs.Output.{framed, outputOf}
 use Rattle.cue.specs.Compile.{packed, output}
@@ -123,8 +123,8 @@ module _ (n : ℕ) (x : Step) (some : 2 ≤ n) (few : n ≤ 127) (reads : isWrit
         unlocks = rw reads refl;
       }
 
-  still-bytes : commandBytes (stillCommand n x) ≡ bytesOf 2 (wordOf (stillFields n (brief x))) ++ bytesOf 2 (x .address)
-  unfolding commandBytes stillCommand commandFields stillFields brief
+  still-bytes : bytesOfCommand (stillCommand n x) ≡ bytesOf 2 (wordOf (stillFields n (brief x))) ++ bytesOf 2 (x .address)
+  unfolding bytesOfCommand stillCommand commandFields stillFields brief
   still-bytes =
       rw (
         length-replicate n (x .bytes),
@@ -136,10 +136,10 @@ module _ (n : ℕ) (x : Step) (some : 2 ≤ n) (few : n ≤ 127) (reads : isWrit
       )
 
   packet : List ℕ
-  packet = packetBytes (stillCommand n x ∷ [])
+  packet = bytesOfPacket (stillCommand n x ∷ [])
 
   still-packet : packet ≡ bytesOf 2 (wordOf (stillFields n (brief x))) ++ bytesOf 2 (x .address)
-  unfolding packet packetBytes
+  unfolding packet bytesOfPacket
   still-packet = append-nil _ ∙ still-bytes
 
   still-framed : outputOf (packet ∷ []) ≡ stillOutput n x
@@ -154,31 +154,31 @@ module _ (n : ℕ) (x : Step) (some : 2 ≤ n) (few : n ≤ 127) (reads : isWrit
   unfolding packet packetSteps infoStep
   still-does =
       let all = append-nil (commandSteps (stillCommand n x)) ∙ still-steps n x in
-      let four : length (packetBytes (stillCommand n x ∷ [])) ≤ limit = rw still-length (omega arith) in
+      let four : length (bytesOfPacket (stillCommand n x ∷ [])) ≤ limit = rw still-length (omega arith) in
       let reply : replyBytes (packetSteps (stillCommand n x ∷ [])) ≤ limit =
       rw (all, reply-repeated n x) (omega (arith, scaled n _ few (answered-le (x .kind) (x .space) is-read))) in
       let from = read-from (stillCommand n x ∷ []) (SoundAll.more still-sound SoundAll.none) reply in
-      rw all at (all-does (packetBytes (stillCommand n x ∷ [])) _ four from (rw all (never infoStep x n plain)))
+      rw all at (all-does (bytesOfPacket (stillCommand n x ∷ [])) _ four from (rw all (never infoStep x n plain)))
 
 -- the packing rule's output is at least its first packet, which has a command and a frame
 started-more : (cs : List Command) (x : Step)
-    → 4 + length (packetBytes cs) ≤ length (packetBytes (commandsOf (started cs x)))
-unfolding commandsOf started packetBytes joinAll
+    → 4 + length (bytesOfPacket cs) ≤ length (bytesOfPacket (commandsOf (started cs x)))
+unfolding commandsOf started bytesOfPacket joinAll
 started-more cs x = simp (packet-bytes-append, length-append, command-length) (omega arith)
 
 first-packet : (o : Open) (ys : List Step)
-    → 4 + length (packetBytes (commandsOf o)) ≤ length (outputOf (map packetBytes (packFrom o ys)))
+    → 4 + length (bytesOfPacket (commandsOf o)) ≤ length (outputOf (map bytesOfPacket (packFrom o ys)))
 unfolding outputOf packFrom
 first-packet o [] = rw framed-bytes (omega arith)
 first-packet o (x ∷ ys) =
     turn-cases o x
-    (λ t. 4 + length (packetBytes (commandsOf o)) ≤ length (outputOf (map packetBytes (t .closed ++ packFrom (t .open?) ys))))
+    (λ t. 4 + length (bytesOfPacket (commandsOf o)) ≤ length (outputOf (map bytesOfPacket (t .closed ++ packFrom (t .open?) ys))))
     (λ _. omega (arith, first-packet (joined o x) ys, joined-bytes o x))
     (λ _. omega (arith, first-packet (started (commandsOf o) x) ys, started-more (commandsOf o) x))
     (rw framed-bytes (omega arith))
 
 pub output-least : (x : Step) (ys : List Step) → 8 ≤ length (output (x ∷ ys))
-unfolding output packed packets packetBytes
+unfolding output packed packets bytesOfPacket
 output-least x ys = omega (arith, first-packet (started [] x) ys, started-more [] x)
 
 pub eight-least : (n : ℕ) (x : Step) → 2 ≤ n → 8 ≤ length (output (replicate n x))

@@ -15,7 +15,7 @@ use Rattle.cue.specs.Play.{isAccepted, play}
 use Rattle.cue.specs.Compile.{packed}
 use Rattle.cue.specs.Demand3.{Demand3}
 use Rattle.cue.proofs.OutputLaws.{framed-bytes, framed-behind}
-use Rattle.recording.specs.Recording.{foundPair, turned, frontPair, pairAt, yes, badByte}
+use Rattle.recording.specs.Recording.{foundPair, pairLeft, frontPair, pairAt, yes, badByte}
 use Rattle.recording.specs.Recording.{judgedFrom, judgedParts, judgedIn, said, judged, stopped}
 use Rattle.recording.specs.Recording
 use Rattle.recording.specs.Show.{shownRun, replyIn, shown, recordingOf}
@@ -40,14 +40,14 @@ pub record Past (packets : List (List ℕ)) (store : List ℕ) (p : Pointers) (r
         room′
 
 -- one packet with its reply, passed over
-good-turn : (packet tail store : List ℕ) (p : Pointers) (room : List ℕ) → length room ≡ limit
+good-next : (packet tail store : List ℕ) (p : Pointers) (room : List ℕ) → length room ≡ limit
     → isAccepted (shownRun packet store p .answer) ≡ true → (fuel i at : ℕ)
     → judgedFrom (suc fuel) i at (framed packet ++ (framed (replyIn (shownRun packet store p)) ++ tail)) store p room
     ≡ judgedFrom fuel (1 + i) (at + (8 + length packet + length (replyIn (shownRun packet store p)))) tail (shownRun packet store p .store)
     (shownRun packet store p .pointers)
     (runPacket packet store p room .reply)
 unfolding judgedFrom
-good-turn packet tail store p room l e fuel i at =
+good-next packet tail store p room l e fuel i at =
     let z = shownRun packet store p in
     let a = shown-alike packet store p room l in
     let ok = ap isAccepted (a .answer) ∙ e in
@@ -89,19 +89,19 @@ past (packet ∷ packets) store p room l h (suc most) fuel i at e rest =
       room-bytes = more .room-bytes;
       same =
           rw (append-assoc, append-assoc)
-          (good-turn packet (recordingOf packets (o .store) (o .pointers) ++ rest) store p room l (ok .0) most i at
+          (good-next packet (recordingOf packets (o .store) (o .pointers) ++ rest) store p room l (ok .0) most i at
           ∙ more .same
           ∙ rw z refl);
     }
 
 -- a packet whose reply has one byte changed
-changed-turn : (packet tail store : List ℕ) (p : Pointers) (room : List ℕ) → length room ≡ limit → (o : Outcome)
+changed-next : (packet tail store : List ℕ) (p : Pointers) (room : List ℕ) → length room ≡ limit → (o : Outcome)
     → o ≡ shownRun packet store p → isAccepted (o .answer) ≡ true → (k b : ℕ) → k < length (replyIn o)
     → (getD (replyIn o) k 0 ≡ b → ⊥) → (fuel : ℕ) → 0 < fuel → (i at : ℕ)
     → judgedFrom fuel i at (framed packet ++ (framed (set (replyIn o) k b) ++ tail)) store p room .verdict ≡ badByte i k
 unfolding judgedFrom foundPair
-changed-turn packet tail store p room l o e ok k b within other zero some i at = absurd (omega arith)
-changed-turn packet tail store p room l o e ok k b within other (suc fuel) some i at =
+changed-next packet tail store p room l o e ok k b within other zero some i at = absurd (omega arith)
+changed-next packet tail store p room l o e ok k b within other (suc fuel) some i at =
     let a = shown-alike packet store p room l in
     let fine = ap isAccepted (a .answer ∙ ap (λ o. o .answer) (sym e)) ∙ ok in
     let expected = a .reply ∙ ap replyIn (sym e) in
@@ -119,7 +119,7 @@ changed-turn packet tail store p room l o e ok k b within other (suc fuel) some 
 
 -- nothing left: yes
 end-said : (fuel i at : ℕ) (store : List ℕ) (p : Pointers) (room : List ℕ)
-    → judgedFrom fuel i at [] store p room ≡ stopped (yes i) at (turned Pair.End store p room)
+    → judgedFrom fuel i at [] store p room ≡ stopped (yes i) at (pairLeft Pair.End store p room)
 unfolding judgedFrom pairAt frontPair frontOf
 end-said zero i at store p room = refl
 end-said (suc fuel) i at store p room = refl
@@ -190,7 +190,7 @@ module _ (packets : List (List ℕ)) (store : List ℕ) (p : Pointers) (state : 
   changed-byte packet o e ok k b within other tail =
       let c = behind (framed packet ++ (framed (set (replyIn o) k b) ++ tail)) in
       ap (λ s. s .verdict) (c .same)
-      ∙ changed-turn packet tail _ _ (c .room) (c .room-bytes) o e ok k b within other (c .fuel) (omega (arith, c .enough)) (length packets) (c .at)
+      ∙ changed-next packet tail _ _ (c .room) (c .room-bytes) o e ok k b within other (c .fuel) (omega (arith, c .enough)) (length packets) (c .at)
 
 -- The show of a compiled list, recorded on our card, is judged yes.
 pub compiled-yes : (list room : List ℕ) (bytes count : ℕ) (d : Demand3 list room bytes count) (store : List ℕ) (p : Pointers)

@@ -9,7 +9,7 @@ use borrow.Author.Tests.{eq-eqb, ne-eqb}
 use Rattle.lbp16.specs.declared.pointer.Pointers.{Pointers}
 use Rattle.packet.proofs.SliceLaws.{tail-whole}
 use Rattle.cue.specs.Output.{behindFrame}
-use Rattle.recording.specs.Recording.{turned, pairAt, goodBytes}
+use Rattle.recording.specs.Recording.{pairLeft, pairAt, goodBytes}
 use Rattle.recording.specs.Recording.{verdictListed, verdictOf, judgedFrom, judgedParts, left}
 use Rattle.recording.specs.declared.pair.Pair.{Pair}
 use Rattle.recording.specs.declared.Judgment.{Judgment}
@@ -58,7 +58,7 @@ judging-start recording store p room =
 
 module _ {recording store₀ : List ℕ} {p₀ : Pointers} {room₀ store room : List ℕ} {p : Pointers} {i at : ℕ} {rest : List ℕ}
     (s : Judging recording store₀ p₀ room₀ store room p i at rest) (pair : Pair) (store′ : List ℕ) (q : Pointers) (room′ : List ℕ)
-    (e : turned pair store′ q room′ ≡ pairAt rest store p room) (k : ℕ) (f : k ≡ goodBytes pair) where
+    (e : pairLeft pair store′ q room′ ≡ pairAt rest store p room) (k : ℕ) (f : k ≡ goodBytes pair) where
   pub judging-stop : k ≡ 0 → (j : Judgment) → verdictListed j ≡ verdictOf pair i
       → left (record { judgment = j; at = at; pointers = q }) store′ room′ ≡ judgedParts recording store₀ p₀ room₀
   unfolding judgedFrom left

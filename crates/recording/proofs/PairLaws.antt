@@ -20,9 +20,9 @@ use Rattle.lbp16.specs.declared.Refusal.{Refusal}
 use Rattle.card.specs.Run.{Outcome, checked, runPacket, ran}
 use Rattle.card.specs.declared.run.Ran.{Ran}
 use Rattle.card.proofs.RunLaws.{run-answers-check, answered-length}
-use Rattle.cue.specs.Output.{Front, frontOf, framedBytes, behindFrame, frameListed}
+use Rattle.cue.specs.Output.{Front, frontOf, bytesInFrame, behindFrame, frameListed}
 use Rattle.cue.specs.Play.{isAccepted, replyLength}
-use Rattle.recording.specs.Recording.{firstWrong, foundPair, replyPair, Turned, turned, answeredPair, ranPair}
+use Rattle.recording.specs.Recording.{firstWrong, foundPair, replyPair, PairLeft, pairLeft, answeredPair, ranPair}
 use Rattle.recording.specs.Recording.{frontPair, pairAt, goodBytes, verdictOf}
 use Rattle.recording.specs.Recording
 use Rattle.cue.specs.declared.frame.Frame.{Frame}
@@ -43,12 +43,12 @@ answered-fits packet store p room e = rw (run-answers-check packet store p room 
 -- A packet of n bytes as the code lends and runs it.
 module _ (rest : List ℕ) (n : ℕ) (store : List ℕ) (p : Pointers) (room : List ℕ) (r : Ran) (store′ room′ : List ℕ)
     (e : ran r store′ room′ ≡ runPacket (take (4 + n - 4) (drop 4 rest)) store p room) where
-  run-is : ran r store′ room′ ≡ runPacket (framedBytes n rest) store p room
-  unfolding framedBytes
+  run-is : ran r store′ room′ ≡ runPacket (bytesInFrame n rest) store p room
+  unfolding bytesInFrame
   run-is = e ∙ rw add-sub-cancel-left refl
 
   pub ran-refused : (x : Refusal) → r .answer ≡ Verdict.Refused x
-      → turned Pair.Refused store′ (r .pointers) room′ ≡ ranPair n rest (runPacket (framedBytes n rest) store p room)
+      → pairLeft Pair.Refused store′ (r .pointers) room′ ≡ ranPair n rest (runPacket (bytesInFrame n rest) store p room)
   unfolding ranPair ran answeredPair verdictListed
   ran-refused x q = rw (← run-is, q) refl
 
@@ -57,7 +57,7 @@ module _ (rest : List ℕ) (n : ℕ) (store : List ℕ) (p : Pointers) (room : L
     pub ran-fits : length room ≡ limit → length room′ ≡ length room → v ≤ length room′
     unfolding ran verdictListed replyLength
     ran-fits l k =
-        let f = answered-fits (framedBytes n rest) store p room l in
+        let f = answered-fits (bytesInFrame n rest) store p room l in
         rw (k, l) (rw (← run-is, q) at f)
 
     pub ran-lent : length room ≡ limit → length room′ ≡ length room → v ≡ length (take v room′)
@@ -65,21 +65,21 @@ module _ (rest : List ℕ) (n : ℕ) (store : List ℕ) (p : Pointers) (room : L
 
     pub ran-accepted : (pair : Pair)
         → pair ≡ replyPair (frontOf (take (length rest - (4 + n)) (drop (4 + n) rest))) n (take v room′) (take (length rest - (4 + n)) (drop (4 + n) rest))
-        → turned pair store′ (r .pointers) room′ ≡ ranPair n rest (runPacket (framedBytes n rest) store p room)
+        → pairLeft pair store′ (r .pointers) room′ ≡ ranPair n rest (runPacket (bytesInFrame n rest) store p room)
     unfolding ranPair ran answeredPair verdictListed replyLength behindFrame
     ran-accepted pair f = rw (← run-is, q, f, tail-whole) refl
 
 -- what is found at the front
 module _ (rest store : List ℕ) (p : Pointers) (room : List ℕ) (frame : Frame) (e : frameListed frame ≡ frontOf rest) where
-  pub pair-end : frame ≡ Frame.End → turned Pair.End store p room ≡ pairAt rest store p room
+  pub pair-end : frame ≡ Frame.End → pairLeft Pair.End store p room ≡ pairAt rest store p room
   unfolding pairAt frontPair
   pair-end q = rw (← e, q) refl
 
-  pub pair-cut : frame ≡ Frame.Cut → turned (Pair.Cut false) store p room ≡ pairAt rest store p room
+  pub pair-cut : frame ≡ Frame.Cut → pairLeft (Pair.Cut false) store p room ≡ pairAt rest store p room
   unfolding pairAt frontPair
   pair-cut q = rw (← e, q) refl
 
-  pub pair-unmarked : frame ≡ Frame.Unmarked → turned (Pair.Unmarked false) store p room ≡ pairAt rest store p room
+  pub pair-unmarked : frame ≡ Frame.Unmarked → pairLeft (Pair.Unmarked false) store p room ≡ pairAt rest store p room
   unfolding pairAt frontPair
   pair-unmarked q = rw (← e, q) refl
 
@@ -87,7 +87,7 @@ module _ (rest store : List ℕ) (p : Pointers) (room : List ℕ) (frame : Frame
     pub pair-within : 4 + n ≤ length rest
     pair-within = front-within rest n (rw q at e)
 
-    pub pair-whole : ranPair n rest (runPacket (framedBytes n rest) store p room) ≡ pairAt rest store p room
+    pub pair-whole : ranPair n rest (runPacket (bytesInFrame n rest) store p room) ≡ pairAt rest store p room
     unfolding pairAt frontPair
     pair-whole = rw (← e, q) refl
 
@@ -119,17 +119,17 @@ found-cases n expected found P good fault = go (eqb (length found) (length expec
 
 module _ (n : ℕ) (behind : List ℕ) (P : Pair → Type 0) (fault : (pair : Pair) → Fault pair → P pair) where
   reply-cases : (expected : List ℕ) (f : Front) → f ≡ frontOf behind
-      → ((m : ℕ) → Front.frame m ≡ frontOf behind → framedBytes m behind ≡ expected → P (Pair.Good (8 + n + m)))
+      → ((m : ℕ) → Front.frame m ≡ frontOf behind → bytesInFrame m behind ≡ expected → P (Pair.Good (8 + n + m)))
       → P (replyPair f n expected behind)
   unfolding replyPair isYes
   reply-cases expected Front.end e good = fault _ (record { stops = refl; faults = λ i. refl })
   reply-cases expected Front.cut e good = fault _ (record { stops = refl; faults = λ i. refl })
   reply-cases expected Front.unmarked e good = fault _ (record { stops = refl; faults = λ i. refl })
   reply-cases expected (Front.frame m) e good =
-      found-cases n expected (framedBytes m behind) P (λ s. rw (frame-length behind m e) (good m e s)) fault
+      found-cases n expected (bytesInFrame m behind) P (λ s. rw (frame-length behind m e) (good m e s)) fault
 
   answer-cases : (a : Answer) (reply : List ℕ)
-      → (isAccepted a ≡ true → (m : ℕ) → Front.frame m ≡ frontOf behind → framedBytes m behind ≡ take (replyLength a) reply
+      → (isAccepted a ≡ true → (m : ℕ) → Front.frame m ≡ frontOf behind → bytesInFrame m behind ≡ take (replyLength a) reply
       → P (Pair.Good (8 + n + m)))
       → P (answeredPair a n reply behind)
   unfolding answeredPair isAccepted isYes
@@ -140,16 +140,16 @@ module _ (n : ℕ) (behind : List ℕ) (P : Pair → Type 0) (fault : (pair : Pa
 module _ (rest store : List ℕ) (p : Pointers) (room : List ℕ) where
   -- A packet of n bytes and a reply of m bytes stand at the front, and both are as they should be.
   pub record GoodAt (n m : ℕ) (o : Outcome) : Type 0 where
-    pub ran : o ≡ runPacket (framedBytes n rest) store p room
+    pub ran : o ≡ runPacket (bytesInFrame n rest) store p room
     pub packet : Front.frame n ≡ frontOf rest
     pub accepted : isAccepted (o .answer) ≡ true
     pub reply : Front.frame m ≡ frontOf (behindFrame n rest)
-    pub same : framedBytes m (behindFrame n rest) ≡ take (replyLength (o .answer)) (o .reply)
+    pub same : bytesInFrame m (behindFrame n rest) ≡ take (replyLength (o .answer)) (o .reply)
 
   -- What holds of the end, of a good pair and of a fault holds of what is found.
-  pub pair-cases : (P : Turned → Type 0) → (Front.end ≡ frontOf rest → P (turned Pair.End store p room))
-      → ((n m : ℕ) (o : Outcome) → GoodAt n m o → P (turned (Pair.Good (8 + n + m)) (o .store) (o .pointers) (o .reply)))
-      → ((pair : Pair) (s : List ℕ) (q : Pointers) (r : List ℕ) → Fault pair → P (turned pair s q r))
+  pub pair-cases : (P : PairLeft → Type 0) → (Front.end ≡ frontOf rest → P (pairLeft Pair.End store p room))
+      → ((n m : ℕ) (o : Outcome) → GoodAt n m o → P (pairLeft (Pair.Good (8 + n + m)) (o .store) (o .pointers) (o .reply)))
+      → ((pair : Pair) (s : List ℕ) (q : Pointers) (r : List ℕ) → Fault pair → P (pairLeft pair s q r))
       → P (pairAt rest store p room)
   unfolding pairAt frontPair ranPair isYes
   pair-cases P end good fault = go (frontOf rest) refl
@@ -159,8 +159,8 @@ module _ (rest store : List ℕ) (p : Pointers) (room : List ℕ) where
       go Front.cut e = fault _ _ _ _ (record { stops = refl; faults = λ i. refl })
       go Front.unmarked e = fault _ _ _ _ (record { stops = refl; faults = λ i. refl })
       go (Front.frame n) e =
-          let o = runPacket (framedBytes n rest) store p room in
-          answer-cases n (behindFrame n rest) (λ pair. P (turned pair (o .store) (o .pointers) (o .reply)))
+          let o = runPacket (bytesInFrame n rest) store p room in
+          answer-cases n (behindFrame n rest) (λ pair. P (pairLeft pair (o .store) (o .pointers) (o .reply)))
           (λ pair f. fault _ _ _ _ f)
           (o .answer)
           (o .reply)

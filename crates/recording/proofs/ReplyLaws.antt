@@ -10,7 +10,7 @@ use lib.Dec.{eqb}
 use lib.ListN.{length, take, drop, getD, set, drop-of-length-le}
 use lib.Seq.{drop-cons}
 use borrow.Author.Tests.{eqb-true, eq-eqb, ne-eqb, lt-ltb, le-ltb}
-use Rattle.cue.specs.Output.{frontOf, framedBytes, frameListed}
+use Rattle.cue.specs.Output.{frontOf, bytesInFrame, frameListed}
 use Rattle.recording.specs.Recording.{firstWrong, foundPair, replyPair}
 use Rattle.cue.specs.declared.frame.Frame.{Frame}
 use Rattle.recording.specs.declared.pair.Pair.{Pair}
@@ -73,7 +73,7 @@ module _ (expected behind : List ℕ) (n : ℕ) (frame : Frame) (e : frameListed
     pub reply-within : 4 + m ≤ length behind
     reply-within = front-within behind m (rw q at e)
 
-    found-length : length (framedBytes m behind) ≡ m
+    found-length : length (bytesInFrame m behind) ≡ m
     found-length = frame-length behind m (rw q at e)
 
     pub reply-length : (m ≡ length expected → ⊥) → Pair.WrongLength ≡ replyPair (frontOf behind) n expected behind
@@ -81,12 +81,12 @@ module _ (expected behind : List ℕ) (n : ℕ) (frame : Frame) (e : frameListed
     reply-length h = rw (← e, q, found-length, ne-eqb _ _ h) refl
 
     -- the reply's bytes, as the code lends them
-    reply-bytes : take (4 + m - 4) (drop 4 behind) ≡ framedBytes m behind
-    unfolding framedBytes
+    reply-bytes : take (4 + m - 4) (drop 4 behind) ≡ bytesInFrame m behind
+    unfolding bytesInFrame
     reply-bytes = rw add-sub-cancel-left refl
 
     module _ (l : m ≡ length expected) (k : ℕ) (f : k ≡ firstWrong expected (take (4 + m - 4) (drop 4 behind))) where
-      found-wrong : firstWrong expected (framedBytes m behind) ≡ k
+      found-wrong : firstWrong expected (bytesInFrame m behind) ≡ k
       found-wrong = sym (f ∙ ap (firstWrong expected) reply-bytes)
 
       pub reply-wrong : k < m → Pair.WrongByte k ≡ replyPair (frontOf behind) n expected behind

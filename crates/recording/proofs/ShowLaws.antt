@@ -18,7 +18,7 @@ use Rattle.card.proofs.RunLaws.{run-checked, run-answers-check, answered-length
 use Rattle.cue.specs.Output.{framed, frontOf, behindFrame}
 use Rattle.cue.specs.Play.{isAccepted, replyLength, play}
 use Rattle.cue.proofs.OutputLaws.{framed-front, framed-part, framed-behind}
-use Rattle.recording.specs.Recording.{foundPair, replyPair, turned, answeredPair, ranPair, frontPair, pairAt}
+use Rattle.recording.specs.Recording.{foundPair, replyPair, pairLeft, answeredPair, ranPair, frontPair, pairAt}
 use Rattle.recording.specs.Show.{shownRun, replyIn, shown, repliesOf}
 use Rattle.recording.specs.declared.pair.Pair.{Pair}
 use Rattle.recording.proofs.ReplyLaws.{wrong-self}
@@ -90,7 +90,7 @@ module _ (packet found tail store : List ℕ) (p : Pointers) (room : List ℕ) (
 
   pub pair-framed : isAccepted (runPacket packet store p room .answer) ≡ true
       → pairAt (framed packet ++ (framed found ++ tail)) store p room
-      ≡ turned (foundPair (length packet) (replyIn (runPacket packet store p room)) found) (runPacket packet store p room .store)
+      ≡ pairLeft (foundPair (length packet) (replyIn (runPacket packet store p room)) found) (runPacket packet store p room .store)
       (runPacket packet store p room .pointers)
       (runPacket packet store p room .reply)
   unfolding pairAt frontPair ranPair replyPair replyIn

@@ -10,9 +10,9 @@ use borrow.Author.Tests.{eq-eqb, ne-eqb}
 use Rattle.lbp16.specs.declared.pointer.Pointers.{Pointers}
 use Rattle.packet.specs.Command.{limit}
 use Rattle.card.specs.Run.{Outcome, badState}
-use Rattle.cue.specs.Output.{parts, withFrame, Front, frontOf, framedBytes, behindFrame, withFront, apartFrom, apart}
+use Rattle.cue.specs.Output.{frames, withFrame, Front, frontOf, bytesInFrame, behindFrame, withFront, apartFrom, apart}
 use Rattle.cue.specs.Play.{isAccepted, play}
-use Rattle.recording.specs.Recording.{Turned, turned, pairAt, goodBytes, verdictOf, yes, Left, stopped, judgedFrom}
+use Rattle.recording.specs.Recording.{PairLeft, pairLeft, pairAt, goodBytes, verdictOf, yes, Left, stopped, judgedFrom}
 use Rattle.recording.specs.Recording
 use Rattle.recording.specs.Recording.{judgedParts, judgedIn, Said, said, judged}
 use Rattle.recording.specs.Show.{shownRun, replyIn, shown, repliesOf}
@@ -24,20 +24,20 @@ use Rattle.recording.proofs.ShowLaws.{play-replies}
 use Rattle.recording.proofs.JudgeLaws.{Accepted}
 
 -- Taking apart: at the end, and past a packet and its reply.
-apart-end : (rest : List ℕ) (fuel : ℕ) → Front.end ≡ frontOf rest → apartFrom fuel rest ≡ parts []
+apart-end : (rest : List ℕ) (fuel : ℕ) → Front.end ≡ frontOf rest → apartFrom fuel rest ≡ frames []
 unfolding apartFrom withFront
 apart-end rest zero e = refl
 apart-end rest (suc fuel) e = rw (← e) refl
 
 apart-one : (rest : List ℕ) (n fuel : ℕ) → Front.frame n ≡ frontOf rest
-    → apartFrom (suc fuel) rest ≡ withFrame (framedBytes n rest) (apartFrom fuel (behindFrame n rest))
+    → apartFrom (suc fuel) rest ≡ withFrame (bytesInFrame n rest) (apartFrom fuel (behindFrame n rest))
 unfolding apartFrom withFront
 apart-one rest n fuel e = rw (whole-frame rest n e .length-is, ← e) refl
 
 apart-two : (rest : List ℕ) (n m : ℕ) → Front.frame n ≡ frontOf rest → Front.frame m ≡ frontOf (behindFrame n rest)
     → (fuel : ℕ) → length rest ≤ fuel → (ps : List (List ℕ))
-    → ((most : ℕ) → length (drop (8 + n + m) rest) ≤ most → apartFrom most (drop (8 + n + m) rest) ≡ parts ps)
-    → apartFrom fuel rest ≡ parts (framedBytes n rest ∷ framedBytes m (behindFrame n rest) ∷ ps)
+    → ((most : ℕ) → length (drop (8 + n + m) rest) ≤ most → apartFrom most (drop (8 + n + m) rest) ≡ frames ps)
+    → apartFrom fuel rest ≡ frames (bytesInFrame n rest ∷ bytesInFrame m (behindFrame n rest) ∷ ps)
 unfolding withFrame
 apart-two rest n m e f zero l ps more = absurd (omega (arith, front-within rest n e))
 apart-two rest n m e f (suc zero) l ps more = absurd (omega (arith, front-within rest n e))
@@ -50,13 +50,13 @@ apart-two rest n m e f (suc (suc fuel)) l ps more =
 record YesFrom (n i : ℕ) (rest store : List ℕ) (p : Pointers) (left : Left) : Type 0 where
   packets : List (List ℕ)
   count : n ≡ length packets + i
-  recorded : (fuel : ℕ) → length rest ≤ fuel → apartFrom fuel rest ≡ parts (shown packets store p)
+  recorded : (fuel : ℕ) → length rest ≤ fuel → apartFrom fuel rest ≡ frames (shown packets store p)
   accepted : Accepted packets store p
   left-store : left .store ≡ play packets zeroRooms store p .store
   left-pointers : left .pointers ≡ play packets zeroRooms store p .pointers
 
 yes-end : (n i at : ℕ) (rest store : List ℕ) (p : Pointers) (room : List ℕ) → Front.end ≡ frontOf rest → yes i ≡ yes n
-    → YesFrom n i rest store p (stopped (yes i) at (turned Pair.End store p room))
+    → YesFrom n i rest store p (stopped (yes i) at (pairLeft Pair.End store p room))
 unfolding play shown
 yes-end n i at rest store p room e h =
     record {
@@ -69,20 +69,20 @@ yes-end n i at rest store p room e h =
     }
 
 good-reply : (rest store : List ℕ) (p : Pointers) (room : List ℕ) (k m : ℕ) (o : Outcome) → GoodAt rest store p room k m o
-    → framedBytes m (behindFrame k rest) ≡ replyIn o
+    → bytesInFrame m (behindFrame k rest) ≡ replyIn o
 unfolding replyIn
 good-reply rest store p room k m o g = g .same
 
 -- one packet more, with its reply
 yes-more : (n i : ℕ) (rest store : List ℕ) (p : Pointers) (room : List ℕ) → length room ≡ limit → (k m : ℕ) (o : Outcome)
     → GoodAt rest store p room k m o → (left : Left)
-    → YesFrom n (1 + i) (drop (8 + k + m) rest) (shownRun (framedBytes k rest) store p .store)
-    (shownRun (framedBytes k rest) store p .pointers)
+    → YesFrom n (1 + i) (drop (8 + k + m) rest) (shownRun (bytesInFrame k rest) store p .store)
+    (shownRun (bytesInFrame k rest) store p .pointers)
     left
     → YesFrom n i rest store p left
 unfolding shown
 yes-more n i rest store p room l k m o g left more =
-    let packet = framedBytes k rest in
+    let packet = bytesInFrame k rest in
     let z = shownRun packet store p in
     let a = shown-alike packet store p room l in
     let ok = sym (ap (λ o. isAccepted (o .answer)) (g .ran) ∙ ap isAccepted (a .answer)) ∙ g .accepted in
@@ -94,14 +94,14 @@ yes-more n i rest store p room l k m o g left more =
       recorded =
           λ f w.
           apart-two rest k m (g .packet) (g .reply) f w (shown (more .packets) (z .store) (z .pointers)) (more .recorded)
-          ∙ ap (λ r. parts (packet ∷ r ∷ shown (more .packets) (z .store) (z .pointers))) reply;
+          ∙ ap (λ r. frames (packet ∷ r ∷ shown (more .packets) (z .store) (z .pointers))) reply;
       accepted = ap (λ q. q .accepted) played ∙ rw ok (more .accepted);
       left-store = more .left-store ∙ sym (ap (λ q. q .store) played);
       left-pointers = more .left-pointers ∙ sym (ap (λ q. q .pointers) played);
     }
 
 -- what is said after a packet with its reply was found
-next : ℕ → ℕ → ℕ → List ℕ → Turned → Left
+next : ℕ → ℕ → ℕ → List ℕ → PairLeft → Left
 next fuel i at rest t =
     cond (eqb (goodBytes (t .pair)) 0) (stopped (verdictOf (t .pair) i) at t)
     (judgedFrom fuel (1 + i) (at + goodBytes (t .pair)) (drop (goodBytes (t .pair)) rest) (t .store) (t .pointers) (t .room))
@@ -125,7 +125,7 @@ yes-next fuel means i at rest store p room some l n =
     pair-cases rest store p room (λ t. next fuel i at rest t .verdict ≡ yes n → YesFrom n i rest store p (next fuel i at rest t))
     (λ e h. yes-end n i at rest store p room e h)
     (λ k m o g.
-    let packet = framedBytes k rest in
+    let packet = bytesInFrame k rest in
     let z = shownRun packet store p in
     let a = shown-alike packet store p room l in
     let v = front-within rest k (g .packet) in
@@ -156,7 +156,7 @@ yes-from (suc fuel) = yes-suc fuel (yes-from fuel)
 pub record Shown (recording : List ℕ) (n : ℕ) (store : List ℕ) (p : Pointers) : Type 0 where
   pub packets : List (List ℕ)
   pub count : n ≡ length packets
-  pub recorded : apart recording ≡ parts (shown packets store p)
+  pub recorded : apart recording ≡ frames (shown packets store p)
   pub played : (rooms : ℕ → List ℕ) → ((i : ℕ) → length (rooms i) ≡ limit)
       → play packets rooms store p
       ≡ record {
@@ -175,7 +175,7 @@ yes-means recording store p n h = go (badState store p) refl h
     case : Bool → Said
     case b =
         said
-        (cond b (stopped (Recording.refused 1 0) 0 (turned Pair.End store p (replicate limit 0)))
+        (cond b (stopped (Recording.refused 1 0) 0 (pairLeft Pair.End store p (replicate limit 0)))
         (judgedParts recording store p (replicate limit 0)))
 
     go : (b : Bool) → badState store p ≡ b → case b .verdict ≡ yes n → Shown recording n store p

@@ -8,7 +8,7 @@ use Rattle.lbp16.specs.Answer.{Answer}
 use Rattle.lbp16.specs.declared.pointer.Pointers.{Pointers}
 use Rattle.packet.specs.Command.{limit}
 use Rattle.card.specs.Run.{Outcome, badState, runPacket}
-use Rattle.cue.specs.Output.{Front, frontOf, framedBytes, behindFrame}
+use Rattle.cue.specs.Output.{Front, frontOf, bytesInFrame, behindFrame}
 use Rattle.cue.specs.Play.{replyLength}
 use Rattle.recording.specs.declared.pair.Pair.{Pair}
 use Rattle.recording.specs.declared.Judgment.{Judgment}
@@ -43,17 +43,17 @@ unfoldable pub replyPair : Front → ℕ → List ℕ → List ℕ → Pair
 replyPair Front.end n expected behind = Pair.Cut true
 replyPair Front.cut n expected behind = Pair.Cut true
 replyPair Front.unmarked n expected behind = Pair.Unmarked true
-replyPair (Front.frame m) n expected behind = foundPair n expected (framedBytes m behind)
+replyPair (Front.frame m) n expected behind = foundPair n expected (bytesInFrame m behind)
 
 -- What a packet with its reply is found to be, and what the packet leaves. `room` holds the card's own reply.
-pub record Turned : Type 0 where
+pub record PairLeft : Type 0 where
   pub pair : Pair
   pub store : List ℕ
   pub pointers : Pointers
   pub room : List ℕ
 
-abbrev pub turned : Pair → List ℕ → Pointers → List ℕ → Turned
-turned pair store p room = record { pair = pair; store = store; pointers = p; room = room }
+abbrev pub pairLeft : Pair → List ℕ → Pointers → List ℕ → PairLeft
+pairLeft pair store p room = record { pair = pair; store = store; pointers = p; room = room }
 
 -- the reply is judged only if the packet was accepted
 unfoldable pub answeredPair : Answer → ℕ → List ℕ → List ℕ → Pair
@@ -61,17 +61,17 @@ answeredPair (Answer.refused m place) n reply behind = Pair.Refused
 answeredPair (Answer.accepted values) n reply behind =
     replyPair (frontOf behind) n (take (replyLength (Answer.accepted values)) reply) behind
 
-unfoldable pub ranPair : ℕ → List ℕ → Outcome → Turned
+unfoldable pub ranPair : ℕ → List ℕ → Outcome → PairLeft
 ranPair n rest o =
-    turned (answeredPair (o .answer) n (o .reply) (behindFrame n rest)) (o .store) (o .pointers) (o .reply)
+    pairLeft (answeredPair (o .answer) n (o .reply) (behindFrame n rest)) (o .store) (o .pointers) (o .reply)
 
-unfoldable pub frontPair : Front → List ℕ → List ℕ → Pointers → List ℕ → Turned
-frontPair Front.end rest store p room = turned Pair.End store p room
-frontPair Front.cut rest store p room = turned (Pair.Cut false) store p room
-frontPair Front.unmarked rest store p room = turned (Pair.Unmarked false) store p room
-frontPair (Front.frame n) rest store p room = ranPair n rest (runPacket (framedBytes n rest) store p room)
+unfoldable pub frontPair : Front → List ℕ → List ℕ → Pointers → List ℕ → PairLeft
+frontPair Front.end rest store p room = pairLeft Pair.End store p room
+frontPair Front.cut rest store p room = pairLeft (Pair.Cut false) store p room
+frontPair Front.unmarked rest store p room = pairLeft (Pair.Unmarked false) store p room
+frontPair (Front.frame n) rest store p room = ranPair n rest (runPacket (bytesInFrame n rest) store p room)
 
-unfoldable pub pairAt : List ℕ → List ℕ → Pointers → List ℕ → Turned
+unfoldable pub pairAt : List ℕ → List ℕ → Pointers → List ℕ → PairLeft
 pairAt rest store p room = frontPair (frontOf rest) rest store p room
 
 -- the bytes of a packet and its reply that are as they should be, 0 of all others
@@ -106,12 +106,12 @@ pub record Left : Type 0 where
   pub pointers : Pointers
   pub room : List ℕ
 
-abbrev pub stopped : Verdict → ℕ → Turned → Left
+abbrev pub stopped : Verdict → ℕ → PairLeft → Left
 stopped v at t = record { verdict = v; at = at; store = t .store; pointers = t .pointers; room = t .room }
 
 -- From packet i on, at the recording's byte `at`. `fuel` bounds the packets; more than the bytes is enough.
 unfoldable pub judgedFrom : ℕ → ℕ → ℕ → List ℕ → List ℕ → Pointers → List ℕ → Left
-judgedFrom zero i at rest store p room = stopped (yes i) at (turned Pair.End store p room)
+judgedFrom zero i at rest store p room = stopped (yes i) at (pairLeft Pair.End store p room)
 judgedFrom (suc fuel) i at rest store p room =
     let t = pairAt rest store p room in
     let k = goodBytes (t .pair) in
@@ -124,7 +124,7 @@ judgedParts recording store p room = judgedFrom (suc (length recording)) 0 0 rec
 -- Refusal 1, of store and pointers, comes before all else.
 unfoldable pub judgedIn : List ℕ → List ℕ → Pointers → List ℕ → Left
 judgedIn recording store p room =
-    cond (badState store p) (stopped (refused 1 0) 0 (turned Pair.End store p room)) (judgedParts recording store p room)
+    cond (badState store p) (stopped (refused 1 0) 0 (pairLeft Pair.End store p room)) (judgedParts recording store p room)
 
 -- All that the judge answers and leaves: its reply room, of 1,472 bytes, is its own.
 pub record Said : Type 0 where

@@ -71,9 +71,9 @@ fn judge_parts(recording: &[u8], store: &mut [u8], p: Pointers, room: &mut [u8; 
     let mut at: usize = 0;
     let mut rest = recording;
     loop {
-        let turn = pair::pair_at(rest, store, pointers, room);
-        let found = turn.pair;
-        pointers = turn.pointers;
+        let next = pair::pair_at(rest, store, pointers, room);
+        let found = next.pair;
+        pointers = next.pointers;
         let k = pair::good_bytes(found);
         if k == 0 {
             return Judged {

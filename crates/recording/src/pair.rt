@@ -7,10 +7,10 @@ use packet::judge::Verdict;
 ghost use mathlib.Core.Path.{_≡_};
 ghost use Prim.Native.Nat.{_+_, _^_, _<_, _≤_};
 ghost use lib.ListN.{length};
-ghost use Rattle.cue.specs.Output.{frontOf, framedBytes};
+ghost use Rattle.cue.specs.Output.{frontOf, bytesInFrame};
 ghost use Rattle.packet.specs.Command.{limit};
 ghost use Rattle.card.specs.Run.{runPacket};
-ghost use Rattle.recording.specs.Recording.{firstWrong, goodBytes, replyPair, turned, ranPair, pairAt};
+ghost use Rattle.recording.specs.Recording.{firstWrong, goodBytes, replyPair, pairLeft, ranPair, pairAt};
 
 // What is found: a fault of the packet or of its reply, or none. Cut and unmarked say whether it is the reply's part.
 pub enum Pair {
@@ -27,7 +27,7 @@ pub enum Pair {
 }
 
 // What is found, and the pointers that the packet leaves.
-pub struct Turn {
+pub struct PairRan {
     pub pair: Pair,
     pub pointers: Pointers,
 }
@@ -72,44 +72,44 @@ fn reply_at(expected: &[u8], behind: &[u8], n: usize) -> Pair
 }
 
 // Runs the packet of `n` bytes at the front and judges its reply. Afterwards the packet's own reply stands in the room.
-fn whole_at(rest: &[u8], n: usize, store: &mut [u8], p: Pointers, room: &mut [u8]) -> Turn
+fn whole_at(rest: &[u8], n: usize, store: &mut [u8], p: Pointers, room: &mut [u8]) -> PairRan
     requires { ⌜ (4 + n ≤ length (now rest)) × (length (now room) ≡ limit) ⌝ }
-    ensures { λ r. ⌜ turned (r .pair) (now (store .exit)) (r .pointers) (now (room .exit))
+    ensures { λ r. ⌜ pairLeft (r .pair) (now (store .exit)) (r .pointers) (now (room .exit))
         ≡ ranPair n (now (rest .entry))
-        (runPacket (framedBytes n (now (rest .entry))) (now (store .entry)) p (now (room .entry))) ⌝ }
+        (runPacket (bytesInFrame n (now (rest .entry))) (now (store .entry)) p (now (room .entry))) ⌝ }
 {
     let end = 4 + n;
     let ran = run::run(&rest[4..end], store, p, room);
     let pointers = ran.pointers;
     let answer = ran.answer;
     let Verdict::Accepted(value) = answer else {
-        return Turn {
+        return PairRan {
             pair: Pair::Refused,
             pointers,
         };
     };
     let length = value as usize;
     let pair = reply_at(&room[..length], &rest[end..], n);
-    Turn { pair, pointers }
+    PairRan { pair, pointers }
 }
 
 // What is found at the front, and what the packet leaves if there is a whole one.
-pub(crate) fn pair_at(rest: &[u8], store: &mut [u8], p: Pointers, room: &mut [u8]) -> Turn
+pub(crate) fn pair_at(rest: &[u8], store: &mut [u8], p: Pointers, room: &mut [u8]) -> PairRan
     requires { ⌜ length (now room) ≡ limit ⌝ }
-    ensures { λ r. ⌜ turned (r .pair) (now (store .exit)) (r .pointers) (now (room .exit))
+    ensures { λ r. ⌜ pairLeft (r .pair) (now (store .exit)) (r .pointers) (now (room .exit))
         ≡ pairAt (now (rest .entry)) (now (store .entry)) p (now (room .entry)) ⌝ }
 {
     let frame = frame::frame_at(rest);
     match frame {
-        Frame::End => Turn {
+        Frame::End => PairRan {
             pair: Pair::End,
             pointers: p,
         },
-        Frame::Cut => Turn {
+        Frame::Cut => PairRan {
             pair: Pair::Cut(false),
             pointers: p,
         },
-        Frame::Unmarked => Turn {
+        Frame::Unmarked => PairRan {
             pair: Pair::Unmarked(false),
             pointers: p,
         },

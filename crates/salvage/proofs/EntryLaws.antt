@@ -4,7 +4,7 @@ use mathlib.Core.List.{List, [], _∷_}
 use native.Mathlib.Omega.{arith}
 use lib.ListN.{length, length-append}
 use lib.Seq.{length-take-le}
-use Rattle.salvage.specs.Salvage.{Stretch, kept, skipped, skip, scan, keptBytes, keptCount, entryCount, logFrom, logged, entries, output}
+use Rattle.salvage.specs.Salvage.{Stretch, kept, skipped, skip, scan, bytesOfKept, keptCount, entryCount, logFrom, logged, entries, output}
 use Rattle.salvage.proofs.ScanLaws.{by-scan, stands-whole, size-some, bytesOf, joined, covered}
 
 -- no skipped stretch in front
@@ -75,8 +75,8 @@ unfolding entries
 few-entries list = let f = few-from (scan list) (apart list) in rw covered at f
 
 -- The output is never longer than the list.
-kept-within : (ss : List Stretch) → length (keptBytes ss) ≤ length (joined ss)
-unfolding keptBytes joined bytesOf
+kept-within : (ss : List Stretch) → length (bytesOfKept ss) ≤ length (joined ss)
+unfolding bytesOfKept joined bytesOf
 kept-within [] = omega arith
 kept-within (kept r ∷ ss) = let h = kept-within ss in rw (length-append, length-append) (omega arith)
 kept-within (skipped bs ∷ ss) = let h = kept-within ss in rw length-append (omega arith)
@@ -86,8 +86,8 @@ unfolding output
 output-length list = let h = kept-within (scan list) in rw covered at h
 
 -- A record has six bytes or more, so there are fewer records than bytes.
-records-from : (ss : List Stretch) → Apart ss → keptCount ss ≤ length (keptBytes ss)
-unfolding keptBytes keptCount Apart
+records-from : (ss : List Stretch) → Apart ss → keptCount ss ≤ length (bytesOfKept ss)
+unfolding bytesOfKept keptCount Apart
 records-from [] a = omega arith
 records-from (kept r ∷ ss) a = rw length-append (omega (arith, a .0, records-from ss (a .1)))
 records-from (skipped bs ∷ ss) a = records-from ss (a .2)

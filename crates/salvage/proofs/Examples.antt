@@ -17,9 +17,9 @@ use Rattle.salvage.specs.Salvage.{salvaged, output, logged}
 all : Bool
 unfolding Space.spaceOf Space.areaRow Space.isAbsent Space.row Bytes.number Step.isInfo Step.rowBy Step.carried
     Step.isStatus Step.isWrite Step.namesUnlock Rules.first Rules.misaligned Rules.pastEnd Rules.barred Records.markAt
-    Records.recordKind Records.recordBytes Records.recordSpace Records.valueBytes Records.recordStep Records.reserved
+    Records.recordKind Records.recordBytes Records.recordSpace Records.bytesOfValue Records.recordStep Records.reserved
     Records.badElement Records.upperHalf Records.recordRefusals Salvage.stands Salvage.sizeAt Salvage.skip
-    Salvage.scanFrom Salvage.scan Salvage.keptBytes Salvage.logFrom Salvage.keptCount Salvage.entryCount Salvage.output
+    Salvage.scanFrom Salvage.scan Salvage.bytesOfKept Salvage.logFrom Salvage.keptCount Salvage.entryCount Salvage.output
     Salvage.logged Salvage.entries Salvage.salvaged
 all = true
 

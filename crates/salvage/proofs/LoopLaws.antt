@@ -7,17 +7,17 @@ use native.Mathlib.Nat.{add-zero, zero-add, add-assoc}
 use lib.ListN.{length, take, drop, length-append, length-drop, drop-of-length-le}
 use lib.Seq.{drop-drop}
 use Rattle.packet.proofs.SliceLaws.{tail-whole}
-use Rattle.salvage.specs.Salvage.{Stretch, kept, skipped, scan, scanFrom, keptBytes, logFrom, keptCount, entryCount, counted, entries}
+use Rattle.salvage.specs.Salvage.{Stretch, kept, skipped, scan, scanFrom, bytesOfKept, logFrom, keptCount, entryCount, counted, entries}
 use Rattle.salvage.specs.Inside.{firstSpan, spanOf, tally, recordPart, entryPart, Roomy}
 use Rattle.salvage.specs.declared.scan.Span.{Span}
 use Rattle.salvage.specs.declared.scan.Counts.{Counts}
 use Rattle.salvage.proofs.ScanLaws.{bytesOf, joined, begins, covered}
 
 -- output, log and counts of stretches one behind the other
-pub kept-append : (a b : List Stretch) → keptBytes (a ++ b) ≡ keptBytes a ++ keptBytes b
-unfolding keptBytes
+pub kept-append : (a b : List Stretch) → bytesOfKept (a ++ b) ≡ bytesOfKept a ++ bytesOfKept b
+unfolding bytesOfKept
 kept-append [] b = refl
-kept-append (kept r ∷ a) b = rw (kept-append a b) (sym (append-assoc r (keptBytes a) (keptBytes b)))
+kept-append (kept r ∷ a) b = rw (kept-append a b) (sym (append-assoc r (bytesOfKept a) (bytesOfKept b)))
 kept-append (skipped bs ∷ a) b = kept-append a b
 
 pub log-append : (at : ℕ) (a b : List Stretch) → logFrom at (a ++ b) ≡ logFrom at a ++ logFrom (at + length (joined a)) b
@@ -53,25 +53,25 @@ log-length at (skipped bs ∷ ss) = let h = log-length (at + length bs) ss in om
 -- one stretch more
 module _ (done : List Stretch) (t : Stretch) (s : Span) (e : s ≡ spanOf t) where
   tally-one : (c : Counts) → c ≡ counted done → tally c s ≡ counted (done ++ t ∷ [])
-  unfolding tally counted spanOf keptCount keptBytes entryCount
+  unfolding tally counted spanOf keptCount bytesOfKept entryCount
   tally-one c f = rw (f, e, kept-append, length-append, records-append, entries-append) (go t)
     where
       go : (t : Stretch) → tally (counted done) (spanOf t)
           ≡ record {
             records = keptCount done + keptCount (t ∷ []);
-            bytes = length (keptBytes done) + length (keptBytes (t ∷ []));
+            bytes = length (bytesOfKept done) + length (bytesOfKept (t ∷ []));
             entries = entryCount done + entryCount (t ∷ []);
           }
       go (kept r) = simp (append-nil, add-zero)
       go (skipped bs) = simp add-zero
 
   pub kept-one : (rest : List ℕ) → bytesOf t ≡ take (length (bytesOf t)) rest
-      → keptBytes (done ++ t ∷ []) ≡ keptBytes done ++ recordPart s rest
-  unfolding recordPart spanOf keptBytes bytesOf
+      → bytesOfKept (done ++ t ∷ []) ≡ bytesOfKept done ++ recordPart s rest
+  unfolding recordPart spanOf bytesOfKept bytesOf
   kept-one rest f = rw (e, kept-append) (go t f)
     where
       go : (t : Stretch) → bytesOf t ≡ take (length (bytesOf t)) rest
-          → keptBytes done ++ keptBytes (t ∷ []) ≡ keptBytes done ++ recordPart (spanOf t) rest
+          → bytesOfKept done ++ bytesOfKept (t ∷ []) ≡ bytesOfKept done ++ recordPart (spanOf t) rest
       go (kept r) f = rw (append-nil, ← f) refl
       go (skipped bs) f = refl
 
@@ -90,11 +90,11 @@ pub record Held (list : List ℕ) (at : ℕ) (done : List Stretch) : Type 0 wher
   pub same : scan list ≡ done ++ scan (drop at list)
   pub place : at ≡ length (joined done)
   pub records : keptCount done ≤ at
-  pub bytes : length (keptBytes done) ≤ at
+  pub bytes : length (bytesOfKept done) ≤ at
   pub entries : entryCount done ≤ at
 
 pub held-first : (list : List ℕ) → Held list 0 []
-unfolding joined keptCount keptBytes entryCount
+unfolding joined keptCount bytesOfKept entryCount
 held-first list =
     record { same = refl; place = refl; records = omega arith; bytes = omega arith; entries = omega arith }
 
@@ -124,9 +124,9 @@ span-bytes (skipped bs) = refl
 
 -- a stretch counts at most as much as it has bytes
 counts-within : (t : Stretch) → 1 ≤ length (bytesOf t)
-    → (keptCount (t ∷ []) ≤ length (bytesOf t)) × (length (keptBytes (t ∷ [])) ≤ length (bytesOf t))
+    → (keptCount (t ∷ []) ≤ length (bytesOf t)) × (length (bytesOfKept (t ∷ [])) ≤ length (bytesOf t))
     × (entryCount (t ∷ []) ≤ length (bytesOf t))
-unfolding keptCount keptBytes entryCount bytesOf
+unfolding keptCount bytesOfKept entryCount bytesOf
 counts-within (kept r) h = rw append-nil (omega arith)
 counts-within (skipped bs) h = omega arith
 
@@ -189,7 +189,7 @@ module _ (list : List ℕ) (at : ℕ) (c : Counts) (done : List Stretch) (s : Sp
       let o = some-bytes in
       let q = h .held in
       let r : c .records ≡ keptCount done = ap (λ (x : Counts). x .records) (h .counts) in
-      let b : c .bytes ≡ length (keptBytes done) = ap (λ (x : Counts). x .bytes) (h .counts) in
+      let b : c .bytes ≡ length (bytesOfKept done) = ap (λ (x : Counts). x .bytes) (h .counts) in
       let n : c .entries ≡ entryCount done = ap (λ (x : Counts). x .entries) (h .counts) in
       record {
         records = omega (arith, q .records);

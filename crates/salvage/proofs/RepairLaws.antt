@@ -21,7 +21,7 @@ use Rattle.cue.proofs.CompileLaws.{whole, accepted-exactly, compile-cases}
 use Rattle.cue.proofs.OwnBytesLaws.{same-kind, same-step, judged-alike, any-index}
 use Rattle.cue.proofs.WalkLaws.{records-next, Remains, remains-all, remains-next}
 use Rattle.salvage.specs.Salvage.{stands, sizeAt, Stretch, kept, skipped, skip, scan, scanFrom}
-use Rattle.salvage.specs.Salvage.{keptBytes, logFrom, output, logged}
+use Rattle.salvage.specs.Salvage.{bytesOfKept, logFrom, output, logged}
 use Rattle.salvage.proofs.ScanLaws.{by-scan, scan-kept, stands-passes, stands-whole, size-some, bytesOf, joined, covered}
 
 -- A record's own bytes: it stands there, and nothing follows it.
@@ -71,8 +71,8 @@ AllKept [] = Unit
 AllKept (kept r ∷ ss) = AllKept ss
 AllKept (skipped bs ∷ ss) = ⊥
 
-all-joined : (ss : List Stretch) → AllKept ss → keptBytes ss ≡ joined ss
-unfolding AllKept keptBytes joined bytesOf
+all-joined : (ss : List Stretch) → AllKept ss → bytesOfKept ss ≡ joined ss
+unfolding AllKept bytesOfKept joined bytesOf
 all-joined [] a = refl
 all-joined (kept r ∷ ss) a = rw (all-joined ss a) refl
 all-joined (skipped bs ∷ ss) a = absurd a
@@ -129,17 +129,17 @@ alone-size : (r x : List ℕ) → Alone r → sizeAt (r ++ x) ≡ length r
 alone-size r x a = same-size r x (omega (arith, a .size, size-some r)) ∙ a .size
 
 -- the scan of the output finds the kept records, and nothing to skip
-again : (ss : List Stretch) → Whole ss → AllKept (scan (keptBytes ss))
-unfolding Whole keptBytes scan scanFrom AllKept
+again : (ss : List Stretch) → Whole ss → AllKept (scan (bytesOfKept ss))
+unfolding Whole bytesOfKept scan scanFrom AllKept
 again [] w = tt
 again (kept r ∷ ss) w =
-    one-more (r ++ keptBytes ss) (alone-stands r _ (w .0)) (rw (alone-size r (keptBytes ss) (w .0), drop-append-seam) (again ss (w .1)))
+    one-more (r ++ bytesOfKept ss) (alone-stands r _ (w .0)) (rw (alone-size r (bytesOfKept ss) (w .0), drop-append-seam) (again ss (w .1)))
 again (skipped bs ∷ ss) w = again ss w
 
 -- Salvaging the result again changes nothing and logs nothing.
 pub result-unchanged : (list : List ℕ) → Unchanged (output list)
 unfolding output
-result-unchanged list = unchanged (keptBytes (scan list)) (again (scan list) (scan-whole list))
+result-unchanged list = unchanged (bytesOfKept (scan list)) (again (scan list) (scan-whole list))
 
 -- a list's records, or 21 where they are too many
 pub playable : List Step → Listed
@@ -193,18 +193,18 @@ unfolding playableFrom recordsFrom
 none-kept zero index n = rw (le-ltb mostRecords (index + 0) (omega arith)) refl
 none-kept (suc fuel) index n = rw (le-ltb mostRecords (index + 0) (omega arith)) refl
 
-from-kept : (fuel index : ℕ) (ss : List Stretch) → Whole ss → length (keptBytes ss) ≤ fuel → index ≤ mostRecords
-    → recordsFrom fuel index (keptBytes ss) ≡ playableFrom index (keptSteps ss)
-unfolding Whole keptBytes keptSteps
+from-kept : (fuel index : ℕ) (ss : List Stretch) → Whole ss → length (bytesOfKept ss) ≤ fuel → index ≤ mostRecords
+    → recordsFrom fuel index (bytesOfKept ss) ≡ playableFrom index (keptSteps ss)
+unfolding Whole bytesOfKept keptSteps
 from-kept fuel index [] w h n = none-kept fuel index n
 from-kept fuel index (skipped bs ∷ ss) w h n = from-kept fuel index ss w h n
 from-kept fuel index (kept r ∷ ss) w h n =
     go fuel (simp length-append at h) (eqb index mostRecords) refl (λ k. from-kept k (index + 1) ss (w .1))
   where
-    go : (fuel : ℕ) → length r + length (keptBytes ss) ≤ fuel → (b : Bool) → eqb index mostRecords ≡ b
-        → ((k : ℕ) → length (keptBytes ss) ≤ k → index + 1 ≤ mostRecords
-        → recordsFrom k (index + 1) (keptBytes ss) ≡ playableFrom (index + 1) (keptSteps ss))
-        → recordsFrom fuel index (r ++ keptBytes ss) ≡ playableFrom index (recordStep r ∷ keptSteps ss)
+    go : (fuel : ℕ) → length r + length (bytesOfKept ss) ≤ fuel → (b : Bool) → eqb index mostRecords ≡ b
+        → ((k : ℕ) → length (bytesOfKept ss) ≤ k → index + 1 ≤ mostRecords
+        → recordsFrom k (index + 1) (bytesOfKept ss) ≡ playableFrom (index + 1) (keptSteps ss))
+        → recordsFrom fuel index (r ++ bytesOfKept ss) ≡ playableFrom index (recordStep r ∷ keptSteps ss)
     go zero l b e more = absurd (omega (arith, w .0 .size, size-some r))
     go (suc k) l true e more = rw (eqb-true index mostRecords e) (past-kept k r _ _ (w .0))
     go (suc k) l false e more =

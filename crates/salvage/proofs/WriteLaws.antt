@@ -9,7 +9,7 @@ use lib.ListN.{length, take, drop, getD, set, length-append, length-drop}
 use lib.Seq.{sets, sets-eq, drop-drop, take-append-seam, drop-append-add, take-suc, length-take-le}
 use Rattle.packet.proofs.SliceLaws.{tail-whole}
 use Rattle.lbp16.proofs.ListLaws.{sets-append}
-use Rattle.salvage.specs.Salvage.{Stretch, kept, scan, keptBytes, logFrom, entryCount, counted, output, logged, entries}
+use Rattle.salvage.specs.Salvage.{Stretch, kept, scan, bytesOfKept, logFrom, entryCount, counted, output, logged, entries}
 use Rattle.salvage.specs.Inside.{firstSpan, tally, recordPart, entryPart, Ready}
 use Rattle.salvage.specs.declared.scan.Span.{Span}
 use Rattle.salvage.specs.declared.scan.Counts.{Counts}
@@ -63,7 +63,7 @@ front-more old front part all room at r e a h =
 pub record Writing (list room₀ log₀ : List ℕ) (at : ℕ) (c : Counts) (room log : List ℕ) : Type 0 where
   pub done : List Stretch
   pub counting : Counting list at c done
-  pub room-is : room ≡ keptBytes done ++ drop (length (keptBytes done)) room₀
+  pub room-is : room ≡ bytesOfKept done ++ drop (length (bytesOfKept done)) room₀
   pub log-is : log ≡ logFrom 0 done ++ drop (length (logFrom 0 done)) log₀
 
 -- a room keeps its length
@@ -72,7 +72,7 @@ same-room : (old front room : List ℕ) → room ≡ front ++ drop (length front
 same-room old front room e h = ap length e ∙ rw (length-append, length-drop) (omega arith)
 
 pub writing-first : (list room log : List ℕ) (c : Counts) → c ≡ counted [] → Writing list room log 0 c room log
-unfolding keptBytes logFrom
+unfolding bytesOfKept logFrom
 writing-first list room log c e = record { done = []; counting = counting-first list c e; room-is = refl; log-is = refl }
 
 -- the stretches so far have no more entries than all
@@ -85,7 +85,7 @@ module _ (list room₀ log₀ room log : List ℕ) (at : ℕ) (c : Counts) (read
   pub room-same : length room ≡ length room₀
   room-same =
       let h = w .counting .held in
-      same-room room₀ (keptBytes (w .done)) room (w .room-is) (omega (arith, h .bytes, held-within h, ready .bytes))
+      same-room room₀ (bytesOfKept (w .done)) room (w .room-is) (omega (arith, h .bytes, held-within h, ready .bytes))
 
   pub log-same : length log ≡ length log₀
   log-same =
@@ -104,7 +104,7 @@ module _ (list room₀ log₀ room log : List ℕ) (at : ℕ) (c : Counts) (read
     abbrev rest : List ℕ
     rest = take (length list - at) (drop at list)
 
-    bytes-is : c .bytes ≡ length (keptBytes (w .done))
+    bytes-is : c .bytes ≡ length (bytesOfKept (w .done))
     unfolding counted
     bytes-is = ap (λ (x : Counts). x .bytes) (w .counting .counts)
 
@@ -114,7 +114,7 @@ module _ (list room₀ log₀ room log : List ℕ) (at : ℕ) (c : Counts) (read
         let n : c .entries ≡ entryCount (w .done) = ap (λ (x : Counts). x .entries) (w .counting .counts) in
         omega (arith, log-length 0 (w .done))
 
-    kept-more : keptBytes (w .done ++ t .t ∷ []) ≡ keptBytes (w .done) ++ recordPart s rest
+    kept-more : bytesOfKept (w .done ++ t .t ∷ []) ≡ bytesOfKept (w .done) ++ recordPart s rest
     kept-more = rw tail-whole (kept-one (w .done) (t .t) s (t .span) (drop at list) (t .front))
 
     log-more : logFrom 0 (w .done ++ t .t ∷ []) ≡ logFrom 0 (w .done) ++ entryPart s at
@@ -123,8 +123,8 @@ module _ (list room₀ log₀ room log : List ℕ) (at : ℕ) (c : Counts) (read
     -- there is room for the record
     pub record-room : (s .bytes ≤ length rest) × (c .bytes + length (recordPart s rest) ≤ length room)
     record-room =
-        let n : length (keptBytes (w .done ++ t .t ∷ [])) ≡ length (keptBytes (w .done)) + length (recordPart s rest) =
-        ap length kept-more ∙ length-append (keptBytes (w .done)) (recordPart s rest) in
+        let n : length (bytesOfKept (w .done ++ t .t ∷ [])) ≡ length (bytesOfKept (w .done)) + length (recordPart s rest) =
+        ap length kept-more ∙ length-append (bytesOfKept (w .done)) (recordPart s rest) in
         let k = held-within (t .next) in (
           rw (tail-whole, length-drop) (omega arith),
           omega (arith, t .next .bytes, ready .bytes, room-same, bytes-is),
@@ -147,7 +147,7 @@ module _ (list room₀ log₀ room log : List ℕ) (at : ℕ) (c : Counts) (read
           counting = counting-next list at c (w .done) s (w .counting) l e d f;
           room-is =
               p
-              ∙ front-more room₀ (keptBytes (w .done)) (recordPart s rest) _ room (c .bytes) (w .room-is) bytes-is kept-more
+              ∙ front-more room₀ (bytesOfKept (w .done)) (recordPart s rest) _ room (c .bytes) (w .room-is) bytes-is kept-more
               (omega (arith, room-same));
           log-is = q ∙ front-more log₀ (logFrom 0 (w .done)) (entryPart s at) _ log (2 * c .entries) (w .log-is) entries-is log-more (omega (arith, log-same));
         }

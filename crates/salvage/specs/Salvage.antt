@@ -40,10 +40,10 @@ unfoldable pub scan : List ℕ → List Stretch
 scan list = scanFrom (length list) list
 
 -- the output: the kept records' bytes, in order
-unfoldable pub keptBytes : List Stretch → List ℕ
-keptBytes [] = []
-keptBytes (kept r ∷ ss) = r ++ keptBytes ss
-keptBytes (skipped bs ∷ ss) = keptBytes ss
+unfoldable pub bytesOfKept : List Stretch → List ℕ
+bytesOfKept [] = []
+bytesOfKept (kept r ∷ ss) = r ++ bytesOfKept ss
+bytesOfKept (skipped bs ∷ ss) = bytesOfKept ss
 
 -- the log: of each skipped stretch its start, counted from `at`, and its length
 unfoldable pub logFrom : ℕ → List Stretch → List ℕ
@@ -63,10 +63,10 @@ entryCount (kept r ∷ ss) = entryCount ss
 entryCount (skipped bs ∷ ss) = suc (entryCount ss)
 
 unfoldable pub counted : List Stretch → Counts
-counted ss = record { records = keptCount ss; bytes = length (keptBytes ss); entries = entryCount ss }
+counted ss = record { records = keptCount ss; bytes = length (bytesOfKept ss); entries = entryCount ss }
 
 unfoldable pub output : List ℕ → List ℕ
-output list = keptBytes (scan list)
+output list = bytesOfKept (scan list)
 
 unfoldable pub logged : List ℕ → List ℕ
 logged list = logFrom 0 (scan list)

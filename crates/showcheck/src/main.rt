@@ -9,7 +9,7 @@ fn put(room: &[u8], said: usize) {
 }
 
 fn say(recording: &[u8], room: &mut [u8; 256]) {
-    let said = findings::findings(recording, room);
+    let said = showcheck_output::findings(recording, room);
     put(room, said);
 }
 

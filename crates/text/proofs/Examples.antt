@@ -3,12 +3,12 @@ use mathlib.Core.Path.{_≡_, refl}
 use mathlib.Core.List.{[], _∷_}
 use mathlib.Core.Bool.{Bool, true}
 use Rattle.text.specs.Number
-use Rattle.text.specs.Number.{ascii, decimal, signedDecimal, hexadecimal, hexBytes}
+use Rattle.text.specs.Number.{ascii, decimal, signedDecimal, hexadecimal, bytesOfHex}
 
 -- opens every definition that the examples compute with
 all : Bool
 unfolding Number.ascii Number.digit Number.decimalFrom Number.decimal Number.signedDecimal Number.hexDigit Number.hexadecimal
-    Number.hexBytes
+    Number.bytesOfHex
 all = true
 
 pub most-records : decimal 100000 ≡ ascii "100000"
@@ -27,6 +27,6 @@ pub last-digits : hexadecimal 4 0x12345 ≡ ascii "2345"
 unfolding all
 last-digits = refl
 
-pub two-bytes : hexBytes (0x0A ∷ 0xFF ∷ []) ≡ ascii " 0A FF"
+pub two-bytes : bytesOfHex (0x0A ∷ 0xFF ∷ []) ≡ ascii " 0A FF"
 unfolding all
 two-bytes = refl

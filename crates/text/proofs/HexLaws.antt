@@ -8,7 +8,7 @@ use native.Mathlib.Numerals.{add-one, sub-one}
 use lib.ListN.{length, getD, drop}
 use lib.Seq.{drop-cons}
 use lib.Pow.{pow-mono}
-use Rattle.text.specs.Number.{ascii, hexDigit, hexadecimal, hexBytes}
+use Rattle.text.specs.Number.{ascii, hexDigit, hexadecimal, bytesOfHex}
 use Rattle.text.specs.Room.{filled, putAt}
 use Rattle.text.proofs.RoomLaws.{put-rest}
 
@@ -17,8 +17,8 @@ unfolding hexadecimal
 hex-length zero n = refl
 hex-length (suc k) n = let e = hex-length k n in omega arith
 
-pub bytes-length : (bs : List ℕ) → length (hexBytes bs) ≡ 3 * length bs
-unfolding hexBytes ascii hexadecimal
+pub bytes-length : (bs : List ℕ) → length (bytesOfHex bs) ≡ 3 * length bs
+unfolding bytesOfHex ascii hexadecimal
 bytes-length [] = refl
 bytes-length (b ∷ bs) = let e = bytes-length bs in omega arith
 
@@ -50,15 +50,15 @@ hex-put n (suc k) at room {d} h e f = rw sub-one (rw (← (rw sub-one at e)) (pu
 
 -- a byte's two digits behind a space, and a turn of the loop over bytes
 pub byte-put : (b at : ℕ) (room : List ℕ) {x y r : ℕ} {room₁ : List ℕ} → b < 256 → x ≡ hexDigit (b / 16) → y ≡ hexDigit (b % 16)
-    → filled r room₁ ≡ putAt (32 ∷ x ∷ y ∷ []) at room → filled r room₁ ≡ putAt (hexBytes (b ∷ [])) at room
-unfolding hexBytes hexadecimal ascii
+    → filled r room₁ ≡ putAt (32 ∷ x ∷ y ∷ []) at room → filled r room₁ ≡ putAt (bytesOfHex (b ∷ [])) at room
+unfolding bytesOfHex hexadecimal ascii
 byte-put b at room h e f p =
     let high : b / 16 ^ 1 % 16 ≡ b / 16 = omega arith in
     let low : b / 16 ^ 0 % 16 ≡ b % 16 = omega arith in
     rw (high, low, ← e, ← f) p
 
 pub bytes-put : (s : List ℕ) (i at : ℕ) (room : List ℕ) {r : ℕ} {room₁ : List ℕ} → i < length s
-    → filled r room₁ ≡ putAt (hexBytes (getD s i 0 ∷ [])) at room
-    → putAt (hexBytes (drop (i + 1) s)) r room₁ ≡ putAt (hexBytes (drop i s)) at room
-unfolding hexBytes hexadecimal ascii
-bytes-put s i at room h f = rw (drop-cons s i 0 h, add-one) (put-rest (hexBytes (getD s i 0 ∷ [])) (hexBytes (drop (suc i) s)) at room f)
+    → filled r room₁ ≡ putAt (bytesOfHex (getD s i 0 ∷ [])) at room
+    → putAt (bytesOfHex (drop (i + 1) s)) r room₁ ≡ putAt (bytesOfHex (drop i s)) at room
+unfolding bytesOfHex hexadecimal ascii
+bytes-put s i at room h f = rw (drop-cons s i 0 h, add-one) (put-rest (bytesOfHex (getD s i 0 ∷ [])) (bytesOfHex (drop (suc i) s)) at room f)

@@ -37,6 +37,6 @@ hexadecimal zero n = []
 hexadecimal (suc k) n = hexDigit (n / 16 ^ k % 16) ∷ hexadecimal k n
 
 -- bytes as two digits each, behind a space
-unfoldable pub hexBytes : List ℕ → List ℕ
-hexBytes [] = []
-hexBytes (b ∷ bs) = ascii " " ++ hexadecimal 2 b ++ hexBytes bs
+unfoldable pub bytesOfHex : List ℕ → List ℕ
+bytesOfHex [] = []
+bytesOfHex (b ∷ bs) = ascii " " ++ hexadecimal 2 b ++ bytesOfHex bs

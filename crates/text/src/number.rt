@@ -4,7 +4,7 @@ use crate::put;
 ghost use mathlib.Core.Path.{_≡_};
 ghost use mathlib.Core.List.{[], _∷_};
 ghost use Prim.Native.Nat.{_/_, _%_, _^_, _<_};
-ghost use Rattle.text.specs.Number.{decimal, signedDecimal, hexDigit, hexadecimal, hexBytes};
+ghost use Rattle.text.specs.Number.{decimal, signedDecimal, hexDigit, hexadecimal, bytesOfHex};
 ghost use Rattle.text.specs.Room.{filled, putAt};
 
 // A digit's code: 0 to 9, and A to F.
@@ -68,13 +68,13 @@ pub fn hex(out: &mut [u8], at: usize, digits: usize, n: u64) -> usize
 
 // A byte as two digits, behind a space.
 pub fn byte(out: &mut [u8], at: usize, b: u8) -> usize
-    ensures { λ r. ⌜ filled r (now (out .exit)) ≡ putAt (hexBytes (b ∷ [])) at (now (out .entry)) ⌝ }
+    ensures { λ r. ⌜ filled r (now (out .exit)) ≡ putAt (bytesOfHex (b ∷ [])) at (now (out .entry)) ⌝ }
 {
     put(out, at, &[b' ', code(b / 16), code(b % 16)])
 }
 
 pub fn bytes(out: &mut [u8], at: usize, s: &[u8]) -> usize
-    ensures { λ r. ⌜ filled r (now (out .exit)) ≡ putAt (hexBytes (now (s .entry))) at (now (out .entry)) ⌝ }
+    ensures { λ r. ⌜ filled r (now (out .exit)) ≡ putAt (bytesOfHex (now (s .entry))) at (now (out .entry)) ⌝ }
 {
     let mut next = least(at, out.len());
     let mut i: usize = 0;

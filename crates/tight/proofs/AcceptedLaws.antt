@@ -15,7 +15,7 @@ use Rattle.lbp16.specs.declared.pointer.Pointers.{Pointers}
 use Rattle.lbp16.proofs.BoolLaws.{or-false}
 use Rattle.packet.specs.Step.{Kind, read, write, infoRead, Step, isInfo, isWrite, carried}
 use Rattle.packet.specs.Rules.{anyStep}
-use Rattle.packet.specs.Command.{fieldsAt, kindOf, headerBytes, commandBytes, addressUsed, stride, payload, elements, areaBytes}
+use Rattle.packet.specs.Command.{fieldsAt, kindOf, headerBytes, commandBytes, addressUsed, stride, payload, elements, bytesOfArea}
 use Rattle.packet.specs.Command.{handed, stepsAt}
 use Rattle.packet.specs.Judge.{Carried, accepted, begin, carry, judgeFrom, judge}
 use Rattle.packet.proofs.StepLaws.{any-append}
@@ -128,7 +128,7 @@ command-sized p f rest l = go (kindOf f) (rw length-drop (omega arith))
     go : (k : Kind) → f .count * carried k s ≤ length (drop (headerBytes f) rest)
         → anyStep missized
         (elements k s (f .count) (addressUsed p f rest) (stride f)
-        (cond (isInfo k) (areaBytes s (pointerOf p false s)) (drop (headerBytes f) rest)))
+        (cond (isInfo k) (bytesOfArea s (pointerOf p false s)) (drop (headerBytes f) rest)))
         ≡ false
     go read l = no-write-sized read s _ _ _ _ refl
     go write l = write-sized s _ _ _ _ l

@@ -13,7 +13,7 @@ use Rattle.cue.specs.Records
 use Rattle.cue.specs.Output.{apart}
 use Rattle.cue.specs.Compile.{output, compileListed, needed}
 use Rattle.cue.specs.declared.CompileAnswer.{CompileAnswer}
-use Rattle.tight.specs.Tight.{rejected, refused, partsChecked, proposalChecked, checked, checkListed}
+use Rattle.tight.specs.Tight.{rejected, refused, framesChecked, proposalChecked, checked, checkListed}
 use Rattle.tight.specs.declared.TightAnswer.{TightAnswer}
 
 -- a refused list
@@ -53,7 +53,7 @@ module _ (list proposal : List ℕ) (a : CompileAnswer)
         rw (c .same, lt-ltb (length (output (c .xs))) (length proposal) (rw (c .size) at h)) refl
 
     pub gone-through : length proposal ≤ bytes → (t : TightAnswer)
-        → ((xs : List Step) → recordsOf list ≡ records xs → checkListed t ≡ partsChecked (apart proposal) xs)
+        → ((xs : List Step) → recordsOf list ≡ records xs → checkListed t ≡ framesChecked (apart proposal) xs)
         → checkListed t ≡ checked list proposal
     unfolding checked proposalChecked
     gone-through h t g =

@@ -15,13 +15,13 @@ use Rattle.packet.specs.Judge.{Carried, judge}
 use Rattle.packet.specs.Judge
 use Rattle.cue.specs.Records.{Listed, recordsOf}
 use Rattle.cue.specs.Records
-use Rattle.cue.specs.Output.{Apart, unsound, parts, apart}
+use Rattle.cue.specs.Output.{Apart, unsound, frames, apart}
 use Rattle.cue.specs.Compile.{output}
 use Rattle.cue.proofs.Relations.{Good}
 use Rattle.cue.proofs.RecordLaws.{records-good}
 use Rattle.tight.specs.Tight.{Doing, steps, infoStep, packetDoes, both, packetsDo, withoutUnlocks, sameSteps}
 use Rattle.tight.specs.Tight.{accepted, rejected}
-use Rattle.tight.specs.Tight.{stepsChecked, partsChecked, proposalChecked, checked}
+use Rattle.tight.specs.Tight.{stepsChecked, framesChecked, proposalChecked, checked}
 use Rattle.tight.specs.Unset.{usesUnset}
 use Rattle.tight.proofs.AcceptedLaws.{any-split}
 use Rattle.tight.proofs.PointerLaws.{from-fresh, fresh-does}
@@ -47,7 +47,7 @@ pub record Accepts (list proposal : List ℕ) (count : ℕ) : Type 0 where
   pub list-records : recordsOf list ≡ Records.records xs
   pub packets : List (List ℕ)
   pub packet-count : count ≡ length packets
-  pub sound : apart proposal ≡ parts packets
+  pub sound : apart proposal ≡ frames packets
   pub done : List Step
   pub accepts : AcceptedAll packets done
   pub set : SetAll packets
@@ -90,11 +90,11 @@ accepted-once (AcceptedAll.more {end = c} l e a) (AcceptedAll.more {end = d} m f
 
 -- A proposal is accepted exactly if all of these hold.
 pub accepted-is : (list proposal : List ℕ) (count : ℕ) → checked list proposal ≡ accepted count → Accepts list proposal count
-unfolding checked proposalChecked partsChecked stepsChecked
+unfolding checked proposalChecked framesChecked stepsChecked
 accepted-is list proposal count = go (recordsOf list) refl
   where
     end : (xs : List Step) (ps : List (List ℕ)) (d : Doing) → recordsOf list ≡ Records.records xs
-        → length proposal ≤ length (output xs) → apart proposal ≡ parts ps → packetsDo ps ≡ d
+        → length proposal ≤ length (output xs) → apart proposal ≡ frames ps → packetsDo ps ≡ d
         → stepsChecked d xs (length ps) ≡ accepted count → Accepts list proposal count
     end xs ps Doing.none r l a d e = let z : _≡_ {A = ℕ} 0 1 = cc in absurd (omega arith)
     end xs ps (steps ss) r l a d e = last (sameSteps (withoutUnlocks ss) xs) refl e
@@ -119,10 +119,10 @@ accepted-is list proposal count = go (recordsOf list) refl
 
     middle : (xs : List Step) (long : Bool) (a : Apart) → recordsOf list ≡ Records.records xs
         → ltb (length (output xs)) (length proposal) ≡ long → apart proposal ≡ a
-        → cond long rejected (partsChecked a xs) ≡ accepted count → Accepts list proposal count
+        → cond long rejected (framesChecked a xs) ≡ accepted count → Accepts list proposal count
     middle xs true a r l q e = let z : _≡_ {A = ℕ} 0 1 = cc in absurd (omega arith)
     middle xs false unsound r l q e = let z : _≡_ {A = ℕ} 0 1 = cc in absurd (omega arith)
-    middle xs false (parts ps) r l q e = end xs ps (packetsDo ps) r (ltb-false _ _ l) q refl e
+    middle xs false (frames ps) r l q e = end xs ps (packetsDo ps) r (ltb-false _ _ l) q refl e
 
     go : (v : Listed) → recordsOf list ≡ v → proposalChecked v proposal ≡ accepted count → Accepts list proposal count
     go (Records.refused n i) r e = let z : _≡_ {A = ℕ} 0 1 = cc in absurd (omega arith)
@@ -133,7 +133,7 @@ pub no-info : (list proposal : List ℕ) (count : ℕ) (a : Accepts list proposa
 no-info list proposal count a = without-info (a .done) (rw (a .same) (records-good list (a .xs) (a .list-records)))
 
 pub is-accepted : (list proposal : List ℕ) (count : ℕ) → Accepts list proposal count → checked list proposal ≡ accepted count
-unfolding checked proposalChecked partsChecked stepsChecked
+unfolding checked proposalChecked framesChecked stepsChecked
 is-accepted list proposal count a =
     rw (
       a .list-records,
@@ -148,8 +148,8 @@ is-accepted list proposal count a =
 -- Accepted packets that do what no good record and no unlock write does are rejected.
 module _ (f : Step → Bool) (never : (ss : List Step) → Good (withoutUnlocks ss) → anyStep f ss ≡ false) where
   rejected-for : (list proposal : List ℕ) (xs : List Step) → recordsOf list ≡ Records.records xs → (ps : List (List ℕ))
-      → apart proposal ≡ parts ps → (ss : List Step) → AcceptedAll ps ss → anyStep f ss ≡ true → checked list proposal ≡ rejected
-  unfolding checked proposalChecked partsChecked stepsChecked
+      → apart proposal ≡ frames ps → (ss : List Step) → AcceptedAll ps ss → anyStep f ss ≡ true → checked list proposal ≡ rejected
+  unfolding checked proposalChecked framesChecked stepsChecked
   rejected-for list proposal xs r ps a ss d h =
       rw (r, a, go (packetsDo ps) refl) (either (ltb (length (output xs)) (length proposal)))
     where
@@ -168,11 +168,11 @@ module _ (f : Step → Bool) (never : (ss : List Step) → Good (withoutUnlocks 
 
 -- An info command is rejected, and so is a write of another value than 0x5A02 to the unlock cell.
 pub info-rejected : (list proposal : List ℕ) (xs : List Step) → recordsOf list ≡ Records.records xs → (ps : List (List ℕ))
-    → apart proposal ≡ parts ps → (ss : List Step) → AcceptedAll ps ss → anyStep infoStep ss ≡ true
+    → apart proposal ≡ frames ps → (ss : List Step) → AcceptedAll ps ss → anyStep infoStep ss ≡ true
     → checked list proposal ≡ rejected
 info-rejected = rejected-for infoStep without-info
 
 pub other-unlock-rejected : (list proposal : List ℕ) (xs : List Step) → recordsOf list ≡ Records.records xs
-    → (ps : List (List ℕ)) → apart proposal ≡ parts ps → (ss : List Step) → AcceptedAll ps ss → anyStep otherUnlock ss ≡ true
+    → (ps : List (List ℕ)) → apart proposal ≡ frames ps → (ss : List Step) → AcceptedAll ps ss → anyStep otherUnlock ss ≡ true
     → checked list proposal ≡ rejected
 other-unlock-rejected = rejected-for otherUnlock without-other

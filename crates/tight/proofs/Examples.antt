@@ -27,7 +27,7 @@ turns = register 0 ++ status 2 ++ register 4 ++ status 4 ++ register 8 ++ status
 
 -- opens every definition that a check computes with
 unfoldable packets : ℕ
-unfolding all Bytes.pairsOf Command.areaBytes Info.areaWords Unset.among Unset.usesFrom Unset.usesUnset
+unfolding all Bytes.pairsOf Command.bytesOfArea Info.areaWords Unset.among Unset.usesFrom Unset.usesUnset
 packets = 0
 
 unfoldable steps : ℕ
@@ -39,7 +39,7 @@ unfolding Tight.doneBy Tight.infoStep Tight.plainOnly Tight.packetDoes Tight.bot
 does = 0
 
 unfoldable every : ℕ
-unfolding packets steps does Tight.stepsChecked Tight.partsChecked Tight.proposalChecked Tight.checked
+unfolding packets steps does Tight.stepsChecked Tight.framesChecked Tight.proposalChecked Tight.checked
 every = 0
 
 -- one command without increment

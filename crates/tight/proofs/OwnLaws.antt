@@ -6,7 +6,7 @@ use native.Mathlib.Omega.{arith}
 use lib.ListN.{length}
 use Rattle.packet.specs.Step.{Step}
 use Rattle.cue.specs.Records.{records, recordsOf}
-use Rattle.cue.specs.Packing.{Command, packetBytes, packetSteps}
+use Rattle.cue.specs.Packing.{Command, bytesOfPacket, packetSteps}
 use Rattle.cue.specs.Compile.{packed, output}
 use Rattle.cue.proofs.Relations.{Good}
 use Rattle.cue.proofs.RecordLaws.{records-good}
@@ -20,14 +20,14 @@ use Rattle.tight.proofs.MixedLaws.{without-append, without-mixed, witho
 use Rattle.tight.proofs.CheckedLaws.{let-through, is-accepted}
 
 -- a packet of the packing rule gives every command its address
-kept-does : (cs : List Command) (xs : List Step) → Kept cs xs → Good xs → packetDoes (packetBytes cs) ≡ steps (packetSteps cs)
+kept-does : (cs : List Command) (xs : List Step) → Kept cs xs → Good xs → packetDoes (bytesOfPacket cs) ≡ steps (packetSteps cs)
 kept-does cs xs k g =
-    all-does (packetBytes cs) (packetSteps cs) (k .short) (read-from cs (k .sound) (k .reply))
+    all-does (bytesOfPacket cs) (packetSteps cs) (k .short) (read-from cs (k .sound) (k .reply))
     (without-info (packetSteps cs) (rw (without-mixed (k .mixed) g) g))
 
 -- The steps of its packets, unlock writes left out, are the records.
 packed-does : {css : List (List Command)} {xs : List Step} → Packed css xs → Good xs
-    → (ss : List Step) × (packetsDo (map packetBytes css) ≡ steps ss) × (withoutUnlocks ss ≡ xs)
+    → (ss : List Step) × (packetsDo (map bytesOfPacket css) ≡ steps ss) × (withoutUnlocks ss ≡ xs)
 unfolding packetsDo both withoutUnlocks
 packed-does Packed.none g = ([], refl, refl)
 packed-does (Packed.more {cs = cs} {xs = xs} {ys = ys} k p) g =

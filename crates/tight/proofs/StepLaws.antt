@@ -15,7 +15,7 @@ use Rattle.packet.specs.Bytes.{number}
 use Rattle.packet.specs.Step.{Step, isStatus, isWrite, isInfo, namesUnlock, carried}
 use Rattle.packet.specs.Command.{pickKind, payload}
 use Rattle.packet.proofs.StepLaws.{carried-le}
-use Rattle.cue.specs.Records.{recordStep, recordKind, recordSpace, recordBytes, valueBytes}
+use Rattle.cue.specs.Records.{recordStep, recordKind, recordSpace, recordBytes, bytesOfValue}
 use Rattle.cue.specs.Records.{recordAt}
 use Rattle.cue.specs.declared.records.Record.{Record}
 use Rattle.lbp16.proofs.CaseLaws.{space-cases}
@@ -152,7 +152,7 @@ module _ {w : Bool} {space address : ℕ} {bytes rest : List ℕ} {r : Record} {
       && (not (differs r w space address) && sameBytes (front w space bytes) (front w space (drop 6 rest))))
       (Taken.Bytes n)
       Taken.Rejected
-  unfolding stepTakes recordStep recordAt recordKind recordSpace valueBytes
+  unfolding stepTakes recordStep recordAt recordKind recordSpace bytesOfValue
   taken-is =
       rw (c .plain, bytes-is, c .read)
       (ap

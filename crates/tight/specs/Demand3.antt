@@ -9,7 +9,7 @@ use Rattle.packet.specs.Step.{Step}
 use Rattle.packet.specs.Command.{limit}
 use Rattle.card.specs.Run.{badState}
 use Rattle.cue.specs.Records.{records, recordsOf}
-use Rattle.cue.specs.Output.{parts, apart}
+use Rattle.cue.specs.Output.{frames, apart}
 use Rattle.cue.specs.Play.{play}
 use Rattle.cue.specs.Demand3.{SameAsRecords}
 
@@ -20,7 +20,7 @@ pub record TightDemand3 (list proposal : List ℕ) (count : ℕ) : Type 0 where
   pub xs : List Step
   pub list-records : recordsOf list ≡ records xs
   pub packets : List (List ℕ)
-  pub taken-apart : apart proposal ≡ parts packets
+  pub taken-apart : apart proposal ≡ frames packets
   pub packet-count : count ≡ length packets
   pub same : (store : List ℕ) (p : Pointers) (rooms : ℕ → List ℕ) → badState store p ≡ false
       → ((i : ℕ) → length (rooms i) ≡ limit)

@@ -14,7 +14,7 @@ use Rattle.packet.specs.Judge.{judge}
 use Rattle.packet.specs.Judge
 use Rattle.cue.specs.Records.{Listed, recordsOf}
 use Rattle.cue.specs.Records
-use Rattle.cue.specs.Output.{Apart, unsound, parts, apart}
+use Rattle.cue.specs.Output.{Apart, unsound, frames, apart}
 use Rattle.cue.specs.Compile.{output}
 use Rattle.tight.specs.Unset.{usesUnset}
 use Rattle.tight.specs.declared.TightAnswer.{TightAnswer}
@@ -93,15 +93,15 @@ unfoldable pub stepsChecked : Doing → List Step → ℕ → Checked
 stepsChecked none xs count = rejected
 stepsChecked (steps ss) xs count = cond (sameSteps (withoutUnlocks ss) xs) (accepted count) rejected
 
-unfoldable pub partsChecked : Apart → List Step → Checked
-partsChecked unsound xs = rejected
-partsChecked (parts ps) xs = stepsChecked (packetsDo ps) xs (length ps)
+unfoldable pub framesChecked : Apart → List Step → Checked
+framesChecked unsound xs = rejected
+framesChecked (frames ps) xs = stepsChecked (packetsDo ps) xs (length ps)
 
 -- no longer than the packing rule's output
 unfoldable pub proposalChecked : Listed → List ℕ → Checked
 proposalChecked (Records.refused n i) proposal = refused n i
 proposalChecked (Records.records xs) proposal =
-    cond (ltb (length (output xs)) (length proposal)) rejected (partsChecked (apart proposal) xs)
+    cond (ltb (length (output xs)) (length proposal)) rejected (framesChecked (apart proposal) xs)
 
 unfoldable pub checked : List ℕ → List ℕ → Checked
 checked list proposal = proposalChecked (recordsOf list) proposal

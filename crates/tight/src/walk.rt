@@ -26,7 +26,7 @@ ghost use Rattle.packet.specs.Judge.{Carried, accepted, judge};
 ghost use Rattle.card.specs.Inside.{LetPass};
 ghost use Rattle.cue.specs.Records.{records, recordsOf, recordBytes};
 ghost use Rattle.cue.specs.Output.{apart, frontOf};
-ghost use Rattle.tight.specs.Tight.{unlocks, sameBytes, doneBy, partsChecked, checkListed};
+ghost use Rattle.tight.specs.Tight.{unlocks, sameBytes, doneBy, framesChecked, checkListed};
 ghost use Rattle.tight.specs.Inside.{unset, elementStep, stepTakes, stepsTake, doingTakes, packetTakes, frameTakes};
 
 // The bytes that something takes from the front of a list or of a proposal, if it may stand there.
@@ -201,7 +201,7 @@ fn frame_bytes(rest: &[u8]) -> Taken
 
 // The packets of a proposal beside the records of an accepted list: all of each must be taken.
 pub(crate) fn packets_checked(list: &[u8], proposal: &[u8]) -> TightAnswer
-    ensures { λ r. ⌜ ((xs : List Step) → recordsOf (now (list .entry)) ≡ records xs → checkListed r ≡ partsChecked (apart (now (proposal .entry))) xs) ⌝ }
+    ensures { λ r. ⌜ ((xs : List Step) → recordsOf (now (list .entry)) ≡ records xs → checkListed r ≡ framesChecked (apart (now (proposal .entry))) xs) ⌝ }
 {
     let mut rest = proposal;
     let mut taken: usize = 0;

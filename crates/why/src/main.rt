@@ -3,7 +3,7 @@ use card::check::STORE_BYTES;
 use libc::STDIN_FILENO;
 use libc::STDOUT_FILENO;
 use packet::command::LIMIT;
-use wording::given;
+use why_output::given;
 
 fn put(room: &[u8], said: usize) {
     if said <= room.len() {
@@ -13,7 +13,7 @@ fn put(room: &[u8], said: usize) {
 
 fn say(found: bool, file: &[u8], packet: &[u8], store: &[u8], room: &mut [u8; 16384]) {
     let given = given::given_by(os::arg_count(), found);
-    let said = wording::whole(given, file, packet, store, room);
+    let said = why_output::whole(given, file, packet, store, room);
     put(room, said);
 }
 

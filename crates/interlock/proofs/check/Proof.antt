@@ -23,15 +23,15 @@ returns c =
 protected-place-requires : tie.Need-protected-place-requires
 protected-place-requires c κs = search needs
 
-check-list-requires : tie.Need-check-list-requires
-check-list-requires c κs = search needs
+check-lent-requires : tie.Need-check-lent-requires
+check-lent-requires c κs = search needs
 
 returns-2 : tie.Need-returns-2
 unfolding verdictListed
 returns-2 c =
     let p = c .before .before in
     let good = ap verdictListed (sym (p .before .enum-told .given .1)) ∙ p .before .before .before .soundness .ensures in
-    check-passes _ _ _ _ _ good _ (p .protected-place .ensures) (c .before .if1 .taken) _ (c .check-list .ensures)
+    check-passes _ _ _ _ _ good _ (p .protected-place .ensures) (c .before .if1 .taken) _ (c .check-lent .ensures)
 
 held-back-requires : tie.Need-held-back-requires
 held-back-requires c κs = search needs
@@ -52,7 +52,7 @@ check-spec =
     enum-told-2
     returns
     protected-place-requires
-    check-list-requires
+    check-lent-requires
     returns-2
     held-back-requires
     returns-3)

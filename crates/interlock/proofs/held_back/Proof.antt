@@ -5,8 +5,8 @@ use mathlib.Core.Path.{sym, ap, _∙_}
 use Rattle.packet.specs.Verdict.{verdictListed}
 use Rattle.interlock.proofs.GuardedLaws.{stays, replaced}
 
-check-list-requires : tie.Need-check-list-requires
-check-list-requires c κs = search needs
+check-lent-requires : tie.Need-check-lent-requires
+check-lent-requires c κs = search needs
 
 enum-told : tie.Need-enum-told
 enum-told c = search needs
@@ -17,7 +17,7 @@ enum-told-2 c = search needs
 returns : tie.Need-returns
 unfolding verdictListed
 returns c =
-    let e = c .before .before .check-list .ensures in
+    let e = c .before .before .check-lent .ensures in
     e ∙ stays _ _ _ _ (sym e ∙ ap verdictListed (c .enum-told2 .given .1))
 
 refused-requires : tie.Need-refused-requires
@@ -26,10 +26,10 @@ refused-requires c κs = search needs
 returns-2 : tie.Need-returns-2
 unfolding verdictListed
 returns-2 c =
-    let e = c .before .before .before .check-list .ensures in
+    let e = c .before .before .before .check-lent .ensures in
     c .refused .ensures ∙ replaced _ _ _ (ap verdictListed (sym (c .before .enum-told .given .1)) ∙ e)
 
 pub held-back-spec : {M : Type 1} → statement M
 held-back-spec =
     tie.close
-    (tie.spec check-list-requires enum-told enum-told-2 returns refused-requires returns-2)
+    (tie.spec check-lent-requires enum-told enum-told-2 returns refused-requires returns-2)

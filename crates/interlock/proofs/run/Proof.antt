@@ -25,8 +25,8 @@ returns c =
 protected-place-requires : tie.Need-protected-place-requires
 protected-place-requires c κs = search needs
 
-run-list-requires : tie.Need-run-list-requires
-run-list-requires c κs = search needs
+run-lent-requires : tie.Need-run-lent-requires
+run-lent-requires c κs = search needs
 
 same-length : tie.Need-same-length
 same-length c = search needs
@@ -40,7 +40,7 @@ same-length-3 c = search needs
 returns-2 : tie.Need-returns-2
 unfolding verdictListed
 returns-2 c =
-    let done = c .before .before .before .before .before .before .run-list .ensures in
+    let done = c .before .before .before .before .before .before .run-lent .ensures in
     let p = c .before .before .before .before .before .before .before .before .before .before .before in
     let good = ap verdictListed (sym (p .before .before .enum-told .given .1)) ∙ p .before .before .before .before .soundness .ensures in
     let none = c .before .before .before .before .before .before .before .before .before .before .if1 .taken in
@@ -90,7 +90,7 @@ run-spec =
     enum-told-2
     returns
     protected-place-requires
-    run-list-requires
+    run-lent-requires
     same-length
     same-length-2
     same-length-3

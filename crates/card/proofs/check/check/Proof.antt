@@ -6,15 +6,15 @@ use Rattle.card.proofs.check.check.Tie as tie
 listed-requires : tie.Need-listed-requires
 listed-requires c κs = search needs
 
-slice-aggregate-check-list : tie.Need-slice-aggregate-check-list
-slice-aggregate-check-list c = search needs
+slice-aggregate-check-lent : tie.Need-slice-aggregate-check-lent
+slice-aggregate-check-lent c = search needs
 
-check-list-requires : tie.Need-check-list-requires
-check-list-requires c κs = search needs
+check-lent-requires : tie.Need-check-lent-requires
+check-lent-requires c κs = search needs
 
 returns : tie.Need-returns
-returns c = check-listed _ _ _ _ _ (c .before .before .listed .ensures) (c .check-list .ensures)
+returns c = check-listed _ _ _ _ _ (c .before .before .listed .ensures) (c .check-lent .ensures)
 
 pub check-spec : {M : Type 1} → statement M
 check-spec =
-    tie.close (tie.spec listed-requires slice-aggregate-check-list check-list-requires returns)
+    tie.close (tie.spec listed-requires slice-aggregate-check-lent check-lent-requires returns)

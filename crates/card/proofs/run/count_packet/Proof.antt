@@ -2,7 +2,7 @@ use borrow.Author.Needs.{needs}
 use Rattle.card.proofs.run.count_packet.Statement.{statement}
 use Rattle.card.proofs.run.count_packet.Tie as tie
 use mathlib.Core.Path.{refl, _∙_}
-use Rattle.card.specs.Run.{counted, countBytes}
+use Rattle.card.specs.Run.{counted, bytesOfCount}
 use Rattle.card.proofs.RunLaws.{count-modulo}
 
 fetch2-requires : tie.Need-fetch2-requires
@@ -24,7 +24,7 @@ same-length : tie.Need-same-length
 same-length c = search needs
 
 returns : tie.Need-returns
-unfolding counted countBytes
+unfolding counted bytesOfCount
 returns c = c .before .before .store2 .ensures ∙ rw (count-modulo, c .before .before .before .before .fetch2 .ensures) refl
 
 pub count-packet-spec : {M : Type 1} → statement M

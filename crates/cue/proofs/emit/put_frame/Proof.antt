@@ -1,7 +1,7 @@
 use borrow.Author.Needs.{needs}
 use Rattle.cue.proofs.emit.put_frame.Statement.{statement}
 use Rattle.cue.proofs.emit.put_frame.Tie as tie
-use Rattle.cue.specs.Summary.{framedAt, frameBytes}
+use Rattle.cue.specs.Summary.{framedAt, bytesOfMark}
 
 cast-put4 : tie.Need-cast-put4
 cast-put4 c = search needs
@@ -13,7 +13,7 @@ same-length : tie.Need-same-length
 same-length c = search needs
 
 returns : tie.Need-returns
-unfolding framedAt frameBytes
+unfolding framedAt bytesOfMark
 returns c = c .before .before .put4 .ensures
 
 pub put-frame-spec : {M : Type 1} → statement M

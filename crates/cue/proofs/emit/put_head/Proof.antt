@@ -1,7 +1,7 @@
 use borrow.Author.Needs.{needs}
 use Rattle.cue.proofs.emit.put_head.Statement.{statement}
 use Rattle.cue.proofs.emit.put_head.Tie as tie
-use Rattle.cue.specs.Summary.{headedAt, headBytes}
+use Rattle.cue.specs.Summary.{headedAt, bytesOfHeader}
 use mathlib.Core.Path.{refl}
 
 word-of-requires : tie.Need-word-of-requires
@@ -14,7 +14,7 @@ same-length : tie.Need-same-length
 same-length c = search needs
 
 returns : tie.Need-returns
-unfolding headedAt headBytes
+unfolding headedAt bytesOfHeader
 returns c = rw (c .before .before .put4 .ensures, c .before .before .before .word-of .ensures) refl
 
 pub put-head-spec : {M : Type 1} → statement M

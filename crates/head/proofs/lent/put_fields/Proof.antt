@@ -3,7 +3,7 @@ use Rattle.head.proofs.lent.put_fields.Statement.{statement}
 use Rattle.head.proofs.lent.put_fields.Tie as tie
 use lib.ListN.{length-set}
 use native.Mathlib.Omega.{arith}
-use Rattle.head.specs.Exports.{fieldBytes}
+use Rattle.head.specs.Exports.{bytesOfFields}
 use Rattle.lbp16.proofs.ListLaws.{stored-whole}
 
 flag-requires : tie.Need-flag-requires
@@ -43,7 +43,7 @@ same-length : tie.Need-same-length
 same-length c = search needs
 
 returns : tie.Need-returns
-unfolding fieldBytes
+unfolding bytesOfFields
 returns c =
     let at-flag = c .before .before .before in
     let at-args = at-flag .before .before in

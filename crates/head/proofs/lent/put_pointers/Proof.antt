@@ -1,7 +1,7 @@
 use borrow.Author.Needs.{needs}
 use Rattle.head.proofs.lent.put_pointers.Statement.{statement}
 use Rattle.head.proofs.lent.put_pointers.Tie as tie
-use Rattle.lbp16.specs.Pointer.{spaceList, pointerList}
+use Rattle.lbp16.specs.Pointer.{lentSpaces, lentPointers}
 use Rattle.lbp16.proofs.ListLaws.{stored-whole}
 
 put-spaces-requires : tie.Need-put-spaces-requires
@@ -14,7 +14,7 @@ same-length : tie.Need-same-length
 same-length c = search needs
 
 returns : tie.Need-returns
-unfolding pointerList spaceList
+unfolding lentPointers lentSpaces
 returns c =
     let at-put-spaces = c .before .before .before .before .before .before in
     let at-args = at-put-spaces .before .before .before in

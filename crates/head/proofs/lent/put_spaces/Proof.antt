@@ -3,7 +3,7 @@ use Rattle.head.proofs.lent.put_spaces.Statement.{statement}
 use Rattle.head.proofs.lent.put_spaces.Tie as tie
 use lib.ListN.{length-set}
 use native.Mathlib.Omega.{arith}
-use Rattle.lbp16.specs.Pointer.{spaceList}
+use Rattle.lbp16.specs.Pointer.{lentSpaces}
 use Rattle.head.proofs.ExportLaws.{four-stored}
 
 mul-ps : tie.Need-mul-ps
@@ -43,7 +43,7 @@ same-length : tie.Need-same-length
 same-length c = search needs
 
 returns : tie.Need-returns
-unfolding spaceList
+unfolding lentSpaces
 returns c = four-stored (c .args .ps .now) (c .args .at) _ _ _ _
 
 pub put-spaces-spec : {M : Type 1} → statement M

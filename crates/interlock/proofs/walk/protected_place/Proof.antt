@@ -16,11 +16,11 @@ abbrev μ-loop : tie.MeasureT-loop
 returns : tie.Need-returns Inv-loop μ-loop
 returns c = λ l. absurd (c .if1 .taken l)
 
-from-list-requires : tie.Need-from-list-requires Inv-loop μ-loop
-from-list-requires c κs = search needs
+from-lent-requires : tie.Need-from-lent-requires Inv-loop μ-loop
+from-lent-requires c κs = search needs
 
 loop-holds : tie.Need-loop-holds Inv-loop μ-loop
-loop-holds c = walk-begin _ _ _ _ (c .from-list .ensures)
+loop-holds c = walk-begin _ _ _ _ (c .from-lent .ensures)
 
 fields-at-requires : tie.Need-fields-at-requires Inv-loop μ-loop
 fields-at-requires c κs = search needs
@@ -101,7 +101,7 @@ protected-place-spec =
     Inv-loop
     μ-loop
     returns
-    from-list-requires
+    from-lent-requires
     loop-holds
     fields-at-requires
     address-requires

@@ -23,11 +23,11 @@ abbrev μ-loop : tie.MeasureT-loop
 loop-holds : tie.Need-loop-holds Inv-loop μ-loop
 loop-holds c = (omega arith, omega arith, c .before .pre, omega arith, rw sub-zero refl)
 
-mul-turned-by : tie.Need-mul-turned-by Inv-loop μ-loop
-mul-turned-by c = omega arith
+mul-unlock-by-write : tie.Need-mul-unlock-by-write Inv-loop μ-loop
+mul-unlock-by-write c = omega arith
 
-turned-by-requires : tie.Need-turned-by-requires Inv-loop μ-loop
-turned-by-requires c κs = search needs
+unlock-by-write-requires : tie.Need-unlock-by-write-requires Inv-loop μ-loop
+unlock-by-write-requires c κs = search needs
 
 add-address : tie.Need-add-address Inv-loop μ-loop
 add-address c = omega arith
@@ -46,7 +46,7 @@ loop-again c = (
   omega arith,
   c .before .before .loop .inv .4
       ∙ unlock-again _ _ _ _ _ _ (c .before .loop-test .taken)
-      ∙ rw (sym (c .turned-by .ensures)) refl,
+      ∙ rw (sym (c .unlock-by-write .ensures)) refl,
 )
 
 returns : tie.Need-returns Inv-loop μ-loop
@@ -60,8 +60,8 @@ unlock-after-spec =
     Inv-loop
     μ-loop
     loop-holds
-    mul-turned-by
-    turned-by-requires
+    mul-unlock-by-write
+    unlock-by-write-requires
     add-address
     add-i
     loop-less

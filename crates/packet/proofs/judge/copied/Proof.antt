@@ -1,6 +1,6 @@
 use borrow.Author.Needs.{needs}
-use Rattle.lbp16.specs.Pointer.{pointerList, spaceList, pointersOf, spacesAt}
-use Rattle.lbp16.proofs.PointerLaws.{list-back}
+use Rattle.lbp16.specs.Pointer.{lentPointers, lentSpaces, pointersOf, spacesAt}
+use Rattle.lbp16.proofs.PointerLaws.{lent-back}
 use Rattle.packet.proofs.judge.copied.Statement.{statement}
 use Rattle.packet.proofs.judge.copied.Tie as tie
 
@@ -29,8 +29,8 @@ shared-slice-read-t17 : tie.Need-shared-slice-read-t17
 shared-slice-read-t17 c = search needs
 
 returns : tie.Need-returns
-unfolding pointerList spaceList pointersOf spacesAt
-returns c = list-back _ (c .before .before .before .before .before .before .before .before .pre)
+unfolding lentPointers lentSpaces pointersOf spacesAt
+returns c = lent-back _ (c .before .before .before .before .before .before .before .before .pre)
 
 pub copied-spec : {M : Type 1} → statement M
 copied-spec =

@@ -3,7 +3,7 @@ use Prim.Native.Nat.{_-_, _≤_}
 use mathlib.Core.Path.{_≡_, refl, _∙_}
 use native.Mathlib.Omega.{arith}
 use lib.ListN.{length, drop, drop-of-length-le}
-use Rattle.text.specs.Number.{hexBytes}
+use Rattle.text.specs.Number.{bytesOfHex}
 use Rattle.text.specs.Room.{putAt}
 use Rattle.text.proofs.RoomLaws.{put-least, put-none, put-within}
 use Rattle.text.proofs.HexLaws.{bytes-put}
@@ -12,7 +12,7 @@ use Rattle.text.proofs.number.bytes.Tie as tie
 
 abbrev Inv-loop : tie.InvT-loop
 Inv-loop out₀ at s next₀ i₀ out next i =
-    (putAt (hexBytes (drop i s)) next out ≡ putAt (hexBytes s) at out₀) × (length out ≡ length out₀) × (next ≤ length out)
+    (putAt (bytesOfHex (drop i s)) next out ≡ putAt (bytesOfHex s) at out₀) × (length out ≡ length out₀) × (next ≤ length out)
 
 abbrev μ-loop : tie.MeasureT-loop
 μ-loop out₀ at s next₀ i₀ out next i = length s - i
@@ -46,7 +46,7 @@ same-length : tie.Need-same-length Inv-loop μ-loop
 same-length c = c .before .loop .inv .1
 
 returns : tie.Need-returns Inv-loop μ-loop
-unfolding hexBytes
+unfolding bytesOfHex
 returns c =
     let l = c .before .loop .inv in
     put-none _ _ (l .2) ∙ rw (drop-of-length-le _ (c .loop-test .left)) at (l .0)

@@ -1,10 +1,10 @@
 use mathlib.Core.Path.{refl}
-use Rattle.salvage.specs.Salvage.{counted, keptCount, keptBytes, entryCount}
+use Rattle.salvage.specs.Salvage.{counted, keptCount, bytesOfKept, entryCount}
 use Rattle.salvage.proofs.scan.Counts.none.Statement.{statement}
 use Rattle.salvage.proofs.scan.Counts.none.Tie as tie
 
 returns : tie.Need-returns
-unfolding counted keptCount keptBytes entryCount
+unfolding counted keptCount bytesOfKept entryCount
 returns c = refl
 
 pub none-spec : {M : Type 1} → statement M

@@ -1,0 +1,35 @@
+use Rattle.text.specs.Number.{ascii}
+use Rattle.why_output.specs.Wording.{acceptedText}
+use borrow.Author.Needs.{needs}
+use Rattle.why_output.proofs.accepted.Statement.{statement}
+use Rattle.why_output.proofs.accepted.Tie as tie
+
+slice-aggregate-pick : tie.Need-slice-aggregate-pick
+slice-aggregate-pick c = search needs
+
+slice-aggregate-pick-2 : tie.Need-slice-aggregate-pick-2
+slice-aggregate-pick-2 c = search needs
+
+pick-requires : tie.Need-pick-requires
+pick-requires c κs = search needs
+
+put-requires : tie.Need-put-requires
+put-requires c κs = search needs
+
+same-length : tie.Need-same-length
+same-length c = search needs
+
+returns : tie.Need-returns
+unfolding acceptedText ascii
+returns c = rw (c .before .before .before .before .pick .ensures) at (c .before .before .put .ensures)
+
+pub accepted-spec : {M : Type 1} → statement M
+accepted-spec =
+    tie.close
+    (tie.spec
+    slice-aggregate-pick
+    slice-aggregate-pick-2
+    pick-requires
+    put-requires
+    same-length
+    returns)
