@@ -4,6 +4,7 @@ use crate::numbers;
 ghost use mathlib.Core.Path.{_≡_};
 ghost use Prim.Native.Nat.{_≤_};
 ghost use Rattle.card.specs.Run.{mostElements};
+ghost use Rattle.interlock.specs.Spared.{Spares};
 ghost use Rattle.head.specs.Exports.{given, runLeft, spiLeft};
 ghost use Rattle.head.specs.InterlockExports.{exportGuard, exportGuardedCheck, exportGuardedRun, exportGuardedSpi, exportGuardedList};
 
@@ -34,7 +35,7 @@ pub extern "C" fn head_guarded_check(
     given.0
 }
 
-// `head_run` with a guard.
+// `head_run` with a guard. Whatever is sent, every protected byte of the store is as it was.
 #[no_mangle]
 pub extern "C" fn head_guarded_run(
     packet: &[u8],
@@ -48,6 +49,7 @@ pub extern "C" fn head_guarded_run(
     ensures ran { λ r. ⌜ runLeft r (now (value .exit)) (now (elements .exit)) (now (store .exit)) (now (pointers .exit)) (now (reply .exit))
         ≡ exportGuardedRun (now (packet .entry)) (now (store .entry)) (now (pointers .entry)) (now (reply .entry)) (now (guard .entry)) ⌝ }
     ensures bounded { λ r. ⌜ now (elements .exit) ≤ mostElements ⌝ }
+    ensures spared { λ r. ⌜ Spares (now (guard .entry)) (now (store .entry)) (now (store .exit)) ⌝ }
 {
     let ran = interlock::run(packet, store, pointers, reply, guard);
     *elements = ran.elements;
@@ -57,7 +59,7 @@ pub extern "C" fn head_guarded_run(
     given.0
 }
 
-// `head_spi` with a guard.
+// `head_spi` with a guard, and the same holds.
 #[no_mangle]
 pub extern "C" fn head_guarded_spi(
     words: &[u32],
@@ -66,8 +68,9 @@ pub extern "C" fn head_guarded_spi(
     guard: &[u32],
     value: &mut u64,
 ) -> u32
-    ensures { λ r. ⌜ spiLeft r (now (value .exit)) (now (store .exit)) (now (answer .exit))
+    ensures left { λ r. ⌜ spiLeft r (now (value .exit)) (now (store .exit)) (now (answer .exit))
         ≡ exportGuardedSpi (now (words .entry)) (now (store .entry)) (now (answer .entry)) (now (guard .entry)) ⌝ }
+    ensures spared { λ r. ⌜ Spares (now (guard .entry)) (now (store .entry)) (now (store .exit)) ⌝ }
 {
     let given = numbers::of_verdict(interlock::burst(words, store, answer, guard));
     *value = given.1;

@@ -1,6 +1,6 @@
 -- Spared for ever: whatever is sent to a guarded card, every protected byte stays as it is.
 use Prim.Native.Nat.{ℕ, zero, suc, _+_, _≤_, _<_}
-use mathlib.Core.Path.{_≡_, refl, _∙_}
+use mathlib.Core.Path.{_≡_, refl, ap, _∙_}
 use mathlib.Core.Logic.{_⊎_, inl, inr}
 use mathlib.Core.List.{List, [], _∷_}
 use mathlib.Core.Bool.{Bool, true, false, _&&_, cond}
@@ -16,14 +16,17 @@ use Rattle.packet.specs.Step.{Kind, read, write, infoRead, Step, isWrite, at, c
 use Rattle.packet.specs.Rules.{anyStep}
 use Rattle.packet.specs.Command.{payload, elements, stepsAt}
 use Rattle.packet.specs.Judge.{Carried, accepted, begin, carry, judge}
+use Rattle.packet.specs.declared.judge.Verdict.{Verdict}
 use Rattle.packet.proofs.StoreLaws.{Spared, spared-byte, length-after}
 use Rattle.packet.proofs.StepLaws.{any-append}
 use Rattle.packet.proofs.RefusalLaws.{all-passed, reaches-keeps}
-use Rattle.card.specs.Run.{cleared, outcome, LentOutcome, asLent}
+use Rattle.card.specs.Run.{cleared, outcome, LentOutcome, asLent, ranLent}
+use Rattle.card.specs.declared.run.RanLent.{RanLent}
 use Rattle.card.proofs.RunLaws.{length-cleared, length-counted, cleared-outside, counted-outside}
+use Rattle.spi.specs.Spi.{Burst, burstLeft}
 use Rattle.interlock.specs.Guard.{touches, IsProtected, writesProtected, protected}
 use Rattle.interlock.specs.Guarded.{guardedPacket, guardedRun, guardedBurst}
-use Rattle.interlock.specs.Spared.{Sent, Card, afterOne, afterAll, Untouched}
+use Rattle.interlock.specs.Spared.{Sent, Card, afterOne, afterAll, Spares, Untouched}
 use Rattle.interlock.proofs.RangeLaws.{off-protected, sound-off}
 use Rattle.interlock.proofs.GuardedLaws.{guarded-cases}
 use Rattle.interlock.proofs.BurstLaws.{burst-cases}
@@ -122,3 +125,17 @@ all-kept guard (x ∷ xs) card =
 -- After any sequence of guarded packets and bursts, of whatever bytes, on any store and pointers and with any rooms.
 pub spared-for-ever : (guard : List ℕ) (sent : List Sent) (card : Card) → Untouched guard card (afterAll guard sent card)
 spared-for-ever guard sent card = let k = all-kept guard sent card in record { bytes = k .0; same = k .1 }
+
+-- the same of one call, as the code has it
+pub run-spares : (guard bytes store pointers reply : List ℕ) (r : RanLent) (store′ pointers′ reply′ : List ℕ)
+    → ranLent r store′ pointers′ reply′ ≡ guardedRun guard bytes store pointers reply → Spares guard store store′
+unfolding ranLent afterAll afterOne
+run-spares guard bytes store pointers reply r store′ pointers′ reply′ e i p =
+    ap (λ (o : LentOutcome). getD (o .store) i 0) e
+    ∙ spared-for-ever guard (Sent.packet bytes reply ∷ []) (record { store = store; pointers = pointers }) .same i p
+
+pub burst-spares : (guard words store room : List ℕ) (a : Verdict) (store′ room′ : List ℕ)
+    → burstLeft a store′ room′ ≡ guardedBurst guard words store room → Spares guard store store′
+unfolding burstLeft afterAll afterOne
+burst-spares guard words store room a store′ room′ e i p =
+    ap (λ (b : Burst). getD (b .store) i 0) e ∙ spared-for-ever guard (Sent.burst words room ∷ []) (record { store = store; pointers = [] }) .same i p

@@ -27,7 +27,11 @@ unfoldable pub afterAll : List ℕ → List Sent → Card → Card
 afterAll guard [] card = card
 afterAll guard (x ∷ xs) card = afterAll guard xs (afterOne guard x card)
 
--- the store keeps its length, and every protected byte its value
+-- every protected byte of a store is as it was
+abbrev pub Spares : List ℕ → List ℕ → List ℕ → Type 0
+Spares guard before after = (i : ℕ) → IsProtected guard i → getD after i 0 ≡ getD before i 0
+
+-- and the store keeps its length
 pub record Untouched (guard : List ℕ) (before after : Card) : Type 0 where
   pub bytes : length (after .store) ≡ length (before .store)
-  pub same : (i : ℕ) → IsProtected guard i → getD (after .store) i 0 ≡ getD (before .store) i 0
+  pub same : Spares guard (before .store) (after .store)

@@ -2,6 +2,7 @@ use borrow.Author.Needs.{needs}
 use Rattle.head.specs.InterlockExports.{exportGuardedSpi}
 use Rattle.head.proofs.interlock_exports.head_guarded_spi.Statement.{statement}
 use Rattle.head.proofs.interlock_exports.head_guarded_spi.Tie as tie
+use Rattle.interlock.proofs.SparedLaws.{burst-spares}
 use Rattle.head.proofs.ExportLaws.{spi-left}
 
 burst-requires : tie.Need-burst-requires
@@ -18,7 +19,9 @@ same-length-2 c = search needs
 
 returns : tie.Need-returns
 unfolding exportGuardedSpi
-returns c = spi-left _ _ _ _ _ (c .before .before .before .before .before .burst .ensures .0) (c .of-verdict .ensures)
+returns c =
+    let left = c .before .before .before .before .before .burst .ensures .0 in
+    (spi-left _ _ _ _ _ left (c .of-verdict .ensures), burst-spares _ _ _ _ _ _ _ left)
 
 pub head-guarded-spi-spec : {M : Type 1} → statement M
 head-guarded-spi-spec = tie.close (tie.spec burst-requires of-verdict-requires same-length same-length-2 returns)
