@@ -176,6 +176,22 @@ module _ (guard packet store pointers reply : List ℕ) where
   refused-outcome (refused m k) n i e l = rw (e, lent-back pointers l) refl
   refused-outcome (accepted c) n i e l = let z : _≡_ {A = ℕ} 0 1 = cc in absurd (omega arith)
 
+  -- what the guarded run leaves, by whether there are eight pointers
+  abbrev byCount : Bool → LentOutcome
+  byCount b =
+      cond b
+      (asLent
+      (outcome (guardedVerdict guard (pointersOf pointers) packet (runVerdict packet store (pointersOf pointers) reply)) store
+      (pointersOf pointers)
+      reply))
+      (record {
+        answer = answerTo (soundFirst (soundness guard) (refused 1 0));
+        elements = 0;
+        store = store;
+        reply = reply;
+        pointers = pointers;
+      })
+
   refused-run : (n i : ℕ)
       → (length pointers ≡ 8
       → answerTo (guardedVerdict guard (pointersOf pointers) packet (runVerdict packet store (pointersOf pointers) reply)) ≡ Answer.refused n i)
@@ -187,18 +203,7 @@ module _ (guard packet store pointers reply : List ℕ) where
     where
       go : (b : Bool) → eqb (length pointers) 8 ≡ b
           → _≡_ {A = LentOutcome} (record { answer = Answer.refused n i; elements = 0; store = store; reply = reply; pointers = pointers })
-          (cond b
-          (asLent
-          (outcome (guardedVerdict guard (pointersOf pointers) packet (runVerdict packet store (pointersOf pointers) reply)) store
-          (pointersOf pointers)
-          reply))
-          (record {
-            answer = answerTo (soundFirst (soundness guard) (refused 1 0));
-            elements = 0;
-            store = store;
-            reply = reply;
-            pointers = pointers;
-          }))
+          (byCount b)
       go true q = let l = eqb-true _ _ q in sym (refused-outcome _ n i (eight l) l)
       go false q = rw (other (eqb-false _ _ q)) refl
 
@@ -228,18 +233,7 @@ module _ (guard packet store pointers reply : List ℕ) where
             → _≡_ {A = LentOutcome}
             (cond b (asLent (outcome (runVerdict packet store (pointersOf pointers) reply) store (pointersOf pointers) reply))
             (record { answer = Answer.refused 1 0; elements = 0; store = store; reply = reply; pointers = pointers }))
-            (cond b
-            (asLent
-            (outcome (guardedVerdict guard (pointersOf pointers) packet (runVerdict packet store (pointersOf pointers) reply)) store
-            (pointersOf pointers)
-            reply))
-            (record {
-              answer = answerTo (soundFirst (soundness guard) (refused 1 0));
-              elements = 0;
-              store = store;
-              reply = reply;
-              pointers = pointers;
-            }))
+            (byCount b)
         go true q =
             let same = none-found guard (pointersOf pointers) packet values (sym sound) place _ (found-run (eqb-true _ _ q)) e in
             ap (λ v. asLent (outcome v store (pointersOf pointers) reply)) (sym same)
