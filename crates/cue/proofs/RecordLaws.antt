@@ -52,6 +52,11 @@ whole index rest e =
     let d = or-false (not (eqb m readMark) && not (eqb m writeMark)) _ marked in
     record { bytes = ltb-false _ _ (d .1); good = good }
 
+-- its bytes stand in the list
+pub whole-front : (index : ℕ) (rest : List ℕ) → first (recordRefusals index rest) ≡ 0 → recordBytes (recordKind rest) ≤ length rest
+unfolding recordStep
+whole-front index rest e = whole index rest e .bytes
+
 -- A whole record's step has as many bytes as its element.
 pub step-bytes : (rest : List ℕ) (k : Kind) (s : Space) → recordBytes k ≤ length rest
     → length (take (carried k s) (bytesOfValue rest)) ≡ carried k s

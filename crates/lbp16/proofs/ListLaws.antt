@@ -8,6 +8,11 @@ use lib.ListN.{length, take, drop, set, length-drop, drop-of-length-le}
 use lib.Seq.{sets, sets-eq, take-at, drop-at, take-append-le, drop-append-le, length-take-le}
 
 module _ {A : Type 0} where
+  -- a list of no elements
+  pub none-left : (l : List A) → length l ≡ 0 → l ≡ []
+  none-left [] h = refl
+  none-left (a ∷ l) h = absurd (omega arith)
+
   -- stores one behind the other are one store
   pub sets-append : (l : List A) (i : ℕ) (vs ws : List A) → sets (sets l i vs) (i + length vs) ws ≡ sets l i (vs ++ ws)
   sets-append l i [] ws = rw add-zero refl

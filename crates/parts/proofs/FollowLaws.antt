@@ -11,6 +11,7 @@ use lib.ListN.{length, take, drop, replicate}
 use lib.Seq.{drop-drop, drop-append-le, take-append-seam}
 use borrow.Author.Tests.{lt-ltb, le-ltb}
 use Rattle.lbp16.specs.Answer.{Answer}
+use Rattle.lbp16.proofs.ListLaws.{none-left}
 use Rattle.packet.specs.Step.{Step}
 use Rattle.cue.specs.Records.{Listed, records, refused, recordsOf, recordsFrom}
 use Rattle.cue.specs.Packing.{Command, packets}
@@ -18,13 +19,13 @@ use Rattle.packet.specs.Bytes.{number}
 use Rattle.cue.specs.Summary.{summary}
 use Rattle.cue.specs.Compile.{bytesOfOutput}
 use Rattle.parts.specs.Taking.{State, Standing, going, ended, faulted, Taken, Stopped, isGoing, called, answerBy, answered, fresh}
-use Rattle.parts.specs.Rule.{Opened, none, packingRule, lastOf, closedFrom, openAfter, goodFrom, goodRecords, packetsBy, packetsOf}
+use Rattle.parts.specs.Rule.{Opened, none, packingRule, lastOf, closedFrom, goodFrom, goodRecords, packetsBy, packetsOf}
 use Rattle.parts.specs.State.{Held, heldPacking, unopened, pairAt, packerAt, standingOf, stateOf, badNumbers, badState, bytesOfState}
 use Rattle.cue.specs.Output.{frameRoom}
 use Rattle.parts.specs.Parts.{untouched, leaves, partOf}
 use Rattle.parts.specs.Promise.{freshState, bytesWritten, written, Continues, ruleAfter, Calls, AsRule, Goes, Fails, Writes}
-use Rattle.parts.proofs.ListLaws.{withRecords, with-records, with-refused, packets-are, closed-append}
-use Rattle.parts.proofs.Reached.{Reached, Here, begun, reached-call, empty-is}
+use Rattle.parts.proofs.ListLaws.{withRecords, with-records, with-refused, packets-are, openAfter, closed-append}
+use Rattle.parts.proofs.Reached.{Reached, Here, begun, reached-call}
 use Rattle.parts.proofs.AlikeLaws.{Alike, AlikeStopped, answered-same, call-alike}
 use Rattle.parts.proofs.SameLaws.{Same, same-first, same-turn, same-last}
 use Rattle.parts.proofs.KeepLaws.{InRange, Quiet, call-le, call-range, call-quiet, said-end}
@@ -193,7 +194,7 @@ module _ (list : List ℕ) (at : ℕ) (state out : List ℕ) (s : State Opened) 
               record {
                 bytes = length (c .left .out);
                 answer = answer-is ∙ rw g refl;
-                all-out = λ l z. all-before css (reached-next .bytes) (empty-is _ z) q;
+                all-out = λ l z. all-before css (reached-next .bytes) (none-left _ z) q;
               }
           go (faulted k) g r =
               let z : refused k (c .left .state .index) ≡ records xs = sym (r .0) ∙ e in
@@ -249,7 +250,7 @@ module _ (list : List ℕ) (at : ℕ) (state out : List ℕ) (s : State Opened) 
           go ended g r a =
               let z : length (c .left .out) ≡ 0 = cc in
               let (xs, listed, all) = r in
-              let none : c .left .out ≡ [] = empty-is _ z in
+              let none : c .left .out ≡ [] = none-left _ z in
               let o : out ≡ bytesOfOutput css = sym (append-nil out) ∙ rw none at (reached-next .bytes) in
               (xs, listed, o ∙ ap bytesOfOutput all)
           go (faulted k) g r a = let z : _≡_ {A = ℕ} 0 1 = cc in absurd (omega arith)

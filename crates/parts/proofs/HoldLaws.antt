@@ -19,9 +19,9 @@ use Rattle.cue.proofs.PackingLaws.{Joining, joining, joined-steps, turn-cases}
 use Rattle.cue.proofs.RunAll.{good-split}
 use Rattle.cue.proofs.WalkLaws.{remains-all}
 use Rattle.cue.proofs.Demand3.{packets-hold}
-use Rattle.parts.specs.Rule.{none, lastOf, openAfter, goodThen, goodFrom, goodRecords, packetsBy, packetsOf, isUnlock}
+use Rattle.parts.specs.Rule.{none, lastOf, goodThen, goodFrom, goodRecords, packetsBy, packetsOf, isUnlock}
 use Rattle.parts.specs.Rule.{packetRecords, recordsHeld, packetCount, countHeld}
-use Rattle.parts.proofs.ListLaws.{good-all, packets-are}
+use Rattle.parts.proofs.ListLaws.{openAfter, good-all, packets-are}
 
 good-from : (fuel index : ℕ) (rest : List ℕ) → Good (goodFrom fuel index rest)
 unfolding goodFrom goodThen

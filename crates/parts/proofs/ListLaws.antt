@@ -10,7 +10,7 @@ use Rattle.cue.specs.Records.{Listed, records, refused, recordsFrom, recordKind
 use Rattle.cue.specs.Packing.{Command, packFrom, packets}
 use Rattle.cue.proofs.PackingLaws.{record-bytes-le}
 use Rattle.cue.proofs.WalkLaws.{Remains, remains-none, remains-next}
-use Rattle.parts.specs.Rule.{Opened, none, some, closes, opens, lastOf, closedFrom, openAfter, goodThen, goodFrom}
+use Rattle.parts.specs.Rule.{Opened, none, some, closes, opens, lastOf, closedFrom, goodThen, goodFrom}
 
 -- records before those of a list
 unfoldable pub withRecords : List Step → Listed → Listed
@@ -33,6 +33,11 @@ with-records [] ys = refl
 with-records (x ∷ xs) ys = rw (with-records xs ys) refl
 
 -- one record more, and the packets of all
+-- the packet that is open after the records
+unfoldable pub openAfter : Opened → List Step → Opened
+openAfter o [] = o
+openAfter o (x ∷ xs) = openAfter (opens o x) xs
+
 pub closed-append : (o : Opened) (xs ys : List Step) → closedFrom o (xs ++ ys) ≡ closedFrom o xs ++ closedFrom (openAfter o xs) ys
 unfolding closedFrom openAfter
 closed-append o [] ys = refl

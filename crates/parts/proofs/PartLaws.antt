@@ -10,6 +10,7 @@ use lib.ListN.{length, take, drop, getD, length-append, length-take, length-drop
 use lib.Seq.{drop-cons, drop-drop}
 use borrow.Author.Tests.{eqb-true, ltb-true, ltb-false, ne-eqb}
 use Rattle.lbp16.proofs.BoolLaws.{and-true}
+use Rattle.lbp16.proofs.ListLaws.{none-left}
 use Rattle.packet.proofs.SliceLaws.{tail-whole}
 use Rattle.parts.specs.Taking.{Taken, Stopped, isGoing, goesOn, oneMore, byteTaken, bytesTaken}
 use Rattle.parts.specs.Taking.{faultedBy, endTaken, partTaken}
@@ -17,7 +18,7 @@ use Rattle.parts.specs.State.{Held, heldPacking, standingOf}
 use Rattle.parts.specs.Inside.{Ranged, Rooms, Leaves, Stops, Going, moreBy, meant, startAt}
 use Rattle.parts.specs.declared.state.Kept.{Kept}
 use Rattle.parts.specs.declared.take.Stop.{Stop}
-use Rattle.parts.proofs.Reached.{empty-is, goes-on}
+use Rattle.parts.proofs.Reached.{goes-on}
 use Rattle.parts.proofs.TakeLaws.{front-length, front-fits}
 
 pub going-first : (k : Kept) (part room old : List ℕ) → Ranged k → Rooms room old
@@ -93,7 +94,7 @@ module _ (start : Taken Held) (part old : List ℕ) (k : Kept) (at : ℕ) (room 
     start-again : g .t ≡ startAt k room
     unfolding startAt
     start-again =
-        let e = empty-is (g .t .out) (sym (g .leaves .written)) in
+        let e = none-left (g .t .out) (sym (g .leaves .written)) in
         let s = g .leaves .state in
         λ i. record { out = e i; state = sym s i }
 

@@ -7,6 +7,7 @@ use native.Mathlib.Omega.{arith}
 use lib.ListN.{length, drop, length-append}
 use lib.Seq.{drop-drop}
 use Rattle.lbp16.specs.Answer.{Answer}
+use Rattle.lbp16.proofs.ListLaws.{none-left}
 use Rattle.packet.specs.Step.{Step}
 use Rattle.cue.specs.Records.{records, recordsOf}
 use Rattle.cue.specs.Packing.{bytesOfPacket}
@@ -19,7 +20,6 @@ use Rattle.parts.specs.Rule.{Opened, packetsBy, packetsOf, recordsHeld}
 use Rattle.cue.specs.Output.{frameRoom}
 use Rattle.parts.specs.Parts.{PartCall, partOf}
 use Rattle.parts.specs.Promise.{freshState, bytesWritten, written, Continues, Calls, Goes, Promise, unless, drained}
-use Rattle.parts.proofs.Reached.{empty-is}
 use Rattle.parts.proofs.HoldLaws.{out-holds}
 use Rattle.parts.proofs.FollowLaws.{as-rule, goes, fails, at-end, placed, calls-follow, written-size}
 use Rattle.parts.proofs.EndLaws.{demand3-in-parts}
@@ -84,7 +84,7 @@ module _ (list : List ℕ) (xs : List Step) (e : recordsOf list ≡ records xs) 
           → out ++ (written c ++ unless (bytesWritten (c .answer)) (drained fuel (c .state) (drop (c .taken) (drop at list)) room)) ≡ total
       go zero a z more =
           let b : bytesWritten (c .answer) ≡ 0 = rw a refl in
-          let s : written c ≡ [] = empty-is (written c) (size ∙ b) in
+          let s : written c ≡ [] = none-left (written c) (size ∙ b) in
           rw (b, s) (append-nil out ∙ z refl)
       go (suc k) a z more =
           let b : bytesWritten (c .answer) ≡ suc k = rw a refl in

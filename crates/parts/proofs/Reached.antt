@@ -9,6 +9,7 @@ use lib.ListN.{length, drop, length-append, drop-of-length-le}
 use lib.Seq.{append-snoc, drop-at}
 use borrow.Author.Tests.{eqb-true, ltb-true, ltb-false}
 use Rattle.lbp16.proofs.BoolLaws.{and-true}
+use Rattle.lbp16.proofs.ListLaws.{none-left}
 use Rattle.packet.specs.Step.{Step}
 use Rattle.packet.specs.Rules.{first}
 use Rattle.cue.specs.Records.{records, refused, recordsOf, recordsFrom, recordKind, recordBytes, recordStep, recordRefusals}
@@ -21,10 +22,10 @@ use Rattle.cue.proofs.WalkLaws.{records-next, records-end}
 use Rattle.cue.proofs.PackerLaws.{output-append}
 use Rattle.parts.specs.Taking.{State, Standing, going, ended, faulted, Taken, Stopped, decidedAt, byteTaken, recordTaken, faultedBy}
 use Rattle.parts.specs.Taking.{isGoing, goesOn, oneMore, bytesTaken, endTaken, partTaken, called, fresh}
-use Rattle.parts.specs.Rule.{Opened, none, closes, opens, lastOf, packingRule, closedFrom, openAfter, goodFrom, goodRecords}
+use Rattle.parts.specs.Rule.{Opened, none, closes, opens, lastOf, packingRule, closedFrom, goodFrom, goodRecords}
 use Rattle.parts.proofs.FrontLaws.{Waiting, reaches, decided-number, decided-whole, cut-number}
 use Rattle.parts.proofs.ListLaws.{withRecords, with-snoc, with-refused, with-records, closed-snoc, open-snoc, packets-are}
-use Rattle.parts.proofs.ListLaws.{good-next, records-refused, good-refused}
+use Rattle.parts.proofs.ListLaws.{openAfter, good-next, records-refused, good-refused}
 
 -- The records `xs` are wholly taken and `left` is what follows the collected bytes; `css` are the packets handed out.
 pub record Before (list left : List ℕ) (s : State Opened) (css : List (List Command)) : Type 0 where
@@ -192,16 +193,12 @@ going-is going e = refl
 going-is ended e = let z : _≡_ {A = ℕ} 0 1 = cc in absurd (omega arith)
 going-is (faulted n) e = let z : _≡_ {A = ℕ} 0 1 = cc in absurd (omega arith)
 
-pub empty-is : (l : List ℕ) → length l ≡ 0 → l ≡ []
-empty-is [] e = refl
-empty-is (a ∷ l) e = absurd (omega arith)
-
 -- where bytes are taken on, nothing was handed out
 pub goes-on : {P : Type 0} (t : Taken P) → goesOn t ≡ true → (t .state .standing ≡ going) × (t .out ≡ [])
 unfolding goesOn
 goes-on t e =
     let a = and-true (isGoing (t .state .standing)) (eqb (length (t .out)) 0) e in
-    (going-is _ (a .0), empty-is _ (eqb-true _ _ (a .1)))
+    (going-is _ (a .0), none-left _ (eqb-true _ _ (a .1)))
 
 -- The bytes of a part.
 pub reached-bytes : (list rest out : List ℕ) (t : Taken Opened) (bs : List ℕ)

@@ -1,13 +1,11 @@
 -- Taking a byte, as the code does it.
-use Prim.Native.Nat.{ℕ, zero, suc, _+_, _≤_, _<_}
+use Prim.Native.Nat.{ℕ, _+_, _≤_}
 use mathlib.Core.Path.{_≡_, refl, sym, ap, _∙_}
-use mathlib.Core.List.{List, [], _∷_, _++_}
+use mathlib.Core.List.{List, _++_}
 use mathlib.Core.Bool.{true, false, not, _||_, _&&_}
 use native.Mathlib.Omega.{arith}
-use native.Mathlib.Numerals.{add-one}
 use lib.Dec.{eqb, ltb}
-use lib.ListN.{length, take, drop, getD, set, length-append, length-drop}
-use lib.Seq.{take-all}
+use lib.ListN.{length, take, drop, length-append, length-drop}
 use borrow.Author.Tests.{eq-eqb, ne-eqb}
 use lib.Seq.{length-take-le}
 use Rattle.packet.specs.Step.{Step}
@@ -30,19 +28,6 @@ use Rattle.cue.specs.Records.{markAt, readMark, writeMark, recordKind, recordBy
 use Rattle.parts.specs.Taking.{unknownMark, decidedAt, recordTaken}
 use Rattle.parts.specs.declared.state.Kept.{Kept}
 use native.Mathlib.Nat.{le-trans}
-
--- a turn of the loop that copies a list to another's front
-pub front-step : (from old : List ℕ) (i : ℕ) → i < length from → i < length old
-    → set (take i from ++ drop i old) i (getD from i 0) ≡ take (i + 1) from ++ drop (i + 1) old
-front-step [] old i h k = absurd (omega arith)
-front-step (a ∷ from) [] i h k = absurd (omega arith)
-front-step (a ∷ from) (b ∷ old) zero h k = refl
-front-step (a ∷ from) (b ∷ old) (suc i) h k =
-    let e = front-step from old i (omega arith) (omega arith) in
-    rw add-one (ap (λ (l : List ℕ). a ∷ l) (rw add-one at e))
-
-pub front-end : (from old : List ℕ) (i : ℕ) → i ≡ length from → take i from ++ drop i old ≡ from ++ drop (length from) old
-front-end from old i e = rw (e, take-all (length from) from (omega arith)) refl
 
 -- which byte decides, by the tests that the code makes
 module _ (index m : ℕ) (rest : List ℕ) (e : m ≡ markAt rest) where

@@ -19,6 +19,7 @@ use Rattle.cue.specs.Untrusted.{turnedWithin, putWithin}
 use Rattle.cue.specs.declared.records.Record.{Record}
 use Rattle.cue.specs.declared.packer.Packer.{Packer}
 use Rattle.cue.proofs.ReadingLaws.{passing}
+use Rattle.cue.proofs.RecordLaws.{whole-front}
 use Rattle.cue.proofs.OwnBytesLaws.{same-kind, same-step}
 use Rattle.cue.proofs.PackingLaws.{record-bytes-le}
 use Rattle.parts.specs.Taking.{State, Taken, Stopped, going, unknownMark, decidedAt, recordTaken, byteTaken, bytesTaken, isGoing, goesOn, oneMore}
@@ -126,17 +127,13 @@ module _ (index : ℕ) (packet : Held) where
         go [] q good = let z : 0 ≡ length front = rw (← q) refl in absurd (omega (arith, six))
         go (b ∷ bs) q good = all-bytes front (passing index (front ++ tail) e .few) decided good [] b bs tail q
 
-  whole-bytes : (rest : List ℕ) → first (recordRefusals index rest) ≡ 0 → recordBytes (recordKind rest) ≤ length rest
-  unfolding recordStep
-  whole-bytes rest e = passing index rest e .bytes
-
   pub whole-taken : (rest : List ℕ) → first (recordRefusals index rest) ≡ 0
       → bytesTaken heldPacking (record { out = []; state = state [] }) rest
       ≡ moreBy (recordBytes (recordKind rest))
       (bytesTaken heldPacking (recordTaken heldPacking 0 (state []) (recordStep rest)) (drop (recordBytes (recordKind rest)) rest))
   whole-taken rest e =
       let n = recordBytes (recordKind rest) in
-      let l : length (take n rest) ≡ n = length-take-le n rest (whole-bytes rest e) in
+      let l : length (take n rest) ≡ n = length-take-le n rest (whole-front index rest e) in
       let j = take-append-drop n rest in
       rw (j, l) at (front-taken (take n rest) (drop n rest) (rw j e) (rw j l))
 
@@ -171,7 +168,7 @@ module _ (p : Packer) (index : ℕ) (rest room : List ℕ) (s : Sound p) (few : 
         record {
           t = recordTaken heldPacking 0 (meant (plain bytes p index) room) (recordStep rest);
           leaves = l;
-          within = whole-bytes index h rest good;
+          within = whole-front index rest good;
           same = whole-taken index h rest good;
         }
 
@@ -198,7 +195,7 @@ module _ (p : Packer) (index : ℕ) (rest room : List ℕ) (s : Sound p) (few : 
       runs-record =
           record {
             held = own .rooms .held;
-            within = rw size (whole-bytes index h rest good);
+            within = rw size (whole-front index rest good);
             sound = own .ranged .sound;
             few = own .ranged .index;
             going = λ bytes old l rm. rw size (record-going bytes (plain bytes q (index + 1)) room₂ old (leaves bytes old l rm));

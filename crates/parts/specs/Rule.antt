@@ -42,10 +42,6 @@ unfoldable pub closedFrom : Opened → List Step → List (List Command)
 closedFrom o [] = []
 closedFrom o (x ∷ xs) = closes o x ++ closedFrom (opens o x) xs
 
-unfoldable pub openAfter : Opened → List Step → Opened
-openAfter o [] = o
-openAfter o (x ∷ xs) = openAfter (opens o x) xs
-
 -- The records before a list's first bad one; all, if none is.
 unfoldable pub goodThen : ℕ → Step → List Step → List Step
 goodThen zero x xs = x ∷ xs

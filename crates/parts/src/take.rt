@@ -48,11 +48,7 @@ pub(crate) fn put_front(from: &[u8], out: &mut [u8])
     requires { ⌜ length (now from) ≤ length (now out) ⌝ }
     ensures { λ _. ⌜ now (out .exit) ≡ now (from .entry) ++ drop (length (now (from .entry))) (now (out .entry)) ⌝ }
 {
-    let mut i: usize = 0;
-    while i < from.len() {
-        out[i] = from[i];
-        i += 1;
-    }
+    text::put(out, 0, from);
 }
 
 // The byte at which a record shows whether it is good.

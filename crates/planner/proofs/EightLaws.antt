@@ -10,6 +10,7 @@ use borrow.Author.Tests.{ltb-false}
 use Rattle.lbp16.specs.Space.{Space, row}
 use Rattle.lbp16.specs.Word.{wordOf}
 use Rattle.lbp16.proofs.SpaceLaws.{bytes-le, element-nonzero, element-le}
+use Rattle.lbp16.proofs.ListLaws.{none-left}
 use Rattle.packet.specs.Bytes.{bytesOf}
 use Rattle.packet.specs.Step.{Kind, read, write, infoRead, Step, isInfo, isWrite, carried, answered, rowBy, replyBytes}
 use Rattle.packet.specs.Rules.{pastEnd, barred, anyStep}
@@ -84,11 +85,7 @@ answered-le k s e = rw e (element-le s)
 
 empty-bytes : (x : Step) → x .kind ≡ read → length (x .bytes) ≡ carried (x .kind) (x .space) → x .bytes ≡ []
 unfolding carried
-empty-bytes x k e = go (x .bytes) (e ∙ rw k refl)
-  where
-    go : (b : List ℕ) → length b ≡ 0 → b ≡ []
-    go [] h = refl
-    go (a ∷ b) h = absurd (omega arith)
+empty-bytes x k e = none-left (x .bytes) (e ∙ rw k refl)
 
 join-none : (n : ℕ) → joinAll (replicate n []) ≡ []
 unfolding joinAll

@@ -68,15 +68,11 @@ fn put_element(out: &mut [u8], rest: &[u8], n: usize, end: usize)
     if end < n {
         return;
     }
-    if rest.len() < 6 + n {
+    let last = 6 + n;
+    if rest.len() < last {
         return;
     }
-    let at = end - n;
-    let mut i: usize = 0;
-    while i < n {
-        out[at + i] = rest[6 + i];
-        i += 1;
-    }
+    text::put(out, end - n, &rest[6..last]);
 }
 
 // 01 D9 1A 00 02 5A: 0x5A02 written to the unlock cell.

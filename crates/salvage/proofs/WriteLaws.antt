@@ -5,10 +5,9 @@ use mathlib.Core.List.{List, [], _∷_, _++_}
 use mathlib.Core.Bool.{true, false}
 use native.Mathlib.Omega.{arith}
 use native.Mathlib.Numerals.{add-one}
-use lib.ListN.{length, take, drop, getD, set, length-append, length-drop}
-use lib.Seq.{sets, sets-eq, drop-drop, take-append-seam, drop-append-add, take-suc, length-take-le}
+use lib.ListN.{length, take, drop, set, length-append, length-drop}
+use lib.Seq.{sets, sets-eq, drop-drop, take-append-seam, drop-append-add, length-take-le}
 use Rattle.packet.proofs.SliceLaws.{tail-whole}
-use Rattle.lbp16.proofs.ListLaws.{sets-append}
 use Rattle.salvage.specs.Salvage.{Stretch, kept, scan, bytesOfKept, logFrom, entryCount, counted, output, logged, entries}
 use Rattle.salvage.specs.Inside.{firstSpan, tally, recordPart, entryPart, Ready}
 use Rattle.salvage.specs.declared.scan.Span.{Span}
@@ -44,13 +43,6 @@ module _ (s : Span) (at : ℕ) where
 
   pub entry-put : (log : List ℕ) (n : ℕ) → s .kept ≡ false → set (set log n at) (n + 1) (s .bytes) ≡ sets log n (entryPart s at)
   entry-put log n e = rw (entry-skipped e, add-one) refl
-
--- one byte more of a copy
-pub copy-more : (out rest : List ℕ) (at i : ℕ) → i < length rest
-    → set (sets out at (take i rest)) (at + i) (getD rest i 0) ≡ sets out at (take (i + 1) rest)
-copy-more out rest at i h =
-    let e : length (take i rest) ≡ i = length-take-le i rest (omega arith) in
-    rw (add-one, take-suc rest i 0 h, ← sets-append out at (take i rest), e) refl
 
 -- a part put behind what stands at a room's front
 front-more : (old front part all room : List ℕ) (at : ℕ) → room ≡ front ++ drop (length front) old → at ≡ length front

@@ -5,22 +5,10 @@ use crate::scan::Span;
 ghost use mathlib.Core.Path.{_≡_};
 ghost use mathlib.Core.List.{_++_};
 ghost use Prim.Native.Nat.{_+_, _*_, _≤_};
-ghost use lib.ListN.{length, take, drop};
+ghost use lib.ListN.{length, drop};
 ghost use lib.Seq.{sets};
 ghost use Rattle.salvage.specs.Salvage.{output, logged};
 ghost use Rattle.salvage.specs.Inside.{recordPart, entryPart, Ready};
-
-// The first n bytes.
-fn copy(out: &mut [u8], at: usize, rest: &[u8], n: usize)
-    requires { ⌜ (n ≤ length (now rest)) × (at + n ≤ length (now out)) ⌝ }
-    ensures { λ _. ⌜ now (out .exit) ≡ sets (now (out .entry)) at (take n (now (rest .entry))) ⌝ }
-{
-    let mut i: usize = 0;
-    while i < n {
-        out[at + i] = rest[i];
-        i += 1;
-    }
-}
 
 // The bytes of a stretch at the front of `rest`, if it is kept.
 fn put_record(out: &mut [u8], at: usize, rest: &[u8], s: Span)
@@ -28,7 +16,8 @@ fn put_record(out: &mut [u8], at: usize, rest: &[u8], s: Span)
     ensures { λ _. ⌜ now (out .exit) ≡ sets (now (out .entry)) at (recordPart s (now (rest .entry))) ⌝ }
 {
     if s.kept {
-        copy(out, at, rest, s.bytes);
+        let n = s.bytes;
+        text::put(out, at, &rest[..n]);
     }
 }
 

@@ -4,7 +4,7 @@ use Prim.Native.Nat.{ℕ, zero, suc, _+_, _*_, _%_, _≤_, _<_}
 use mathlib.Core.Path.{_≡_, refl, ap, sym, _∙_}
 use mathlib.Core.Logic.{_≢_}
 use mathlib.Core.List.{List, [], _∷_, _++_}
-use mathlib.Core.Bool.{Bool, true, false, not, _&&_, cond}
+use mathlib.Core.Bool.{Bool, true, false, not, cond, and-false}
 use native.Mathlib.Omega.{arith}
 use native.Mathlib.Nat.{suc-mul, zero-mul, zero-add, suc-add}
 use lib.Dec.{eqb}
@@ -91,11 +91,7 @@ end-within h n words some e = ltb-false _ _ (rw (past-quick h n words, ne-eqb n 
 within-end : (h : Header) (n : ℕ) (words : List ℕ) → h .address + cond (h .increment) (n * 4) 4 ≤ 65536
     → anyStep pastEnd (burstSteps h n words) ≡ false
 within-end h n words l =
-    rw (past-quick h n words, le-ltb 65536 (h .address + cond (h .increment) (n * 4) 4) l) (go (not (eqb n 0)))
-  where
-    go : (b : Bool) → (b && false) ≡ false
-    go true = refl
-    go false = refl
+    rw (past-quick h n words, le-ltb 65536 (h .address + cond (h .increment) (n * 4) 4) l) (and-false (not (eqb n 0)))
 
 -- of c elements from address a on, the first n, and m after them
 first-end : (i : Bool) (a n c : ℕ) → n ≤ c → a + cond i (c * 4) 4 ≤ 65536 → a + cond i (n * 4) 4 ≤ 65536

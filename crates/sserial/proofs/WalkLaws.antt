@@ -14,16 +14,13 @@ use Rattle.sserial.specs.Layout.{joined, wordsOf, valueOf, bitsOf, inRan
 use Rattle.sserial.specs.Inside.{Each, Wide, AllWide}
 use Rattle.sserial.specs.declared.table.Field.{Field}
 use Rattle.sserial.proofs.LayoutLaws.{bits-below, below-both, words-joined}
+use Rattle.lbp16.proofs.ListLaws.{none-left}
 
 pub head-wide : {f : Field} {fs : List Field} → AllWide (f ∷ fs) → Wide f
 head-wide (AllWide.more w ws) = w
 
 tail-wide : {f : Field} {fs : List Field} → AllWide (f ∷ fs) → AllWide fs
 tail-wide (AllWide.more w ws) = ws
-
-none-left : (fs : List Field) → length fs ≡ 0 → fs ≡ []
-none-left [] h = refl
-none-left (f ∷ fs) h = absurd (omega arith)
 
 -- what the next field takes of the room for bits
 next-fits : (low : ℕ) {f : Field} {fs gs : List Field} → gs ≡ f ∷ fs → low + bits gs ≤ 96 → low + f .width + bits fs ≤ 96

@@ -82,10 +82,20 @@ put-within text room at {room₁} {n} e =
     let b : length room₁ ≡ length room = ap (λ (x : Filled). length (x .room)) e ∙ length-sets room at text in
     (omega arith, b)
 
+-- what then stands in the room
+pub put-room : (text room : List ℕ) (at : ℕ) {room₁ : List ℕ} {n : ℕ} → filled n room₁ ≡ putAt text at room → room₁ ≡ sets room at text
+unfolding putAt
+put-room text room at e = ap (λ (x : Filled). x .room) e
+
 -- Where a text fits it stands whole at the front.
 pub put-front : (text room : List ℕ) → length text ≤ length room → putAt text 0 room ≡ textLeft text room
 unfolding putAt textLeft
 put-front text room h = alike (omega arith) (sets-eq text room 0 (omega arith) ∙ rw zero-add refl)
+
+pub put-whole : (text room : List ℕ) {room₁ : List ℕ} {n : ℕ} → filled n room₁ ≡ putAt text 0 room → length text ≤ length room
+    → room₁ ≡ text ++ drop (length text) room
+unfolding textLeft
+put-whole text room e h = ap (λ (x : Filled). x .room) (e ∙ put-front text room h)
 
 -- and so it may be taken from there
 module _ (text room : List ℕ) {room₁ : List ℕ} {n : ℕ} (e : filled n room₁ ≡ textLeft text room) where

@@ -8,9 +8,8 @@ use lib.Dec.{eqb}
 use lib.ListN.{length, drop, length-drop}
 use borrow.Author.Tests.{eq-eqb, ne-eqb, eqb-true, eqb-false, lt-ltb, le-ltb}
 use Rattle.packet.specs.Step.{Step}
-use Rattle.packet.specs.Rules.{first}
-use Rattle.cue.specs.Records.{records, recordsOf, recordRefusals, recordStep, recordKind, recordBytes}
-use Rattle.cue.proofs.RecordLaws.{whole}
+use Rattle.cue.specs.Records.{records, recordsOf, recordStep, recordKind, recordBytes}
+use Rattle.cue.proofs.RecordLaws.{whole-front}
 use Rattle.cue.proofs.PackingLaws.{record-bytes-le}
 use Rattle.cue.proofs.WalkLaws.{Remains, remains-all, remains-none, Next, remains-next}
 use Rattle.tight.specs.Tight.{unlocks, withoutUnlocks, sameStep, sameSteps}
@@ -31,11 +30,6 @@ all-further k n (Taken.Bytes j) l = go (eqb j (n - k)) refl
     go : (t : Bool) → eqb j (n - k) ≡ t → eqb (k + j) n ≡ t
     go true e = let q = eqb-true j (n - k) e in eq-eqb (k + j) n (omega arith)
     go false e = ne-eqb (k + j) n (λ q. eqb-false j (n - k) e (omega arith))
-
--- a record that no rule refuses is whole
-whole-front : (index : ℕ) (rest : List ℕ) → first (recordRefusals index rest) ≡ 0 → recordBytes (recordKind rest) ≤ length rest
-unfolding recordStep
-whole-front index rest e = whole index rest e .bytes
 
 -- a step that is no unlock write, at the list's end and at a record
 module _ (s : Step) (plain : unlocks s ≡ false) where

@@ -1,74 +1,56 @@
+use denote.Ref.{now}
+use Prim.Native.Nat.{_+_, _-_}
+use lib.ListN.{take, drop}
+use native.Mathlib.Omega.{arith}
+use Rattle.text.proofs.RoomLaws.{put-room}
+use Rattle.planner.proofs.PutLaws.{kept-none, kept-part}
+use borrow.Author.Needs.{needs}
 use Rattle.planner.proofs.put.put_element.Statement.{statement}
 use Rattle.planner.proofs.put.put_element.Tie as tie
-use Prim.Native.Nat.{_+_, _-_, _≤_}
-use mathlib.Core.Path.{_≡_, refl}
-use native.Mathlib.Omega.{arith}
-use lib.ListN.{length, length-set}
-use Rattle.planner.proofs.PutLaws.{kept-none, kept-set}
-use Rattle.planner.specs.Inside.{Kept}
 
-abbrev Inv-loop : tie.InvT-loop
-Inv-loop out₀ rest n end at i₀ out i =
-    (i ≤ n) × (at + n ≡ end) × (end ≤ length out₀) × (6 + n ≤ length rest) × (length out ≡ length out₀) × Kept end out₀ out
-
-abbrev μ-loop : tie.MeasureT-loop
-μ-loop out₀ rest n end at i₀ out i = n - i
-
-returns : tie.Need-returns Inv-loop μ-loop
+returns : tie.Need-returns
 returns c = kept-none
 
-add-if2 : tie.Need-add-if2 Inv-loop μ-loop
-add-if2 c = omega arith
+add-last : tie.Need-add-last
+add-last c = search needs
 
-returns-2 : tie.Need-returns-2 Inv-loop μ-loop
+returns-2 : tie.Need-returns-2
 returns-2 c = kept-none
 
-loop-holds : tie.Need-loop-holds Inv-loop μ-loop
-loop-holds c = (omega arith, omega arith, omega arith, omega arith, refl, kept-none)
+sub-put : tie.Need-sub-put
+sub-put c = search needs
 
-add-out : tie.Need-add-out Inv-loop μ-loop
-add-out c = omega arith
+part-put-start : tie.Need-part-put-start
+part-put-start c = search needs
 
-shared-slice-read-out : tie.Need-shared-slice-read-out Inv-loop μ-loop
-shared-slice-read-out c = omega arith
+part-put-end : tie.Need-part-put-end
+part-put-end c = search needs
 
-add-out-2 : tie.Need-add-out-2 Inv-loop μ-loop
-add-out-2 c = omega arith
+put-requires : tie.Need-put-requires
+put-requires c κs = search needs
 
-slice-write-out : tie.Need-slice-write-out Inv-loop μ-loop
-slice-write-out c = omega arith
+same-length : tie.Need-same-length
+same-length c = search needs
 
-add-i : tie.Need-add-i Inv-loop μ-loop
-add-i c = omega arith
-
-loop-less : tie.Need-loop-less Inv-loop μ-loop
-loop-less c = omega arith
-
-loop-again : tie.Need-loop-again Inv-loop μ-loop
-loop-again c = let inv = c .before .before .loop .inv in (omega arith, inv .1, inv .2, inv .3, rw length-set (inv .4), kept-set (inv .5) _ _ (omega arith))
-
-same-length : tie.Need-same-length Inv-loop μ-loop
-same-length c = c .before .loop .inv .4
-
-returns-3 : tie.Need-returns-3 Inv-loop μ-loop
-returns-3 c = c .before .loop .inv .5
+returns-3 : tie.Need-returns-3
+returns-3 c =
+    let a = c .before .before .before .before .before .before .before .before .before .args in
+    let n = 6 + a .n - 6 in
+    let from = a .end - a .n in
+    kept-part (a .end) from 6 n (now (a .out)) _ (now (a .rest))
+    (put-room (take n (drop 6 (now (a .rest)))) (now (a .out)) from (c .before .before .put .ensures))
+    (omega arith)
 
 pub put-element-spec : {M : Type 1} → statement M
 put-element-spec =
     tie.close
     (tie.spec
-    Inv-loop
-    μ-loop
     returns
-    add-if2
+    add-last
     returns-2
-    loop-holds
-    add-out
-    shared-slice-read-out
-    add-out-2
-    slice-write-out
-    add-i
-    loop-less
-    loop-again
+    sub-put
+    part-put-start
+    part-put-end
+    put-requires
     same-length
     returns-3)
