@@ -1,9 +1,11 @@
 /* What it costs, in bytes, by tools/costs; docs/FIRMWARE.md has the rest:
  *
  *                                 x86_64-linux  aarch64-linux  riscv64-linux    armv7-linux      cortex-m4      cortex-m0
- *   code                                35,467         28,552         30,994         43,488         31,862         36,430
- *   constants                            1,456            728            336            112            144            144
+ *   code                                52,113         43,312         57,442         65,400         53,630         61,768
+ *   constants                            4,336          3,616            368            112            144            144
  *   data                                     0              0              0              0              0              0
+ *   stack of head_assemble               8,792          8,656          8,816          8,780          8,700          8,772
+ *   stack of head_capture                  448            400            480            332            316            408
  *   stack of head_check                    256            208            208            240            192            264
  *   stack of head_compile                  560            352            400            416            400            436
  *   stack of head_field                    288            176            208            172            176            208
@@ -17,13 +19,16 @@
  *   stack of head_header_word              136              0              0              8              8             20
  *   stack of head_independent            8,592          8,448          8,464          8,448          8,440          8,492
  *   stack of head_judge                  2,016          2,016          2,032          2,096          2,000          2,144
+ *   stack of head_list_text                336            272            208            152            152            236
+ *   stack of head_list_why                 240            112            112             88             88            132
  *   stack of head_pack                     480            368            416            356            340            408
  *   stack of head_panel_reading            136              0              0              8              8             24
  *   stack of head_panel_report             136              0              0             16             16             24
  *   stack of head_panel_start              136              0              0              0              0              0
- *   stack of head_part                   1,064          1,088          1,248          1,148          1,044          1,256
+ *   stack of head_part                   1,064          1,120          1,248          1,268          1,192          1,296
  *   stack of head_run                      480            432            416            480            456            528
- *   stack of head_salvage                  320            160            192            144            144            204
+ *   stack of head_salvage                  320            176            192            152            144            204
+ *   stack of head_sentence               3,088          2,960          3,056          2,952          2,944          3,424
  *   stack of head_spi                      256            144            144            144            144            152
  *   stack of head_table                    288            160            208            164            184            216
  *   stack of head_tight_check              720            464            592            560            544            612
@@ -34,21 +39,23 @@
  *
  * A stack is the deepest that the call can need, without that of the functions of libc and libgcc that are named below. No
  * function is reached from itself, none asks for memory, and none keeps anything between calls, so that calls which are lent
- * different memory may run at the same time. On a Cortex-M4 a packet takes at most 240,165 instructions, a burst 1,394, a
+ * different memory may run at the same time. On a Cortex-M4 a packet takes at most 240,165 instructions, a burst 1,366, a
  * record of a list 443 in head_compile.
- * x86_64-linux needs memset (libc). Registers beyond the integer ones: check, compile, field, guarded_check, guarded_list,
- *   guarded_run, guarded_spi, independent, judge, pack, panel_reading, part, run, spi, table, tight_check, tighten, unpack,
- *   why.
- * aarch64-linux needs memset (libc). Registers beyond the integer ones: check, compile, field, fields, guarded_check,
- *   guarded_list, guarded_run, guarded_spi, header, independent, judge, pack, panel_reading, panel_report, part, run, spi,
- *   table, tight_check, tighten, unpack, why.
+ * x86_64-linux needs memcpy (libc), memset (libc). Registers beyond the integer ones: assemble, capture, check, compile,
+ *   field, guarded_check, guarded_list, guarded_run, guarded_spi, independent, judge, pack, panel_reading, part, run,
+ *   sentence, spi, table, tight_check, tighten, unpack, why.
+ * aarch64-linux needs memcpy (libc), memset (libc). Registers beyond the integer ones: assemble, capture, check, compile,
+ *   field, fields, guarded_check, guarded_list, guarded_run, guarded_spi, header, independent, judge, list_text, pack,
+ *   panel_reading, panel_report, part, run, sentence, spi, table, tight_check, tighten, unpack, why.
  * riscv64-linux needs memcpy (libc), memset (libc). Registers beyond the integer ones: panel_reading.
- * armv7-linux needs memset (libc). Registers beyond the integer ones: check, compile, guarded_check, guarded_list,
- *   guarded_run, guarded_spi, independent, judge, pack, panel_reading, part, run, spi, tight_check, tighten, unpack, why.
- * cortex-m4 needs __aeabi_memclr4 (libc). Registers beyond the integer ones: panel_reading.
+ * armv7-linux needs memcpy (libc), memset (libc). Registers beyond the integer ones: assemble, capture, check, compile,
+ *   guarded_check, guarded_list, guarded_run, guarded_spi, independent, judge, pack, panel_reading, part, run, sentence,
+ *   spi, tight_check, tighten, unpack, why.
+ * cortex-m4 needs __aeabi_memclr4 (libc), __aeabi_memclr8 (libc), __aeabi_memcpy (libc). Registers beyond the integer ones:
+ *   panel_reading.
  * cortex-m0 needs __aeabi_fcmplt (libgcc), __aeabi_fdiv (libgcc), __aeabi_fmul (libgcc), __aeabi_llsl (libgcc), __aeabi_llsr
- *   (libgcc), __aeabi_lmul (libgcc), __aeabi_memclr (libc), __aeabi_memclr4 (libc), __aeabi_memcpy (libc), __aeabi_ui2f
- *   (libgcc). Registers beyond the integer ones: none.
+ *   (libgcc), __aeabi_lmul (libgcc), __aeabi_memclr (libc), __aeabi_memclr4 (libc), __aeabi_memclr8 (libc), __aeabi_memcpy
+ *   (libc), __aeabi_ui2f (libgcc). Registers beyond the integer ones: none.
  */
 
 /* The head controller: LBP16 packets and SPI bursts on a card store, command words and burst headers, cue lists, recorded
@@ -58,8 +65,8 @@
  * number of the refusal.
  *
  * A refused call changes nothing that it was lent but these answers: *value or *bytes then holds the refusal's place;
- * *packets, *elements, *entries, *inputs and *outputs hold 0; what *taken, *place, *index, *list and head_why's fields hold is
- * said at the function. All else keeps what it held, *word, *mask and *reading_bits too. Two functions change more:
+ * *packets, *elements, *entries, *records, *lines, *inputs and *outputs hold 0; what *taken, *place, *index, *offset, *cause, *list and
+ * head_why's fields hold is said at the function. All else keeps what it held, *word, *mask and *reading_bits too. Two functions change more:
  *   - head_part keeps a fault of the list (21 to 24) in the state, so that later calls repeat it;
  *   - head_judge leaves store and pointers, for 61 to 65, as the packets accepted before the fault leave them.
  *
@@ -69,7 +76,9 @@
  *   - head_table, head_field, head_pack and head_unpack give 41, then 42, then 40;
  *   - head_salvage gives 26, then 27; head_panel_reading 44, then 45, then 46;
  *   - 26 of head_compile and head_tighten, and 50 and 51, are given only where the lists are good;
+ *   - head_assemble gives 81, then 82, then 83, then 21 to 24, and 26 only where the text is good;
  *   - head_judge gives 1, then the first fault in the recording;
+ *   - head_capture gives 91, then that of the earliest bad frame, the lowest number first, then 26, then 27;
  *   - the functions with a guard give 70 before all else, and 71 only where all else is good.
  *
  * What a caller owes:
@@ -342,6 +351,98 @@ uint32_t head_salvage(const uint8_t *list, uint64_t list_length,
                       uint64_t *log, uint64_t log_length,
                       uint64_t *bytes, uint64_t *entries);
 
+/* Makes a cue list of its text. The whole text is judged, and the room held against the bytes needed, before a byte is written.
+ *
+ *   text     lines, each ended by a newline, which the last may lack; text_length bytes, may be empty
+ *   out      room for the list: 6 bytes for each line that reads, 10 for each that writes
+ *   bytes    takes the list's bytes, or the refusal's place
+ *   records  takes the number of records, 0 if refused
+ *
+ * Words stand apart by blanks, tabs and carriage returns; # starts a comment; capitals differ from small letters. A line is
+ * empty, or one of
+ *
+ *   read SPACE ADDRESS            read NAME
+ *   write SPACE ADDRESS VALUE     write NAME VALUE
+ *   name NAME SPACE ADDRESS
+ *
+ * SPACE is registers, eeprom, status, information or a number up to 255, ADDRESS a number up to 65,535, VALUE one up to
+ * 4,294,967,295; numbers are decimal, or hexadecimal behind 0x or 0X. A NAME has a letter first, then letters, digits, _, - and
+ * ., at most 32 bytes, is none of the words read, write, name and the four spaces, and is defined once and above its use; a text
+ * has at most 1,000.
+ * Accepted: returns 0. The list stands in out, a record for each line that reads or writes, in order; what is beyond is
+ * unchanged. head_compile does not refuse it with 21 to 24, and running its packets does what the lines say one by one.
+ *
+ * The place of all but 26 is the line, counted from 1: the earliest bad one, and there the first of these that applies.
+ *
+ *   81          its first word and its number of words are none of the five above
+ *   82          a SPACE, ADDRESS or VALUE is none, or too large
+ *   83          a NAME is none, not defined above, defined twice, or one too many
+ *   21, 23, 24  as head_compile would refuse the record; a name that is defined is held against 23 as a read
+ *   26          text good, and out_length below the bytes needed, which is the place
+ */
+uint32_t head_assemble(const uint8_t *text, uint64_t text_length,
+                       uint8_t *out, uint64_t out_length,
+                       uint64_t *bytes, uint64_t *records);
+
+/* Writes a cue list as text, the other way round: one line for each record, ended by a newline, as in
+ * "read registers 0x0010" and "write eeprom 0x0022 0xC0A8", with four digits of address and as many of value as the element has.
+ *
+ *   list   the records, list_length bytes; may be empty
+ *   out    room for the text: at most 34 bytes for each record
+ *   bytes  takes the text's bytes, or the refusal's place
+ *   lines  takes the number of lines, 0 if refused
+ *
+ * Accepted: returns 0. The text stands in out, and what is beyond is unchanged. head_assemble makes the same list of it.
+ *
+ *   21 to 24  as head_compile refuses the list
+ *   26        list good, and out_length below the bytes needed, which is the place
+ */
+uint32_t head_list_text(const uint8_t *list, uint64_t list_length,
+                        uint8_t *out, uint64_t out_length,
+                        uint64_t *bytes, uint64_t *lines);
+
+/* Says what is wrong with a cue list: head_compile's refusal with 21 to 24, the record at fault, and the cause. Nothing is changed.
+ *
+ *   list    the records, list_length bytes; may be empty
+ *   place   takes the record, counted from 0
+ *   offset  takes the offset of its first byte in the list
+ *   cause   takes the first of the number's causes, below, that holds
+ *
+ * Returns 0 if head_compile would not refuse the list with 21 to 24; place, offset and cause are then 0. Else the number that
+ * head_compile returns, with its place. The bytes of the list before offset alone are a list of that many records which is
+ * accepted.
+ *
+ *   21  cause 0
+ *   22  cause 1: the mark is neither "RD" nor "WR"; the record before may be one of the wrong length
+ *             2: the list ends inside the record, also where it has only its first byte
+ *   23  cause 1: the card has no such space
+ *             2: the address is not a multiple of the element's bytes
+ *             3: the element stands past the end of the space
+ *             4: a write to read-only cells: space 7, or space 2 below 0x20
+ *             5: the unlock cell, 0x1A of space 6
+ *             6: the packet count, 0x0A of space 6
+ *   24  cause 1: the spare byte is not 0
+ *             2: the value is above 0xFFFF, and the space's elements have 2 bytes
+ */
+uint32_t head_list_why(const uint8_t *list, uint64_t list_length,
+                       uint64_t *place, uint64_t *offset, uint64_t *cause);
+
+/* Says what a number means, in a sentence: one that a function here returned, or any other.
+ *
+ *   number  the number; 0 is "accepted"
+ *   out     room for the sentence: plain ASCII, with no newline and no NUL behind it; HEAD_SENTENCE_BYTES are always enough
+ *   bytes   takes the sentence's bytes, or if refused those needed
+ *
+ * Where a number means different things to different functions (1, 26 and 33), the sentence names them all. Of a number that means
+ * nothing it says so. Accepted: returns 0, the sentence stands at the front of out, and what is beyond is unchanged.
+ *
+ *   26  out_length below the sentence's bytes
+ */
+#define HEAD_SENTENCE_BYTES 100
+uint32_t head_sentence(uint32_t number,
+                       uint8_t *out, uint64_t out_length,
+                       uint64_t *bytes);
+
 /* Daughter cards: serial cards whose memory holds a process table, which describes the card's fields.
  *
  * In the four functions below, memory is the card's memory from address 0, table the address of its table in it. Fields stand in a
@@ -528,6 +629,39 @@ uint32_t head_judge(const uint8_t *show, uint64_t show_length,
                     uint8_t *store, uint64_t store_length,
                     uint32_t *pointers, uint64_t pointers_length,
                     uint64_t *index, uint64_t *place);
+
+/* Makes a recording for head_judge of a capture file: classic pcap, as tcpdump writes it and Wireshark saves it on demand.
+ *
+ *   capture  the file, capture_length bytes
+ *   out      room for the recording: each packet and its reply, each behind the mark "LB" and its length
+ *   frames   room for one number for each packet: its frame in the capture, counted from 1 as Wireshark does (the low 32 bits
+ *            of it, in a file of more than 64 GB); frames_length counts numbers
+ *   bytes    takes the recording's bytes, or the refusal's place
+ *   packets  takes the number of packets, 0 if refused
+ *
+ * Read are files of either byte order, with microseconds or nanoseconds, of the link types 0 (null), 1 (Ethernet, also with one
+ * tag 0x8100), 12, 101 and 228 (raw), 113 and 276 (Linux cooked). The card's address is the destination of the first UDP
+ * datagram over IPv4 to port 27181. A request is a datagram to that address and port, a reply any other one from them. All
+ * other frames are passed over, those too whose ports can't be seen: a link or IP header not wholly captured, another version,
+ * a header length below 5 words, a later fragment, fewer than four captured bytes behind the IP header. A reply belongs to the
+ * request before it; a request that has none before the next request or the end has a reply of no bytes. Checksums are not
+ * looked at.
+ * Accepted: returns 0. The recording stands in out and the frames' numbers in frames; what is beyond is unchanged in both. A
+ * recording has fewer bytes than its capture.
+ *
+ *   91  no capture that is read here: fewer than 24 bytes, another magic, another link type; place 0
+ *   92  a frame that is cut: fewer bytes than its header has, or than it says were captured; the place is the frame, from 1, as
+ *       for 93 and 94
+ *   93  a datagram of the card that isn't whole: more fragments follow, the UDP length is below 8 or not the IP packet's length
+ *       less its header, or bytes of it were not captured; padding behind it is fine
+ *   94  a second reply to a request
+ *   26  capture good, out_length below the bytes needed, which are the place
+ *   27  room enough in out, and frames_length below the packets, whose number is the place
+ */
+uint32_t head_capture(const uint8_t *capture, uint64_t capture_length,
+                      uint8_t *out, uint64_t out_length,
+                      uint32_t *frames, uint64_t frames_length,
+                      uint64_t *bytes, uint64_t *packets);
 
 /* The interlock: a guard names bytes of the store that no packet, burst or list may write, whatever it holds. It is numbers of
  * 32 bits, two for each range: its first byte in the store, and its number of bytes. A register at address a is the range a, 4;

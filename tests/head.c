@@ -242,6 +242,99 @@ static void damaged(void)
     IS(log[2], 99);
 }
 
+static void wrong_lists(void)
+{
+    /* P7's first record, then one of each kind that is wrong. */
+    static const uint8_t read_only[] = { 'W', 'R', 2, 0, 0x20, 0, 0x20, 0, 0, 0, 'W', 'R', 2, 0, 0x10, 0, 0xA8, 0xC0, 0, 0 };
+    uint64_t place = 99, offset = 99, cause = 99;
+
+    IS(head_list_why(p7, sizeof p7, &place, &offset, &cause), 0);
+    IS(place, 0);
+    IS(offset, 0);
+    IS(cause, 0);
+    IS(head_list_why(p7, sizeof p7 - 1, &place, &offset, &cause), 22);
+    IS(place, 1);
+    IS(offset, 10);
+    IS(cause, 2);
+    IS(head_list_why(p7 + 1, sizeof p7 - 1, &place, &offset, &cause), 22);
+    IS(place, 0);
+    IS(offset, 0);
+    IS(cause, 1);
+    IS(head_list_why(read_only, sizeof read_only, &place, &offset, &cause), 23);
+    IS(place, 1);
+    IS(offset, 10);
+    IS(cause, 4);
+    IS(head_list_why(too_wide, sizeof too_wide, &place, &offset, &cause), 24);
+    IS(place, 1);
+    IS(offset, 6);
+    IS(cause, 2);
+}
+
+static void sentences(void)
+{
+    static const char cut[] = "mark unknown, or record cut", none[] = "no refusal has this number";
+    uint8_t out[HEAD_SENTENCE_BYTES];
+    uint64_t bytes = 99;
+
+    memset(out, 0xEE, sizeof out);
+    IS(head_sentence(22, out, sizeof cut - 2, &bytes), 26);
+    IS(bytes, sizeof cut - 1);
+    IS(out[0], 0xEE);
+    IS(head_sentence(22, out, sizeof cut - 1, &bytes), 0);
+    IS(bytes, sizeof cut - 1);
+    SAME(out, cut, sizeof cut - 1);
+    IS(out[sizeof cut - 1], 0xEE);
+    IS(head_sentence(4294967295u, out, sizeof out, &bytes), 0);
+    IS(bytes, sizeof none - 1);
+    SAME(out, none, sizeof none - 1);
+    IS(head_sentence(0, out, sizeof out, &bytes), 0);
+    SAME(out, "accepted", 8);
+}
+
+static void texts(void)
+{
+    static const uint8_t text[] = "name lamp eeprom 0x20 # the lamp\nwrite lamp 32\n\nwrite 2 0x0022 0xc0a8";
+    static const uint8_t written[] = "write eeprom 0x0020 0x0020\nwrite eeprom 0x0022 0xC0A8\n";
+    static const uint8_t not_yet[] = "read 0 0\r\nread lamp\r\nname lamp 0 0\r\n";
+    static const uint8_t no_form[] = "\n# read\nread 0 0 0\n";
+    static const uint8_t too_large[] = "write registers 0 4294967296";
+    static const uint8_t misplaced[] = "read eeprom 1";
+    uint8_t out[sizeof written];
+    uint64_t bytes = 99, count = 99;
+
+    memset(out, 0xEE, sizeof out);
+    IS(head_assemble(no_form, sizeof no_form - 1, out, 0, &bytes, &count), 81);
+    IS(bytes, 3);
+    IS(count, 0);
+    IS(head_assemble(too_large, sizeof too_large - 1, out, 0, &bytes, &count), 82);
+    IS(bytes, 1);
+    IS(head_assemble(not_yet, sizeof not_yet - 1, out, sizeof out, &bytes, &count), 83);
+    IS(bytes, 2);
+    IS(head_assemble(misplaced, sizeof misplaced - 1, out, sizeof out, &bytes, &count), 23);
+    IS(bytes, 1);
+    IS(head_assemble(text, sizeof text - 1, out, sizeof p7 - 1, &bytes, &count), 26);
+    IS(bytes, sizeof p7);
+    IS(count, 0);
+    IS(out[0], 0xEE);
+    IS(head_assemble(text, sizeof text - 1, out, sizeof p7 + 1, &bytes, &count), 0);
+    IS(bytes, sizeof p7);
+    IS(count, 2);
+    SAME(out, p7, sizeof p7);
+    IS(out[sizeof p7], 0xEE);
+
+    IS(head_list_text(too_wide, sizeof too_wide, out, sizeof out, &bytes, &count), 24);
+    IS(bytes, 1);
+    IS(count, 0);
+    IS(head_list_text(p7, sizeof p7, out, sizeof written - 2, &bytes, &count), 26);
+    IS(bytes, sizeof written - 1);
+    SAME(out, p7, sizeof p7);
+    IS(head_list_text(p7, sizeof p7, out, sizeof out, &bytes, &count), 0);
+    IS(bytes, sizeof written - 1);
+    IS(count, 2);
+    SAME(out, written, sizeof written - 1);
+    IS(out[sizeof written - 1], 0xEE);
+}
+
 static void in_parts(void)
 {
     static uint8_t state[HEAD_PART_BYTES];
@@ -311,6 +404,48 @@ static void recordings(void)
     IS(index, 3);
     IS(head_judge(show, sizeof show, store, sizeof store, pointers, HEAD_POINTERS - 1, &index, &place), 1);
     IS(store[UNLOCK], 0);
+}
+
+static void captures(void)
+{
+    /* Raw IP, low byte first: AA BB to the card, and CC back. The second reply is one too many. */
+    static const uint8_t file[] = {
+        0xD4, 0xC3, 0xB2, 0xA1, 2, 0, 4, 0, 0, 0, 0, 0, 0, 0, 0, 0, 0xFF, 0xFF, 0, 0, 101, 0, 0, 0,
+        0, 0, 0, 0, 0, 0, 0, 0, 30, 0, 0, 0, 30, 0, 0, 0,
+        0x45, 0, 0, 30, 0, 0, 0, 0, 64, 17, 0, 0, 10, 0, 0, 1, 10, 0, 0, 2, 0xC3, 0x50, 0x6A, 0x2D, 0, 10, 0, 0, 0xAA, 0xBB,
+        0, 0, 0, 0, 0, 0, 0, 0, 29, 0, 0, 0, 29, 0, 0, 0,
+        0x45, 0, 0, 29, 0, 0, 0, 0, 64, 17, 0, 0, 10, 0, 0, 2, 10, 0, 0, 1, 0x6A, 0x2D, 0xC3, 0x50, 0, 9, 0, 0, 0xCC,
+        0, 0, 0, 0, 0, 0, 0, 0, 29, 0, 0, 0, 29, 0, 0, 0,
+        0x45, 0, 0, 29, 0, 0, 0, 0, 64, 17, 0, 0, 10, 0, 0, 2, 10, 0, 0, 1, 0x6A, 0x2D, 0xC3, 0x50, 0, 9, 0, 0, 0xCC
+    };
+    static const uint8_t show[] = { 'L', 'B', 2, 0, 0xAA, 0xBB, 'L', 'B', 1, 0, 0xCC };
+    static const uint64_t good = sizeof file - 45;
+    uint8_t out[sizeof show + 1];
+    uint32_t frames[] = { 99, 99 };
+    uint64_t bytes = 99, packets = 99;
+
+    memset(out, 0xEE, sizeof out);
+    IS(head_capture(file, 23, out, sizeof out, frames, 2, &bytes, &packets), 91);
+    IS(bytes, 0);
+    IS(packets, 0);
+    IS(head_capture(file, good - 1, out, sizeof out, frames, 2, &bytes, &packets), 92);
+    IS(bytes, 2);
+    IS(head_capture(file, sizeof file, out, sizeof out, frames, 2, &bytes, &packets), 94);
+    IS(bytes, 3);
+    IS(head_capture(file, good, out, sizeof show - 1, frames, 2, &bytes, &packets), 26);
+    IS(bytes, sizeof show);
+    IS(head_capture(file, good, out, sizeof out, frames, 0, &bytes, &packets), 27);
+    IS(bytes, 1);
+    IS(packets, 0);
+    IS(out[0], 0xEE);
+    IS(frames[0], 99);
+    IS(head_capture(file, good, out, sizeof out, frames, 2, &bytes, &packets), 0);
+    IS(bytes, sizeof show);
+    IS(packets, 1);
+    SAME(out, show, sizeof show);
+    IS(out[sizeof show], 0xEE);
+    IS(frames[0], 1);
+    IS(frames[1], 99);
 }
 
 static void daughter_cards(void)
@@ -461,9 +596,13 @@ int main(void)
     bursts();
     lists();
     damaged();
+    wrong_lists();
+    sentences();
+    texts();
     in_parts();
     two_lists();
     recordings();
+    captures();
     daughter_cards();
     lamp_panel();
     guards();

@@ -4,7 +4,7 @@
 #include "head.h"
 #include "machine.h"
 
-enum { PLAIN = 5, ANSWERS = 3, LENT = 5, NUMBERS = 72, MARGIN = 64, SHOWN = 10, EMPTY = 0xC3 };
+enum { PLAIN = 5, ANSWERS = 3, LENT = 5, NUMBERS = 95, MARGIN = 64, SHOWN = 10, EMPTY = 0xC3 };
 
 /* A call as it is made: what is given, answered and lent. */
 struct call {
@@ -83,6 +83,16 @@ static uint32_t tight_check(struct call *c)
 static uint32_t salvage(struct call *c)
 {
     return head_salvage(LENT_(0), LENT_(1), LENT_(2), &c->answer[0], &c->answer[1]);
+}
+
+static uint32_t list_why(struct call *c)
+{
+    return head_list_why(LENT_(0), &c->answer[0], &c->answer[1], &c->answer[2]);
+}
+
+static uint32_t sentence(struct call *c)
+{
+    return head_sentence(PLAIN_(0, uint32_t), LENT_(0), &c->answer[0]);
 }
 
 static uint32_t table(struct call *c)
@@ -172,6 +182,21 @@ static uint32_t guarded_list(struct call *c)
     return head_guarded_list(LENT_(0), LENT_(1), &c->answer[0]);
 }
 
+static uint32_t capture(struct call *c)
+{
+    return head_capture(LENT_(0), LENT_(1), LENT_(2), &c->answer[0], &c->answer[1]);
+}
+
+static uint32_t assemble(struct call *c)
+{
+    return head_assemble(LENT_(0), LENT_(1), &c->answer[0], &c->answer[1]);
+}
+
+static uint32_t list_text(struct call *c)
+{
+    return head_list_text(LENT_(0), LENT_(1), &c->answer[0], &c->answer[1]);
+}
+
 /* The exports, in the file's order. */
 static const struct {
     const char *name;
@@ -180,11 +205,12 @@ static const struct {
     {"head_check", check}, {"head_run", run}, {"head_why", why}, {"head_spi", spi}, {"head_fields", fields},
     {"head_word", word}, {"head_header", header}, {"head_header_word", header_word}, {"head_compile", compile},
     {"head_tighten", tighten}, {"head_tight_check", tight_check},
-    {"head_salvage", salvage}, {"head_table", table}, {"head_field", field}, {"head_pack", pack},
+    {"head_salvage", salvage}, {"head_list_why", list_why}, {"head_sentence", sentence}, {"head_table", table}, {"head_field", field}, {"head_pack", pack},
     {"head_unpack", unpack}, {"head_panel_start", panel_start}, {"head_panel_report", panel_report},
     {"head_panel_reading", panel_reading}, {"head_part", part}, {"head_independent", independent}, {"head_judge", judge},
     {"head_guard", guard}, {"head_guarded_check", guarded_check}, {"head_guarded_run", guarded_run},
-    {"head_guarded_spi", guarded_spi}, {"head_guarded_list", guarded_list},
+    {"head_guarded_spi", guarded_spi}, {"head_guarded_list", guarded_list}, {"head_capture", capture},
+    {"head_assemble", assemble}, {"head_list_text", list_text},
 };
 enum { EXPORTS = sizeof exports / sizeof exports[0] };
 
@@ -194,7 +220,7 @@ enum { EXPORTS = sizeof exports / sizeof exports[0] };
 #endif
 #define ROOM(name, bytes) \
     _Alignas(8) static uint8_t name[2][MARGIN + (bytes) + MARGIN] __attribute__((section(".bss.rooms")))
-ROOM(input, 700000);
+ROOM(input, 901000);
 ROOM(second, 700000);
 ROOM(output, 700000);
 ROOM(store, HEAD_STORE_BYTES + 64);
@@ -329,7 +355,8 @@ static void compare(const struct lending *lent, uint32_t count, const struct cal
 __attribute__((noinline)) static uint32_t made(uint32_t export, struct call *c)
 {
 #ifdef STACK
-    const uint32_t paint = 0xC0DEC0DE, area = exports[export].call == independent ? 70000 : 4096;
+    const int deep = exports[export].call == independent || exports[export].call == assemble;
+    const uint32_t paint = 0xC0DEC0DE, area = deep ? 70000 : 4096;
     uint32_t *top;
     __asm__ volatile("mov %0, sp" : "=r"(top));
     volatile uint32_t *low = top - area / 4;

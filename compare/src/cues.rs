@@ -282,7 +282,8 @@ fn eeprom_spread(rng: &mut Rng, list: &mut List) {
     }
 }
 
-fn kind(rng: &mut Rng) -> (Space, bool) {
+/// A space, and whether it is written.
+pub fn kind(rng: &mut Rng) -> (Space, bool) {
     let space = rng.pick(&[
         Space::Registers,
         Space::Registers,
@@ -306,7 +307,7 @@ fn access(rng: &mut Rng, list: &mut List, space: Space, write: bool, address: u3
 }
 
 /// An address that a record of this kind may have.
-fn address(rng: &mut Rng, space: Space, write: bool) -> u32 {
+pub fn address(rng: &mut Rng, space: Space, write: bool) -> u32 {
     let element = space.element();
     let first = lowest(space, write);
     let drawn = match rng.below(4) {

@@ -4,15 +4,20 @@
 //! that was answered or lent, byte for byte.
 
 pub mod bursts;
+pub mod call;
+pub mod captures;
 pub mod cards;
 pub mod cues;
 pub mod drafts;
+pub mod frames;
 pub mod guards;
 pub mod headers;
 pub mod independent;
 pub mod info;
 pub mod interlock;
 pub mod lent;
+pub mod lines;
+pub mod list_why;
 pub mod lists;
 pub mod packets;
 pub mod panel;
@@ -22,10 +27,12 @@ pub mod reasons;
 pub mod recordings;
 pub mod rng;
 pub mod salvage;
+pub mod sentences;
 pub mod shows;
 pub mod sserial;
 pub mod state;
 pub mod tally;
+pub mod texts;
 pub mod tight;
 pub mod trace;
 pub mod vectors;

@@ -1,11 +1,11 @@
 //! Compares compiling: the output, its packet count, and every refusal.
 
+use crate::call::{self, answered, room};
 use crate::cues;
-use crate::lent::Lent;
 use crate::rng::Rng;
 use crate::tally::Tally;
 use crate::trace;
-use crate::{hex, numbers, same_answer, same_count, same_input, Answer, Outcome};
+use crate::{hex, Answer, Outcome};
 use head::exports;
 use model::area::POINTERS;
 use model::packing::compile;
@@ -57,7 +57,7 @@ pub fn compare(seed: u64, count: u64) -> Outcome {
     };
     for case in 0..count {
         let list = cues::any(&mut part.rng);
-        let room = part.room(bytes_needed(&list));
+        let room = room(&mut part.rng, bytes_needed(&list));
         let result = part.case(&list, room);
         result.map_err(|what| format!("list {case}: {what}"))?;
     }
@@ -80,36 +80,23 @@ struct Part {
 impl Part {
     /// Compiles the list to a room of `room` bytes on both sides and compares.
     fn case(&mut self, list: &[u8], room: usize) -> Result<(), String> {
-        let rng = &mut self.rng;
-        let mut out = Lent::new("output", room, 0);
-        out.change(|out| rng.fill(out));
-
-        let (library, model) = out.lend(room);
-        let result = compile(list, model);
-        let expected = numbers(&result, |compiled| compiled.bytes as u64);
-        let expected_packets = result.map_or(0, |compiled| compiled.packets);
-        let lent = list.to_vec();
-        let (number, bytes, packets) = exports::compile(&lent, library);
-        let same = same_answer((number, bytes), expected)
-            .and_then(|()| same_count("packets", packets, expected_packets))
-            .and_then(|()| same_input(&lent, list))
-            .and_then(|()| out.compare(expected.0 != 0));
-        same.map_err(|what| format!("{what}\nroom of {room} bytes\nlist of {}", hex(list)))?;
-        self.count(list, room, expected, out.model());
+        let model = |list: &[u8], out: &mut [u8]| {
+            answered(compile(list, out), |compiled| {
+                (compiled.bytes, compiled.packets)
+            })
+        };
+        let same = call::compare(
+            &mut self.rng,
+            list,
+            room,
+            "packets",
+            exports::compile,
+            model,
+        );
+        let ((number, value, _), out) =
+            same.map_err(|what| format!("{what}\nlist of {}", hex(list)))?;
+        self.count(list, room, (number, value), out.model());
         Ok(())
-    }
-
-    /// A room's length: exact, larger or too small.
-    fn room(&mut self, needed: usize) -> usize {
-        let rng = &mut self.rng;
-        match rng.below(8) {
-            0..=2 => needed,
-            3 => needed + 1,
-            4 => needed + rng.between(1, 2_000),
-            5 => needed.saturating_sub(1),
-            6 => rng.below(needed + 1),
-            _ => rng.pick(&[0, needed, needed + 64]),
-        }
     }
 
     fn count(&mut self, list: &[u8], room: usize, (number, value): Answer, out: &[u8]) {

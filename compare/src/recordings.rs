@@ -86,6 +86,9 @@ pub(crate) type Judged = (u32, u64, u64);
 /// Packets and replies in turn.
 pub(crate) type Recording = Vec<Vec<u8>>;
 
+/// A card's store and pointers.
+pub(crate) type Card = (Vec<u8>, [u32; POINTERS]);
+
 impl Part {
     fn case(&mut self) -> Result<(), String> {
         let rng = &mut self.rng;
@@ -95,9 +98,10 @@ impl Part {
             return self.refused();
         }
         let show = self.rng.one_in(8);
+        let card = self.card();
         let recording = match show {
-            true => self.recorded_show(),
-            false => self.recorded(),
+            true => recorded_show(&mut self.rng, card),
+            false => recorded(&mut self.rng, card),
         };
         let whole = self.rng.one_in(3);
         let bytes = match whole {
@@ -181,50 +185,8 @@ impl Part {
         Ok(())
     }
 
-    /// Some packets of any kind that are accepted, with their replies, from the card's state.
-    fn recorded(&mut self) -> Recording {
-        let (mut store, mut pointers) = self.card();
-        let mut recording = Recording::new();
-        let count = self.rng.pick(&[0, 1, 1, 2, 2, 3, 6]);
-        let most = self.rng.pick(&[12, 40, PACKET_BYTES]);
-        while recording.len() < 2 * count {
-            let packet = drafts::packet(&mut self.rng, pointers);
-            if packet.len() > most {
-                continue;
-            }
-            if let Some(reply) = reply(&packet, &mut store, &mut pointers) {
-                recording.extend([packet, reply]);
-            }
-        }
-        if self.rng.one_in(6) {
-            // A packet that may be refused, with a reply that nothing gave.
-            let packet = drafts::packet(&mut self.rng, pointers);
-            recording.push(packet);
-            if self.rng.coin() {
-                let length = self.rng.pick(&[0, 0, 4, 20]);
-                recording.push((0..length).map(|_| self.rng.byte()).collect());
-            }
-        }
-        recording
-    }
-
-    /// The show of a list that is accepted.
-    fn recorded_show(&mut self) -> Recording {
-        let (mut store, mut pointers) = self.card();
-        let list = cues::good(&mut self.rng);
-        let mut output = vec![0; 4 * list.bytes().len()];
-        let compiled = compile(list.bytes(), &mut output).expect("a good list");
-        let packets = packets(&output[..compiled.bytes]).expect("compiled packets");
-        let mut recording = Recording::new();
-        for packet in packets {
-            let reply = reply(packet, &mut store, &mut pointers);
-            recording.extend([packet.to_vec(), reply.expect("a compiled packet")]);
-        }
-        recording
-    }
-
     /// The state that the recording starts from.
-    fn card(&self) -> (Vec<u8>, [u32; POINTERS]) {
+    fn card(&self) -> Card {
         let store = self.store.before()[..STORE_BYTES].to_vec();
         let pointers = self.pointers.before().first_chunk();
         (store, *pointers.expect("eight pointers"))
@@ -273,6 +235,46 @@ impl Part {
         let first = if number > 63 { part == 1 } else { part == 0 };
         tally.situation(CHANGED, reply_fault && first && changed);
     }
+}
+
+/// Some packets of any kind that are accepted, with their replies, from a card's state.
+pub(crate) fn recorded(rng: &mut Rng, (mut store, mut pointers): Card) -> Recording {
+    let mut recording = Recording::new();
+    let count = rng.pick(&[0, 1, 1, 2, 2, 3, 6]);
+    let most = rng.pick(&[12, 40, PACKET_BYTES]);
+    while recording.len() < 2 * count {
+        let packet = drafts::packet(rng, pointers);
+        if packet.len() > most {
+            continue;
+        }
+        if let Some(reply) = reply(&packet, &mut store, &mut pointers) {
+            recording.extend([packet, reply]);
+        }
+    }
+    if rng.one_in(6) {
+        // A packet that may be refused, with a reply that nothing gave.
+        let packet = drafts::packet(rng, pointers);
+        recording.push(packet);
+        if rng.coin() {
+            let length = rng.pick(&[0, 0, 4, 20]);
+            recording.push((0..length).map(|_| rng.byte()).collect());
+        }
+    }
+    recording
+}
+
+/// The show of a list that is accepted.
+pub(crate) fn recorded_show(rng: &mut Rng, (mut store, mut pointers): Card) -> Recording {
+    let list = cues::good(rng);
+    let mut output = vec![0; 4 * list.bytes().len()];
+    let compiled = compile(list.bytes(), &mut output).expect("a good list");
+    let packets = packets(&output[..compiled.bytes]).expect("compiled packets");
+    let mut recording = Recording::new();
+    for packet in packets {
+        let reply = reply(packet, &mut store, &mut pointers);
+        recording.extend([packet.to_vec(), reply.expect("a compiled packet")]);
+    }
+    recording
 }
 
 /// The verdict as the library's numbers.

@@ -13,10 +13,12 @@
 //!
 //! A room keeps what it holds from call to call; all bytes are [`EMPTY`] at the start.
 
+mod capture;
 mod card;
 mod fields;
 mod interlock;
 mod lists;
+mod text;
 
 use crate::rng::Rng;
 use std::collections::BTreeMap;
@@ -25,11 +27,14 @@ use std::fmt::Write;
 /// What each byte of a room holds at the start.
 pub const EMPTY: u8 = 0xC3;
 
+/// The most bytes that a file may have: so many does `firmware/link.ld` leave for it on a board.
+pub const MOST_BYTES: usize = 8 << 20;
+
 /// What each answer holds before a call.
 pub const UNWRITTEN: u64 = 0xA5A5_A5A5_A5A5_A5A5;
 
 /// The exports, each with all numbers that it can return.
-pub const EXPORTS: [(&str, &[u32]); 27] = [
+pub const EXPORTS: [(&str, &[u32]); 32] = [
     ("head_check", &[0, 1, 2, 3, 4, 5, 6, 7, 8, 9, 10, 11, 12]),
     ("head_run", &[0, 1, 2, 3, 4, 5, 6, 7, 8, 9, 10, 11, 12]),
     ("head_why", &[0, 1, 2, 3, 4, 5, 6, 7, 8, 9, 10, 11, 12, 13]),
@@ -42,6 +47,8 @@ pub const EXPORTS: [(&str, &[u32]); 27] = [
     ("head_tighten", &[0, 21, 22, 23, 24, 26]),
     ("head_tight_check", &[0, 21, 22, 23, 24, 50]),
     ("head_salvage", &[0, 26, 27]),
+    ("head_list_why", &[0, 21, 22, 23, 24]),
+    ("head_sentence", &[0, 26]),
     ("head_table", &[0, 41, 42]),
     ("head_field", &[0, 40, 41, 42]),
     ("head_pack", &[0, 40, 41, 42]),
@@ -63,6 +70,9 @@ pub const EXPORTS: [(&str, &[u32]); 27] = [
     ),
     ("head_guarded_spi", &[0, 1, 31, 32, 33, 34, 35, 70, 71]),
     ("head_guarded_list", &[0, 21, 22, 23, 24, 70, 71]),
+    ("head_capture", &[0, 26, 27, 91, 92, 93, 94]),
+    ("head_assemble", &[0, 21, 23, 24, 26, 81, 82, 83]),
+    ("head_list_text", &[0, 21, 22, 23, 24, 26]),
 ];
 
 /// The rooms that the player has. Those from the pointers on hold numbers above a byte.
@@ -145,6 +155,7 @@ pub fn file(seed: u64, size: usize) -> Result<(Vec<u8>, String), String> {
         met: BTreeMap::new(),
     };
     lists::long(&mut file)?;
+    text::long(&mut file);
     let mut card = card::Card::new(&mut file.rng);
     while file.bytes.len() < size {
         card.packets(&mut file, 16);
@@ -152,9 +163,14 @@ pub fn file(seed: u64, size: usize) -> Result<(Vec<u8>, String), String> {
         card.recordings(&mut file, 6);
         interlock::some(&mut file, &mut card, 12);
         lists::some(&mut file, 6)?;
+        text::some(&mut file, 6);
         fields::some(&mut file, 12);
+        capture::some(&mut file, 6);
     }
     file.bytes.extend([0; 4]);
+    if file.bytes.len() > MOST_BYTES {
+        return Err(format!("it has {} bytes, too many", file.bytes.len()));
+    }
     let printed = file.printed()?;
     Ok((file.bytes, printed))
 }
@@ -209,8 +225,8 @@ impl File {
     }
 
     fn change(&mut self, offset: usize, bytes: &[u8]) {
-        // The records of a long list, and the packets made from them.
-        let periods = [6, 10, 1_476];
+        // The records or lines of a long list, and the packets made from them.
+        let periods = [6, 9, 10, 1_476];
         let repeats = |period: &&usize| {
             bytes.len() > 4_096 && bytes[**period..] == bytes[..bytes.len() - **period]
         };

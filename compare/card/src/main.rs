@@ -44,9 +44,12 @@ fn main() -> ExitCode {
     }
 }
 
-/// Answers packets until a signal says to stop.
+/// Answers packets until a signal says to stop, unless only the store to begin with is asked for.
 fn serve(options: &Options) -> Result<(), String> {
     let mut card = Card::new(options)?;
+    if let Some(path) = &options.save_start {
+        return save(path, &card.store);
+    }
     if let Some(path) = &options.save {
         can_write(path)?;
     }
@@ -62,11 +65,10 @@ fn serve(options: &Options) -> Result<(), String> {
             Err(error) => log(format_args!("nothing read: {error}")),
         }
     }
-    if let Some(path) = &options.save {
-        fs::write(path, &card.store).map_err(|error| about(path, &error))?;
-        log(format_args!("card: store written to {}", path.display()));
+    match &options.save {
+        Some(path) => save(path, &card.store),
+        None => Ok(()),
     }
-    Ok(())
 }
 
 /// Whether a receive ended only because nothing came, or for a signal.
@@ -209,6 +211,12 @@ fn loaded(path: &Path) -> Result<Vec<u8>, String> {
             path.display()
         )),
     }
+}
+
+fn save(path: &Path, store: &[u8]) -> Result<(), String> {
+    fs::write(path, store).map_err(|error| about(path, &error))?;
+    log(format_args!("card: store written to {}", path.display()));
+    Ok(())
 }
 
 /// Finds out before anything is answered.

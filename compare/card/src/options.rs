@@ -7,10 +7,13 @@ use std::path::PathBuf;
 pub const USAGE: &str =
     "usage: card [--address IP] [--port N] [--store FILE] [--save FILE] [--protect SPACE:FIRST-LAST]...
             [--hostmot2]
+       card --save-start FILE [--store FILE] [--hostmot2]
   --address IP   where it is reached, 127.0.0.1 unless told otherwise
   --port N       the UDP port, 27181 unless told otherwise; 0 for any that is free
   --store FILE   begins with the store in this file, all 0 unless told otherwise
   --save FILE    writes the store to this file when it is stopped
+  --save-start FILE
+                 writes the store that it would begin with to this file, and answers no packet
   --protect SPACE:FIRST-LAST
                  lets no packet write the bytes at these addresses of space 0, 2, 6 or 7, both
                  included, decimal or with 0x: --protect 0:0x1000-0x1003 for register 0x1000
@@ -23,6 +26,8 @@ pub struct Options {
     pub address: SocketAddr,
     pub store: Option<PathBuf>,
     pub save: Option<PathBuf>,
+    /// Where only the store to begin with is asked for.
+    pub save_start: Option<PathBuf>,
     /// Two numbers for each range that no packet may write: its first byte in the store, its bytes.
     pub guard: Vec<u32>,
     pub hostmot2: bool,
@@ -34,6 +39,7 @@ pub fn read(mut words: impl Iterator<Item = String>) -> Result<Option<Options>, 
         address: SocketAddr::new(IpAddr::V4(Ipv4Addr::LOCALHOST), PORT),
         store: None,
         save: None,
+        save_start: None,
         guard: Vec::new(),
         hostmot2: false,
     };
@@ -45,6 +51,7 @@ pub fn read(mut words: impl Iterator<Item = String>) -> Result<Option<Options>, 
             "--port" => options.address.set_port(port(&value("a number")?)?),
             "--store" => options.store = Some(value("a file")?.into()),
             "--save" => options.save = Some(value("a file")?.into()),
+            "--save-start" => options.save_start = Some(value("a file")?.into()),
             "--protect" => {
                 let text = value("SPACE:FIRST-LAST")?;
                 options.guard.extend(protect::range(&text)?);

@@ -26,7 +26,7 @@
 //! # Ok::<(), head::Refusal>(())
 //! ```
 
-use crate::{accepted, Ran, Refusal};
+use crate::{accepted, ran, Ran, Refusal};
 
 /// The number of a guard that is not sound. It comes before every other refusal; its place is the
 /// first pair at fault.
@@ -75,12 +75,7 @@ pub fn guarded_run(
     reply: &mut [u8],
     guard: &[u32],
 ) -> Result<Ran, Refusal> {
-    let (number, value, elements) = exports::guarded_run(packet, store, pointers, reply, guard);
-    accepted(number, value)?;
-    Ok(Ran {
-        length: value as usize,
-        elements,
-    })
+    ran(exports::guarded_run(packet, store, pointers, reply, guard))
 }
 
 /// Runs one SPI burst as [`crate::spi`] does, unless it would be accepted and promises to write a
@@ -114,164 +109,27 @@ pub fn guarded_list(list: &[u8], guard: &[u32]) -> Result<u64, Refusal> {
 }
 
 pub mod exports {
-    use crate::exports::UNWRITTEN;
+    exports! {
+        /// Answers the refusal number, and the pairs or the place.
+        fn guard = head_guard(const guard: u32) -> (value: u64);
 
-    /// Answers the refusal number, and the pairs or the place.
-    pub fn guard(guard: &[u32]) -> (u32, u64) {
-        let mut value = UNWRITTEN;
-        // SAFETY: each pointer and length is a slice's, and the library uses nothing beyond.
-        let number = unsafe { head_guard(guard.as_ptr(), guard.len() as u64, &mut value) };
-        (number, value)
-    }
+        /// Answers the refusal number, and the reply's length or the place.
+        fn guarded_check = head_guarded_check(
+            const packet: u8, const store: u8, const pointers: u32, const guard: u32
+        ) -> (value: u64);
 
-    /// Answers the refusal number, and the reply's length or the place.
-    #[inline]
-    pub fn guarded_check(
-        packet: &[u8],
-        store: &[u8],
-        pointers: &[u32],
-        guard: &[u32],
-    ) -> (u32, u64) {
-        let mut value = UNWRITTEN;
-        // SAFETY: as in `guard`.
-        let number = unsafe {
-            head_guarded_check(
-                packet.as_ptr(),
-                packet.len() as u64,
-                store.as_ptr(),
-                store.len() as u64,
-                pointers.as_ptr(),
-                pointers.len() as u64,
-                guard.as_ptr(),
-                guard.len() as u64,
-                &mut value,
-            )
-        };
-        (number, value)
-    }
+        /// Answers the refusal number, the reply's length or the place, and the elements moved, 0 if
+        /// refused.
+        fn guarded_run = head_guarded_run(
+            const packet: u8, mut store: u8, mut pointers: u32, mut reply: u8, const guard: u32
+        ) -> (value: u64, elements: u64);
 
-    /// Answers the refusal number, the reply's length or the place, and the elements moved, 0 if
-    /// refused.
-    #[inline]
-    pub fn guarded_run(
-        packet: &[u8],
-        store: &mut [u8],
-        pointers: &mut [u32],
-        reply: &mut [u8],
-        guard: &[u32],
-    ) -> (u32, u64, u64) {
-        let mut value = UNWRITTEN;
-        let mut elements = UNWRITTEN;
-        // SAFETY: as in `guard`.
-        let number = unsafe {
-            head_guarded_run(
-                packet.as_ptr(),
-                packet.len() as u64,
-                store.as_mut_ptr(),
-                store.len() as u64,
-                pointers.as_mut_ptr(),
-                pointers.len() as u64,
-                reply.as_mut_ptr(),
-                reply.len() as u64,
-                guard.as_ptr(),
-                guard.len() as u64,
-                &mut value,
-                &mut elements,
-            )
-        };
-        (number, value, elements)
-    }
+        /// Answers the refusal number, and the elements moved or the place.
+        fn guarded_spi = head_guarded_spi(
+            const words: u32, mut store: u8, mut answer: u32, const guard: u32
+        ) -> (value: u64);
 
-    /// Answers the refusal number, and the elements moved or the place.
-    #[inline]
-    pub fn guarded_spi(
-        words: &[u32],
-        store: &mut [u8],
-        answer: &mut [u32],
-        guard: &[u32],
-    ) -> (u32, u64) {
-        let mut value = UNWRITTEN;
-        // SAFETY: as in `guard`.
-        let number = unsafe {
-            head_guarded_spi(
-                words.as_ptr(),
-                words.len() as u64,
-                store.as_mut_ptr(),
-                store.len() as u64,
-                answer.as_mut_ptr(),
-                answer.len() as u64,
-                guard.as_ptr(),
-                guard.len() as u64,
-                &mut value,
-            )
-        };
-        (number, value)
-    }
-
-    /// Answers the refusal number, and the records or the place.
-    pub fn guarded_list(list: &[u8], guard: &[u32]) -> (u32, u64) {
-        let mut value = UNWRITTEN;
-        // SAFETY: as in `guard`.
-        let number = unsafe {
-            head_guarded_list(
-                list.as_ptr(),
-                list.len() as u64,
-                guard.as_ptr(),
-                guard.len() as u64,
-                &mut value,
-            )
-        };
-        (number, value)
-    }
-
-    extern "C" {
-        fn head_guard(guard: *const u32, guard_len: u64, value: *mut u64) -> u32;
-
-        fn head_guarded_check(
-            packet: *const u8,
-            packet_len: u64,
-            store: *const u8,
-            store_len: u64,
-            pointers: *const u32,
-            pointers_len: u64,
-            guard: *const u32,
-            guard_len: u64,
-            value: *mut u64,
-        ) -> u32;
-
-        fn head_guarded_run(
-            packet: *const u8,
-            packet_len: u64,
-            store: *mut u8,
-            store_len: u64,
-            pointers: *mut u32,
-            pointers_len: u64,
-            reply: *mut u8,
-            reply_len: u64,
-            guard: *const u32,
-            guard_len: u64,
-            value: *mut u64,
-            elements: *mut u64,
-        ) -> u32;
-
-        fn head_guarded_spi(
-            words: *const u32,
-            words_len: u64,
-            store: *mut u8,
-            store_len: u64,
-            answer: *mut u32,
-            answer_len: u64,
-            guard: *const u32,
-            guard_len: u64,
-            value: *mut u64,
-        ) -> u32;
-
-        fn head_guarded_list(
-            list: *const u8,
-            list_len: u64,
-            guard: *const u32,
-            guard_len: u64,
-            value: *mut u64,
-        ) -> u32;
+        /// Answers the refusal number, and the records or the place.
+        fn guarded_list = head_guarded_list(const list: u8, const guard: u32) -> (value: u64);
     }
 }

@@ -37,34 +37,9 @@ pub fn independent(first: &[u8], second: &[u8]) -> Result<(), Dependent> {
 }
 
 pub mod exports {
-    use crate::exports::UNWRITTEN;
-
-    /// Answers the refusal number or 51, the list and the place, all 0 if independent.
-    pub fn independent(first: &[u8], second: &[u8]) -> (u32, u64, u64) {
-        let mut list = UNWRITTEN;
-        let mut place = UNWRITTEN;
-        // SAFETY: each pointer and length is a slice's, and the library uses nothing beyond.
-        let number = unsafe {
-            head_independent(
-                first.as_ptr(),
-                first.len() as u64,
-                second.as_ptr(),
-                second.len() as u64,
-                &mut list,
-                &mut place,
-            )
-        };
-        (number, list, place)
-    }
-
-    extern "C" {
-        fn head_independent(
-            first: *const u8,
-            first_len: u64,
-            second: *const u8,
-            second_len: u64,
-            list: *mut u64,
-            place: *mut u64,
-        ) -> u32;
+    exports! {
+        /// Answers the refusal number or 51, the list and the place, all 0 if independent.
+        fn independent = head_independent(const first: u8, const second: u8)
+            -> (list: u64, place: u64);
     }
 }

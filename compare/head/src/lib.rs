@@ -25,22 +25,33 @@
 use std::error::Error;
 use std::fmt;
 
+#[macro_use]
+mod call;
+
+pub mod capture;
 pub mod guard;
 pub mod header;
 pub mod independent;
+pub mod list_why;
 pub mod panel;
 pub mod parts;
 pub mod recording;
 pub mod salvage;
+pub mod sentence;
 pub mod sserial;
+pub mod text;
 pub mod tight;
 pub mod why;
 
+pub use capture::{capture, Captured};
 pub use guard::{guard, guarded_check, guarded_list, guarded_run, guarded_spi};
 pub use header::{header, header_word, Header};
 pub use independent::{independent, Dependent};
+pub use list_why::{list_why, Fault};
 pub use recording::{judge, Verdict};
 pub use salvage::{salvage, Salvaged};
+pub use sentence::sentence;
+pub use text::{assemble, list_text, Assembled, Written};
 pub use tight::{tight_check, tighten};
 pub use why::{why, Reason};
 
@@ -60,8 +71,9 @@ pub const POINTERS: usize = 8;
 pub struct Refusal {
     /// Which rule was broken: never 0.
     pub number: u32,
-    /// The offset of the refused command, the number of the refused record, the bytes needed
-    /// (refusal 26), the log entries needed (27), the pair of a guard (70), or 0.
+    /// The offset of the refused command, the number of the refused record, the line of a text, the
+    /// bytes needed (refusal 26), the log entries or frame numbers needed (27), the pair of a guard
+    /// (70), the frame of a capture (92 to 94), or 0.
     pub place: u64,
 }
 
@@ -130,7 +142,12 @@ pub fn run(
     pointers: &mut [u32],
     reply: &mut [u8],
 ) -> Result<Ran, Refusal> {
-    let (number, value, elements) = exports::run(packet, store, pointers, reply);
+    ran(exports::run(packet, store, pointers, reply))
+}
+
+/// What an export's answer says of a run.
+#[inline]
+fn ran((number, value, elements): (u32, u64, u64)) -> Result<Ran, Refusal> {
     accepted(number, value)?;
     Ok(Ran {
         length: value as usize,
@@ -166,7 +183,12 @@ pub fn spi(words: &[u32], store: &mut [u8], answer: &mut [u32]) -> Result<u64, R
 /// ```
 #[inline]
 pub fn compile(list: &[u8], out: &mut [u8]) -> Result<Compiled, Refusal> {
-    let (number, bytes, packets) = exports::compile(list, out);
+    compiled(exports::compile(list, out))
+}
+
+/// What an export's answer says of a list's packets.
+#[inline]
+fn compiled((number, bytes, packets): (u32, u64, u64)) -> Result<Compiled, Refusal> {
     accepted(number, bytes)?;
     Ok(Compiled {
         bytes: bytes as usize,
@@ -231,158 +253,42 @@ fn accepted(number: u32, place: u64) -> Result<(), Refusal> {
 ///
 /// The first number of each answer is the refusal number, 0 if the call was accepted.
 pub mod exports {
-    use super::c;
-
     /// What a value holds before the call, so that one that was not written is seen.
     pub(crate) const UNWRITTEN: u64 = u64::MAX;
 
-    /// Answers the refusal number, and the reply's length or the place.
-    #[inline]
-    pub fn check(packet: &[u8], store: &[u8], pointers: &[u32]) -> (u32, u64) {
-        let mut value = UNWRITTEN;
-        // SAFETY: each pointer and length is a slice's, and the library uses no byte beyond.
-        let number = unsafe {
-            c::head_check(
-                packet.as_ptr(),
-                packet.len() as u64,
-                store.as_ptr(),
-                store.len() as u64,
-                pointers.as_ptr(),
-                pointers.len() as u64,
-                &mut value,
-            )
-        };
-        (number, value)
-    }
+    exports! {
+        /// Answers the refusal number, and the reply's length or the place.
+        fn check = head_check(const packet: u8, const store: u8, const pointers: u32)
+            -> (value: u64);
 
-    /// Answers the refusal number, the reply's length or the place, and the elements moved, 0 if
-    /// refused.
-    #[inline]
-    pub fn run(
-        packet: &[u8],
-        store: &mut [u8],
-        pointers: &mut [u32],
-        reply: &mut [u8],
-    ) -> (u32, u64, u64) {
-        let mut value = UNWRITTEN;
-        let mut elements = UNWRITTEN;
-        // SAFETY: as in `check`.
-        let number = unsafe {
-            c::head_run(
-                packet.as_ptr(),
-                packet.len() as u64,
-                store.as_mut_ptr(),
-                store.len() as u64,
-                pointers.as_mut_ptr(),
-                pointers.len() as u64,
-                reply.as_mut_ptr(),
-                reply.len() as u64,
-                &mut value,
-                &mut elements,
-            )
-        };
-        (number, value, elements)
-    }
+        /// Answers the refusal number, the reply's length or the place, and the elements moved, 0 if
+        /// refused.
+        fn run = head_run(const packet: u8, mut store: u8, mut pointers: u32, mut reply: u8)
+            -> (value: u64, elements: u64);
 
-    /// Answers the refusal number, and the elements moved or the place.
-    #[inline]
-    pub fn spi(words: &[u32], store: &mut [u8], answer: &mut [u32]) -> (u32, u64) {
-        let mut value = UNWRITTEN;
-        // SAFETY: as in `check`.
-        let number = unsafe {
-            c::head_spi(
-                words.as_ptr(),
-                words.len() as u64,
-                store.as_mut_ptr(),
-                store.len() as u64,
-                answer.as_mut_ptr(),
-                answer.len() as u64,
-                &mut value,
-            )
-        };
-        (number, value)
-    }
+        /// Answers the refusal number, and the elements moved or the place.
+        fn spi = head_spi(const words: u32, mut store: u8, mut answer: u32) -> (value: u64);
 
-    /// Answers the refusal number, the output's bytes or the place, and the packets, 0 if refused.
-    #[inline]
-    pub fn compile(list: &[u8], out: &mut [u8]) -> (u32, u64, u64) {
-        let mut bytes = UNWRITTEN;
-        let mut packets = UNWRITTEN;
-        // SAFETY: as in `check`.
-        let number = unsafe {
-            c::head_compile(
-                list.as_ptr(),
-                list.len() as u64,
-                out.as_mut_ptr(),
-                out.len() as u64,
-                &mut bytes,
-                &mut packets,
-            )
-        };
-        (number, bytes, packets)
+        /// Answers the refusal number, the output's bytes or the place, and the packets, 0 if refused.
+        fn compile = head_compile(const list: u8, mut out: u8) -> (bytes: u64, packets: u64);
     }
 
     /// Writes 7 bytes: write, address, info, space, size, increment, count. A slice of another
     /// length is refused with 13 and left alone.
     pub fn fields(word: u16, fields: &mut [u8]) -> u32 {
-        // SAFETY: as in `check`.
-        unsafe { c::head_fields(word, fields.as_mut_ptr(), fields.len() as u64) }
+        // SAFETY: the pointer and the length are the slice's, and the library uses nothing beyond.
+        unsafe { head_fields(word, fields.as_mut_ptr(), fields.len() as u64) }
     }
 
     /// Puts the word of these 7 bytes together. Where that is refused, `word` is left alone.
     pub fn word(fields: &[u8], word: &mut u16) -> u32 {
-        // SAFETY: as in `check`.
-        unsafe { c::head_word(fields.as_ptr(), fields.len() as u64, word) }
+        // SAFETY: as in `fields`.
+        unsafe { head_word(fields.as_ptr(), fields.len() as u64, word) }
     }
-}
 
-/// The declarations that `include/head.h` gives for C.
-mod c {
     extern "C" {
-        pub fn head_check(
-            packet: *const u8,
-            packet_len: u64,
-            store: *const u8,
-            store_len: u64,
-            pointers: *const u32,
-            pointers_len: u64,
-            value: *mut u64,
-        ) -> u32;
+        fn head_fields(word: u16, fields: *mut u8, fields_len: u64) -> u32;
 
-        pub fn head_run(
-            packet: *const u8,
-            packet_len: u64,
-            store: *mut u8,
-            store_len: u64,
-            pointers: *mut u32,
-            pointers_len: u64,
-            reply: *mut u8,
-            reply_len: u64,
-            value: *mut u64,
-            elements: *mut u64,
-        ) -> u32;
-
-        pub fn head_spi(
-            words: *const u32,
-            words_len: u64,
-            store: *mut u8,
-            store_len: u64,
-            answer: *mut u32,
-            answer_len: u64,
-            value: *mut u64,
-        ) -> u32;
-
-        pub fn head_compile(
-            list: *const u8,
-            list_len: u64,
-            out: *mut u8,
-            out_len: u64,
-            bytes: *mut u64,
-            packets: *mut u64,
-        ) -> u32;
-
-        pub fn head_fields(word: u16, fields: *mut u8, fields_len: u64) -> u32;
-
-        pub fn head_word(fields: *const u8, fields_len: u64, word: *mut u16) -> u32;
+        fn head_word(fields: *const u8, fields_len: u64, word: *mut u16) -> u32;
     }
 }

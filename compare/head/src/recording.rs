@@ -48,38 +48,9 @@ pub fn judge(recording: &[u8], store: &mut [u8], pointers: &mut [u32]) -> Result
 }
 
 pub mod exports {
-    use crate::exports::UNWRITTEN;
-
-    /// Answers the number, the packet's or part's index, and the place of a wrong byte or 0.
-    pub fn judge(recording: &[u8], store: &mut [u8], pointers: &mut [u32]) -> (u32, u64, u64) {
-        let mut index = UNWRITTEN;
-        let mut place = UNWRITTEN;
-        // SAFETY: each pointer and length is a slice's, and the library uses nothing beyond.
-        let number = unsafe {
-            head_judge(
-                recording.as_ptr(),
-                recording.len() as u64,
-                store.as_mut_ptr(),
-                store.len() as u64,
-                pointers.as_mut_ptr(),
-                pointers.len() as u64,
-                &mut index,
-                &mut place,
-            )
-        };
-        (number, index, place)
-    }
-
-    extern "C" {
-        fn head_judge(
-            recording: *const u8,
-            recording_len: u64,
-            store: *mut u8,
-            store_len: u64,
-            pointers: *mut u32,
-            pointers_len: u64,
-            index: *mut u64,
-            place: *mut u64,
-        ) -> u32;
+    exports! {
+        /// Answers the number, the packet's or part's index, and the place of a wrong byte or 0.
+        fn judge = head_judge(const recording: u8, mut store: u8, mut pointers: u32)
+            -> (index: u64, place: u64);
     }
 }

@@ -36,38 +36,9 @@ pub fn salvage(list: &[u8], out: &mut [u8], log: &mut [u64]) -> Result<Salvaged,
 }
 
 pub mod exports {
-    use crate::exports::UNWRITTEN;
-
-    /// Answers the refusal number, the bytes kept or the place, and the log's entries, 0 if refused.
-    pub fn salvage(list: &[u8], out: &mut [u8], log: &mut [u64]) -> (u32, u64, u64) {
-        let mut bytes = UNWRITTEN;
-        let mut entries = UNWRITTEN;
-        // SAFETY: each pointer and length is a slice's, and the library uses nothing beyond.
-        let number = unsafe {
-            head_salvage(
-                list.as_ptr(),
-                list.len() as u64,
-                out.as_mut_ptr(),
-                out.len() as u64,
-                log.as_mut_ptr(),
-                log.len() as u64,
-                &mut bytes,
-                &mut entries,
-            )
-        };
-        (number, bytes, entries)
-    }
-
-    extern "C" {
-        fn head_salvage(
-            list: *const u8,
-            list_len: u64,
-            out: *mut u8,
-            out_len: u64,
-            log: *mut u64,
-            log_len: u64,
-            bytes: *mut u64,
-            entries: *mut u64,
-        ) -> u32;
+    exports! {
+        /// Answers the refusal number, the bytes kept or the place, and the log's entries, 0 if refused.
+        fn salvage = head_salvage(const list: u8, mut out: u8, mut log: u64)
+            -> (bytes: u64, entries: u64);
     }
 }

@@ -1,6 +1,6 @@
 //! Packets for a cue list that are tighter than the packing rule's.
 
-use crate::{accepted, Compiled, Refusal};
+use crate::{accepted, compiled, Compiled, Refusal};
 
 /// The number of an output that [`tight_check`] rejects.
 pub const REJECTED: u32 = 50;
@@ -19,12 +19,7 @@ pub const REJECTED: u32 = 50;
 /// # Ok::<(), head::Refusal>(())
 /// ```
 pub fn tighten(list: &[u8], out: &mut [u8]) -> Result<Compiled, Refusal> {
-    let (number, bytes, packets) = exports::tighten(list, out);
-    accepted(number, bytes)?;
-    Ok(Compiled {
-        bytes: bytes as usize,
-        packets,
-    })
+    compiled(exports::tighten(list, out))
 }
 
 /// Checks an output that is proposed for a cue list, by whomever, and answers its packets. Running
@@ -38,58 +33,11 @@ pub fn tight_check(list: &[u8], output: &[u8]) -> Result<u64, Refusal> {
 }
 
 pub mod exports {
-    use crate::exports::UNWRITTEN;
+    exports! {
+        /// Answers the refusal number, the output's bytes or the place, and the packets, 0 if refused.
+        fn tighten = head_tighten(const list: u8, mut out: u8) -> (bytes: u64, packets: u64);
 
-    /// Answers the refusal number, the output's bytes or the place, and the packets, 0 if refused.
-    pub fn tighten(list: &[u8], out: &mut [u8]) -> (u32, u64, u64) {
-        let mut bytes = UNWRITTEN;
-        let mut packets = UNWRITTEN;
-        // SAFETY: each pointer and length is a slice's, and the library uses nothing beyond.
-        let number = unsafe {
-            head_tighten(
-                list.as_ptr(),
-                list.len() as u64,
-                out.as_mut_ptr(),
-                out.len() as u64,
-                &mut bytes,
-                &mut packets,
-            )
-        };
-        (number, bytes, packets)
-    }
-
-    /// Answers the refusal number or 50, and the packets, the place, or 0 if rejected.
-    pub fn tight_check(list: &[u8], output: &[u8]) -> (u32, u64) {
-        let mut value = UNWRITTEN;
-        // SAFETY: as in `tighten`.
-        let number = unsafe {
-            head_tight_check(
-                list.as_ptr(),
-                list.len() as u64,
-                output.as_ptr(),
-                output.len() as u64,
-                &mut value,
-            )
-        };
-        (number, value)
-    }
-
-    extern "C" {
-        fn head_tighten(
-            list: *const u8,
-            list_len: u64,
-            out: *mut u8,
-            out_len: u64,
-            bytes: *mut u64,
-            packets: *mut u64,
-        ) -> u32;
-
-        fn head_tight_check(
-            list: *const u8,
-            list_len: u64,
-            output: *const u8,
-            output_len: u64,
-            value: *mut u64,
-        ) -> u32;
+        /// Answers the refusal number or 50, and the packets, the place, or 0 if rejected.
+        fn tight_check = head_tight_check(const list: u8, const output: u8) -> (value: u64);
     }
 }

@@ -272,6 +272,97 @@ fn tighter_packets() {
 }
 
 #[test]
+fn captures() {
+    // Raw IPv4 with the high byte first: a request of four bytes to 10.0.0.2 and its reply of two.
+    let mut file = vec![0xA1, 0xB2, 0xC3, 0xD4];
+    file.resize(23, 0);
+    file.push(101);
+    let (host, card) = ([10, 0, 0, 1], [10, 0, 0, 2]);
+    let (asking, port) = ([0x9C, 0x40], [0x6A, 0x2D]);
+    for (from, to, ports, contents) in [
+        (host, card, [asking, port], &[0x01, 0x42, 0, 0][..]),
+        (card, host, [port, asking], &[7, 8][..]),
+    ] {
+        let length = contents.len() as u8;
+        file.extend([0; 11]);
+        file.extend([28 + length, 0, 0, 0, 28 + length]);
+        file.extend([0x45, 0, 0, 28 + length, 0, 0, 0, 0, 64, 17, 0, 0]);
+        file.extend([from, to].as_flattened());
+        file.extend(ports.as_flattened());
+        file.extend([0, 8 + length, 0, 0]);
+        file.extend(contents);
+    }
+    let (mut out, mut frames) = ([0xEE; 15], [9; 2]);
+    let captured = head::capture(&file, &mut out, &mut frames).unwrap();
+    assert_eq!((captured.bytes, captured.packets), (14, 1));
+    assert_eq!(out, *b"LB\x04\0\x01\x42\0\0LB\x02\0\x07\x08\xEE");
+    assert_eq!(frames, [1, 9]);
+    let refusal = head::capture(&file, &mut out[..13], &mut []).unwrap_err();
+    assert_eq!((refusal.number, refusal.place), (26, 14));
+    let refusal = head::capture(&file, &mut out, &mut []).unwrap_err();
+    assert_eq!((refusal.number, refusal.place), (27, 1));
+    let cut = head::capture(&file[..file.len() - 1], &mut out, &mut frames);
+    assert_eq!(cut.unwrap_err().to_string(), "refused 92 at 2");
+    let other = head::capture(&file[1..], &mut out, &mut frames);
+    assert_eq!(other.unwrap_err().to_string(), "refused 91 at 0");
+}
+
+#[test]
+fn text_and_its_list() {
+    let text = b"name ip eeprom 0x20 # low half\r\n\r\nwrite ip 0x20\r\nwrite 2 34 0xc0A8";
+    let list = b"WR\x02\0\x20\0\x20\0\0\0WR\x02\0\x22\0\xA8\xC0\0\0";
+    let mut out = [0xEE; 21];
+    let assembled = head::assemble(text, &mut out).unwrap();
+    assert_eq!((assembled.bytes, assembled.records), (20, 2));
+    assert_eq!(out[..20], *list);
+    assert_eq!(out[20], 0xEE);
+    let written = b"write eeprom 0x0020 0x0020\nwrite eeprom 0x0022 0xC0A8\n";
+    let mut room = [0xEE; 55];
+    let answer = head::list_text(list, &mut room).unwrap();
+    assert_eq!((answer.bytes, answer.lines), (54, 2));
+    assert_eq!(room[..54], *written);
+    assert_eq!(room[54], 0xEE);
+    assert_eq!(head::assemble(written, &mut out), Ok(assembled));
+    assert_eq!(out[..20], *list);
+}
+
+#[test]
+fn refused_texts() {
+    let mut out = [0xEE; 10];
+    let mut refused = |text: &[u8]| {
+        let (number, place, records) = head::text::exports::assemble(text, &mut out);
+        assert_eq!(records, 0);
+        assert_eq!(out, [0xEE; 10]);
+        (number, place)
+    };
+    assert_eq!(refused(b"\nread\n"), (head::text::FORM, 2));
+    assert_eq!(refused(b"read lamp 0x10"), (head::text::NUMBER, 1));
+    assert_eq!(refused(b"#\nread 0 4\nread lamp"), (head::text::NAME, 3));
+    assert_eq!(refused(b"write 7 0 0"), (23, 1));
+    assert_eq!(refused(b"write 6 0 65536"), (24, 1));
+    assert_eq!(refused(b"read 0 4\nread 0 8\n"), (26, 12));
+    let text = b"read 0 4\n".repeat(100_001);
+    assert_eq!(refused(&text), (21, 100_001));
+}
+
+#[test]
+fn refused_lists_as_text() {
+    let mut out = [0xEE; 43];
+    let mut refused = |list: &[u8]| {
+        let (number, place, lines) = head::text::exports::list_text(list, &mut out);
+        assert_eq!(lines, 0);
+        assert_eq!(out, [0xEE; 43]);
+        (number, place)
+    };
+    let read = b"RD\0\0\x04\0";
+    assert_eq!(refused(&read.repeat(2)), (26, 44));
+    assert_eq!(refused(&read[..5]), (22, 0));
+    assert_eq!(refused(b"RD\0\0\x04\0RD\x01\0\x04\0"), (23, 1));
+    assert_eq!(refused(b"RD\0\x01\x04\0"), (24, 0));
+    assert_eq!(refused(&read.repeat(100_001)), (21, 100_000));
+}
+
+#[test]
 fn guards() {
     assert_eq!(head::guard(&[]), Ok(0));
     assert_eq!(head::guard(&[0x1000, 4, 65_728, 0]), Ok(2));

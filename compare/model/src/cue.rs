@@ -21,6 +21,28 @@ pub enum Action {
 }
 
 impl Record {
+    /// The record of these fields, or the lower of 23 and 24 that it is refused with.
+    pub fn new(space: u8, spare: u8, address: u16, action: Action) -> Result<Record, u32> {
+        let space = Space::from_number(space).ok_or(23u32)?;
+        let address = u32::from(address);
+        let record = Record {
+            space,
+            address,
+            action,
+        };
+        if address % space.element() != 0
+            || address + space.element() > space.bytes()
+            || record.is_write() && space.read_only_at(address)
+            || space.kept_from_lists(address)
+        {
+            return Err(23);
+        }
+        if spare != 0 || !record.value_fits() {
+            return Err(24);
+        }
+        Ok(record)
+    }
+
     pub fn is_write(&self) -> bool {
         matches!(self.action, Action::Write(_))
     }
@@ -107,27 +129,10 @@ pub fn first(bytes: &[u8]) -> Result<(Record, usize), u32> {
 
 /// Takes a whole record of 6 or 10 bytes apart.
 fn check(record: &[u8]) -> Result<Record, u32> {
-    let spare = record[3];
-    let address = u32::from(u16::from_le_bytes([record[4], record[5]]));
+    let address = u16::from_le_bytes([record[4], record[5]]);
     let action = match record[6..] {
         [a, b, c, d] => Action::Write(u32::from_le_bytes([a, b, c, d])),
         _ => Action::Read,
     };
-    let space = Space::from_number(record[2]).ok_or(23u32)?;
-    let record = Record {
-        space,
-        address,
-        action,
-    };
-    if address % space.element() != 0
-        || address + space.element() > space.bytes()
-        || record.is_write() && space.read_only_at(address)
-        || space.kept_from_lists(address)
-    {
-        return Err(23);
-    }
-    if spare != 0 || !record.value_fits() {
-        return Err(24);
-    }
-    Ok(record)
+    Record::new(record[2], record[3], address, action)
 }

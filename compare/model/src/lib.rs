@@ -5,18 +5,22 @@
 //! table of refusals numbers them.
 
 pub mod area;
+pub mod capture;
 pub mod cue;
 pub mod guard;
 pub mod independent;
+pub mod list_why;
 pub mod packet;
 pub mod packing;
 pub mod panel;
 pub mod parts;
 pub mod recording;
 pub mod salvage;
+pub mod sentence;
 pub mod spi;
 pub mod sserial;
 pub mod store;
+pub mod text;
 pub mod tight;
 pub mod why;
 pub mod words;
@@ -40,3 +44,13 @@ pub const PACKET_BYTES: usize = 1_472;
 
 /// The highest count that a command word or a burst header can hold.
 pub const HIGHEST_COUNT: u8 = 127;
+
+/// Writes bytes to the front of a room, or refuses with 26 where it is too small.
+fn put(bytes: &[u8], out: &mut [u8]) -> Result<(), Refusal> {
+    let room = out.get_mut(..bytes.len()).ok_or(Refusal {
+        number: 26,
+        place: bytes.len() as u64,
+    })?;
+    room.copy_from_slice(bytes);
+    Ok(())
+}

@@ -3,7 +3,7 @@
 use crate::cue::{Action, Record, Records};
 use crate::store::Space;
 use crate::words::Fields;
-use crate::{Refusal, HIGHEST_COUNT, PACKET_BYTES};
+use crate::{put, Refusal, HIGHEST_COUNT, PACKET_BYTES};
 
 /// Writes 0x5A02 to the unlock cell.
 const UNLOCK: [u8; 6] = [0x01, 0xD9, 0x1A, 0x00, 0x02, 0x5A];
@@ -18,14 +18,9 @@ pub struct Compiled {
 /// Compiles a cue list to `out`. What lies beyond the answered bytes stays as it is.
 pub fn compile(list: &[u8], out: &mut [u8]) -> Result<Compiled, Refusal> {
     let output = packed(list)?;
-    let bytes = output.bytes.len();
-    let room = out.get_mut(..bytes).ok_or(Refusal {
-        number: 26,
-        place: bytes as u64,
-    })?;
-    room.copy_from_slice(&output.bytes);
+    put(&output.bytes, out)?;
     Ok(Compiled {
-        bytes,
+        bytes: output.bytes.len(),
         packets: output.packets,
     })
 }

@@ -15,10 +15,14 @@ use std::hint::black_box;
 use std::process::ExitCode;
 use std::time::{Duration, Instant};
 
+#[path = "bench/capture.rs"]
+mod capture;
 #[path = "bench/guarded.rs"]
 mod guarded;
 #[path = "bench/parts.rs"]
 mod parts;
+#[path = "bench/text.rs"]
+mod text;
 #[path = "bench/tight.rs"]
 mod tight;
 
@@ -85,7 +89,9 @@ fn all_cases() -> Vec<Case> {
     cases.extend(burst_cases());
     cases.extend(lists::cases());
     cases.extend(parts::cases());
+    cases.extend(text::cases());
     cases.extend(tight::cases());
+    cases.extend(capture::cases());
     cases
 }
 
@@ -101,6 +107,8 @@ fn count(name: &str, times: &str) -> Result<(), String> {
         .or_else(|| named(burst_cases()))
         .or_else(|| named(lists::cases()))
         .or_else(|| named(parts::cases()))
+        .or_else(|| named(capture::cases()))
+        .or_else(|| named(text::cases()))
         .or_else(|| named(tight::cases()));
     let mut case = case.ok_or_else(|| unknown(name))?;
     for _ in 0..times {

@@ -22,12 +22,16 @@ const PARTS: &[Part] = &[
     Part("shows", 8_000, compare::shows::compare),
     Part("independent", 5_000, compare::independent::compare),
     Part("salvage", 20_000, compare::salvage::compare),
+    Part("list_why", 20_000, compare::list_why::compare),
+    Part("sentences", 2_000, compare::sentences::compare),
     Part("sserial", 60_000, compare::sserial::compare),
     Part("panel", 400_000, compare::panel::compare),
     Part("parts", 6_000, compare::parts::compare),
     Part("recordings", 8_000, compare::recordings::compare),
     Part("tight", 6_000, compare::tight::compare),
     Part("interlock", 80_000, compare::interlock::compare),
+    Part("captures", 20_000, compare::captures::compare),
+    Part("texts", 20_000, compare::texts::compare),
 ];
 
 struct Options {

@@ -1,10 +1,11 @@
-//! Command words, burst headers, daughter cards and the panel.
+//! Command words, burst headers, daughter cards, the panel, and the sentences of numbers.
 
 use super::{File, Lent, Room, UNWRITTEN};
 use crate::sserial::{fill_registers, Call};
 use crate::words::{self, FIELDS};
 use crate::{cards, headers, numbers, panel};
 use model::panel::{reading, report, start, Bounds};
+use model::sentence::{sentence, MOST_BYTES};
 use model::sserial::{field, pack, unpack, Field, Table, Way};
 use model::Refusal;
 
@@ -14,6 +15,7 @@ pub fn some(file: &mut File, count: usize) {
         burst_header(file);
         masks(file);
         value(file);
+        said(file);
     }
     for _ in 0..count / 4 {
         let card = cards::any(&mut file.rng);
@@ -28,6 +30,27 @@ fn returned(result: &Result<(), Refusal>) -> u32 {
     result
         .as_ref()
         .map_or_else(|refusal| refusal.number, |()| 0)
+}
+
+fn said(file: &mut File) {
+    let rng = &mut file.rng;
+    let number = if rng.one_in(4) {
+        rng.word()
+    } else {
+        rng.below(100) as u32
+    };
+    let text = sentence(number).as_bytes();
+    let room = rng.pick(&[text.len() - 1, text.len(), MOST_BYTES]);
+    let mut before = vec![0; room];
+    rng.fill(&mut before);
+    let mut after = before.clone();
+    let returned = if room < text.len() { 26 } else { 0 };
+    if returned == 0 {
+        after[..text.len()].copy_from_slice(text);
+    }
+    let lent = vec![Lent::changed(Room::Output, &before, &after)];
+    let answers = [text.len() as u64];
+    file.call("head_sentence", returned, &[number.into()], &answers, lent);
 }
 
 fn command_word(file: &mut File) {

@@ -1,4 +1,4 @@
-//! Cue lists: compiled, tightened, checked, held against guards, salvaged, in pairs and in parts.
+//! Cue lists: compiled, tightened, checked, held against guards, what is wrong with them, salvaged, in pairs and in parts.
 //!
 //! Two things are the library's own, as it was made for this machine: the planner's output, which the implementation's
 //! checker must accept, since the planner is free in its method; and the state between parts, whose bytes only the library
@@ -13,7 +13,7 @@ use model::parts::{Parts, ROOM};
 use model::{tight, Refusal};
 
 /// The longest list that is often taken.
-const SHORT: usize = 2_000;
+pub(super) const SHORT: usize = 2_000;
 
 pub fn some(file: &mut File, count: usize) -> Result<(), String> {
     for _ in 0..count {
@@ -22,6 +22,7 @@ pub fn some(file: &mut File, count: usize) -> Result<(), String> {
         tightened(file, &list)?;
         checked(file, &list);
         interlock::vetted(file, &list);
+        wrong(file, &list);
         pair(file, &list, &[]);
         salvaged(file);
         let [first, second] = independent::pair(&mut file.rng);
@@ -49,6 +50,7 @@ pub fn long(file: &mut File) -> Result<(), String> {
         pair(file, &list, &record);
         pair(file, &record, &list);
         interlock::vet(file, &list, &[0, 8]);
+        wrong(file, &list);
     }
     long_in_parts(file, &record)
 }
@@ -162,6 +164,18 @@ fn check(file: &mut File, list: &[u8], output: &[u8]) {
     file.call("head_tight_check", number, &[], &[value], lent);
 }
 
+fn wrong(file: &mut File, list: &[u8]) {
+    let (number, answers) = match model::list_why::list_why(list) {
+        None => (0, [0; 3]),
+        Some(fault) => (
+            fault.refusal.number,
+            [fault.refusal.place, fault.offset, fault.cause],
+        ),
+    };
+    let lent = vec![Lent::kept(Room::Input, list)];
+    file.call("head_list_why", number, &[], &answers, lent);
+}
+
 fn salvaged(file: &mut File) {
     let list = salvage::list(&mut file.rng);
     if list.len() > SHORT {
@@ -247,7 +261,8 @@ impl Feed {
 fn in_parts(file: &mut File, list: &[u8]) -> Result<(), String> {
     let mut feed = Feed::new();
     let most = file.rng.pick(&[1, 7, 400, list.len().max(1)]);
-    if most == 1 && list.len() > 200 {
+    // At most so many calls.
+    if list.len() > 200 * most {
         return Ok(());
     }
     let mut at = 0;

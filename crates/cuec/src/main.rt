@@ -1,12 +1,27 @@
 // The compiling program: a cue list on standard input, its packets or a line on standard output.
+use input::Taken;
 use libc::STDIN_FILENO;
 use libc::STDOUT_FILENO;
 
-fn main() {
-    // One byte more than a list may have, so that a longer input is noticed.
-    let mut input = [0u8; 16385];
-    let taken = io::read_full(STDIN_FILENO, &mut input);
+fn report(list: &[u8]) {
     let mut room = [0u8; 32768];
-    let said = cuec_output::report(&input[..taken], &mut room);
+    let said = cuec_output::report(list, &mut room);
     io::write_all(STDOUT_FILENO, &room[..said]);
+}
+
+fn main() {
+    if os::arg_count() != 1 {
+        io::write_all(
+            STDOUT_FILENO,
+            b"usage: cuec < LIST\nThe packets of a cue list of at most 16,384 bytes, each behind \"LB\" and its length.\n",
+        );
+        return;
+    }
+    // One byte more than a list may have, so that a longer input is noticed.
+    let mut list = [0u8; 16385];
+    let taken = input::all(STDIN_FILENO, &mut list);
+    match taken {
+        Taken::Bytes(n) => report(&list[..n]),
+        Taken::Failed => input::cannot_read(),
+    }
 }

@@ -1,7 +1,7 @@
 -- Laws of the playable list and of the account as the program leaves and writes them.
 use Prim.Native.Nat.{ℕ, _*_, _^_, _≤_, _<_}
 use mathlib.Core.Path.{_≡_, refl, sym, ap, _∙_}
-use mathlib.Core.List.{List, _++_}
+use mathlib.Core.List.{List, [], _++_}
 use mathlib.Core.Bool.{Bool, true, false, cond}
 use native.Mathlib.Omega.{arith}
 use native.Mathlib.Nat.{zero-add}
@@ -17,7 +17,7 @@ use Rattle.salvage.specs.declared.scan.Counts.{Counts}
 use Rattle.salvage.proofs.LoopLaws.{log-length}
 use Rattle.salvage.proofs.SalvageLaws.{both-fit, whole}
 use Rattle.salvage.proofs.EntryLaws.{few-entries, output-length}
-use Rattle.cuefix_output.specs.Account.{leaves, saved, accountTold, answered, written, toldText, accountOf}
+use Rattle.cuefix_output.specs.Account.{leaves, saved, answered, written, noted, toldText, toldNote, accountOf, accountFrom}
 use Rattle.cuefix_output.specs.Account.{mostBytes, logNumbers, mostRead, usageLine, skippedLine, keptLine}
 use Rattle.cuefix_output.specs.Inside.{Taken, Saved}
 use Rattle.cuefix_output.specs.declared.Request.{Request}
@@ -77,41 +77,59 @@ module _ (w : Request) (list room log : List ℕ) where
   log-too-long e h = rw (e, lt-ltb mostBytes (length list) h) refl
 
   module _ (room₁ log₁ : List ℕ) (c : Counts) (few : length list ≤ mostBytes) (s : Saved list room log room₁ log₁ c) where
-    pub list-answered : w ≡ Request.List → leaves (Told.List (c .bytes)) room₁ log₁ ≡ answered w list room log
-    unfolding answered saved counted output
+    pub list-answered : w ≡ Request.List → leaves (Told.List c) room₁ log₁ ≡ answered w list room log
+    unfolding answered saved
     list-answered e =
-        rw (e, le-ltb mostBytes (length list) few)
-        (leaves-alike (ap (λ (x : Counts). Told.List (x .bytes)) (s .counts)) (s .room-is) (s .log-is))
+        rw (e, le-ltb mostBytes (length list) few) (leaves-alike (ap Told.List (s .counts)) (s .room-is) (s .log-is))
 
-    pub log-answered : w ≡ Request.Log
-        → leaves (Told.Account (c .entries) (c .records) (c .bytes)) room₁ log₁ ≡ answered w list room log
-    unfolding answered saved accountTold counted output entries
+    pub log-answered : w ≡ Request.Log → leaves (Told.Account c) room₁ log₁ ≡ answered w list room log
+    unfolding answered saved
     log-answered e =
-        rw (e, le-ltb mostBytes (length list) few)
-        (leaves-alike (ap (λ (x : Counts). Told.Account (x .entries) (x .records) (x .bytes)) (s .counts)) (s .room-is) (s .log-is))
+        rw (e, le-ltb mostBytes (length list) few) (leaves-alike (ap Told.Account (s .counts)) (s .room-is) (s .log-is))
 
--- What is told, line by line, is the whole text.
-pub told-is-written : (w : Request) (list room log : List ℕ) → mostBytes ≤ length room → logNumbers ≤ length log
-    → toldText (answered w list room log) ≡ written w list
-unfolding answered written toldText saved accountTold accountOf
-told-is-written Request.Usage list room log h k = refl
-told-is-written Request.List list room log h k = go (ltb mostBytes (length list)) refl
-  where
-    go : (t : Bool) → ltb mostBytes (length list) ≡ t
-        → toldText (cond t (leaves Told.TooLong room log) (saved (Told.List (length (output list))) list room log))
-        ≡ cond t tooLongLine (output list)
-    go true e = refl
-    go false e = front-reads (output list) room (omega (arith, output-few list (ltb-false _ _ e)))
-told-is-written Request.Log list room log h k = go (ltb mostBytes (length list)) refl
-  where
-    go : (t : Bool) → ltb mostBytes (length list) ≡ t
-        → toldText (cond t (leaves Told.TooLong room log) (saved (accountTold list) list room log))
-        ≡ cond t tooLongLine (accountOf list)
-    go true e = refl
-    go false e =
-        let a : take (2 * entries list) (sets log 0 (logged list)) ≡ logged list =
-        rw (← log-numbers list) (front-reads (logged list) log (omega (arith, log-few list (ltb-false _ _ e)))) in
-        rw a refl
+-- What is told, line by line, is the whole text, on standard output and on standard error.
+module _ (list room log : List ℕ) (h : mostBytes ≤ length room) (k : logNumbers ≤ length log) where
+  account-is : length list ≤ mostBytes → accountFrom list (sets log 0 (logged list)) (counted (scan list)) ≡ accountOf list
+  unfolding accountFrom accountOf counted output entries
+  account-is few =
+      let a : take (2 * entries list) (sets log 0 (logged list)) ≡ logged list =
+      rw (← log-numbers list) (front-reads (logged list) log (omega (arith, log-few list few))) in
+      rw a refl
+
+  pub told-is-written : (w : Request) → toldText list (answered w list room log) ≡ written w list
+  unfolding answered written toldText saved counted output
+  told-is-written Request.Usage = refl
+  told-is-written Request.List = go (ltb mostBytes (length list)) refl
+    where
+      go : (t : Bool) → ltb mostBytes (length list) ≡ t
+          → toldText list (cond t (leaves Told.TooLong room log) (saved (Told.List (counted (scan list))) list room log))
+          ≡ cond t tooLongLine (output list)
+      go true e = refl
+      go false e = front-reads (output list) room (omega (arith, output-few list (ltb-false _ _ e)))
+  told-is-written Request.Log = go (ltb mostBytes (length list)) refl
+    where
+      go : (t : Bool) → ltb mostBytes (length list) ≡ t
+          → toldText list (cond t (leaves Told.TooLong room log) (saved (Told.Account (counted (scan list))) list room log))
+          ≡ cond t tooLongLine (accountOf list)
+      go true e = refl
+      go false e = account-is (ltb-false _ _ e)
+
+  pub told-is-noted : (w : Request) → toldNote list (answered w list room log) ≡ noted w list
+  unfolding answered noted toldNote saved
+  told-is-noted Request.Usage = refl
+  told-is-noted Request.List = go (ltb mostBytes (length list)) refl
+    where
+      go : (t : Bool) → ltb mostBytes (length list) ≡ t
+          → toldNote list (cond t (leaves Told.TooLong room log) (saved (Told.List (counted (scan list))) list room log))
+          ≡ cond t [] (accountOf list)
+      go true e = refl
+      go false e = account-is (ltb-false _ _ e)
+  told-is-noted Request.Log = go (ltb mostBytes (length list)) refl
+    where
+      go : (t : Bool) → ltb mostBytes (length list) ≡ t
+          → toldNote list (cond t (leaves Told.TooLong room log) (saved (Told.Account (counted (scan list))) list room log)) ≡ []
+      go true e = refl
+      go false e = refl
 
 -- each line fits a room of 64 bytes
 pub usage-fits : length usageLine ≤ 64

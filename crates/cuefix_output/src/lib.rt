@@ -18,29 +18,19 @@ pub enum Request {
     Usage,
 }
 
-// What is to be written: a line, so many bytes of the room, or a line for each entry of the log and one for what was kept.
+// What is to be written: a line; the playable list from the room, and its account to standard error; or the account alone. An account is a line
+// or two for each entry of the log, and one for what was kept.
 pub enum Told {
     Usage,
     TooLong,
-    List(usize),
-    Account {
-        entries: usize,
-        records: usize,
-        bytes: usize,
-    },
+    List(Counts),
+    Account(Counts),
 }
 
 fn is_log(word: &[u8]) -> bool
     ensures { λ r. ⌜ r ≡ isLog (now (word .entry)) ⌝ }
 {
-    if word.len() != 5 {
-        return false;
-    }
-    (word[0] == b'-')
-        & (word[1] == b'-')
-        & (word[2] == b'l')
-        & (word[3] == b'o')
-        & (word[4] == b'g')
+    input::is_word(word, b"--log")
 }
 
 // `count`: how many words the program was started with, its name among them; `word`: the first behind it.
@@ -90,19 +80,13 @@ pub fn answer(
             if MOST < input.len() {
                 return Told::TooLong;
             }
-            let counts = save(input, room, log);
-            Told::List(counts.bytes)
+            Told::List(save(input, room, log))
         }
         Request::Log => {
             if MOST < input.len() {
                 return Told::TooLong;
             }
-            let counts = save(input, room, log);
-            Told::Account {
-                entries: counts.entries,
-                records: counts.records,
-                bytes: counts.bytes,
-            }
+            Told::Account(save(input, room, log))
         }
     }
 }

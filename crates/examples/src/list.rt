@@ -97,13 +97,13 @@ pub(crate) fn salvaged(damaged: &[u8], rooms: &[u8]) {
     );
 }
 
-fn found(room: [u8; 256], n: usize) {
+fn found(room: [u8; 24576], n: usize) {
     form::say(slice::part(&room, 0, n as u64));
 }
 
 // A recorded show judged on a fresh card: packets and replies in turn, each behind "LB" and its length.
 pub(crate) fn judged(recording: &[u8]) {
-    let mut room = [0u8; 256];
+    let mut room = [0u8; 24576];
     let n = showcheck_output::findings(recording, &mut room);
     found(room, n);
 }

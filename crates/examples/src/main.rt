@@ -10,10 +10,22 @@ mod slice;
 mod wire;
 mod word;
 
+use input::Taken;
 use libc::STDIN_FILENO;
+use libc::STDOUT_FILENO;
 
 fn main() {
-    let mut input = [0u8; 32768];
-    let taken = io::read_full(STDIN_FILENO, &mut input);
-    script::play(&input[..taken]);
+    if os::arg_count() != 1 {
+        io::write_all(
+            STDOUT_FILENO,
+            b"usage: examples < LINES\nRuns packets, bursts, words and lists; crates/examples/src/script.rt has the kinds of lines.\n",
+        );
+        return;
+    }
+    let mut script = [0u8; 32768];
+    let taken = input::all(STDIN_FILENO, &mut script);
+    match taken {
+        Taken::Bytes(n) => script::play(&script[..n]),
+        Taken::Failed => input::cannot_read(),
+    }
 }

@@ -16,7 +16,8 @@
 //     s NAME=        the list, played both ways
 //     m NAME=        the list for a packet, told by the elements that it moves
 //
-// A name is written before the answer. A line that begins with = is passed over.
+// A name is written before the answer. A line that begins with = is passed over. HEX are digits of either case, with blanks between as one
+// likes; of a line with anything else, `bad hex` is said.
 use crate::form;
 use crate::hex;
 use crate::hex::Data;
@@ -78,20 +79,40 @@ fn example(kind: u8, before: Data, own: Data, card: Card) -> Card {
 }
 
 // How often a line's bytes are put: once where it does not say.
-fn times(name: &[u8]) -> u16 {
-    let own = hex::with_text(hex::none(), name, 0);
-    let n = bytes::pair_at(&own.bytes, 0);
+fn times(count: Data) -> u16 {
+    let n = bytes::pair_at(&count.bytes, 0);
     if n == 0 { 1 } else { n }
+}
+
+// A line that is not read leaves the card, and no list.
+fn unread(state: State) -> State {
+    form::say(b": bad hex\n");
+    let card = state.card;
+    let list = hex::none();
+    State { card, list }
+}
+
+fn with_more(name: &[u8], text: &[u8], state: State) -> State {
+    let count = hex::with_text(hex::none(), name, 0);
+    let card = state.card;
+    let list = hex::with_texts(state.list, text, times(count));
+    let next = State { card, list };
+    if hex::is_bad(count) | hex::is_bad(list) {
+        form::say(b"list");
+        return unread(next);
+    }
+    next
 }
 
 fn next(kind: u8, name: &[u8], text: &[u8], state: State) -> State {
     if kind == b'+' {
-        let card = state.card;
-        let list = hex::with_texts(state.list, text, times(name));
-        return State { card, list };
+        return with_more(name, text, state);
     }
     form::say(name);
     let own = hex::with_text(hex::none(), text, 0);
+    if (kind != b'=') & hex::is_bad(own) {
+        return unread(state);
+    }
     let card = example(kind, state.list, own, state.card);
     let list = hex::none();
     State { card, list }

@@ -8,3 +8,6 @@ pub mod ReasonExportLaws
 pub mod TightExportLaws
 pub mod TightenLaws
 pub mod SalvageExportLaws
+pub mod CaptureExportLaws
+pub mod SentenceExportLaws
+pub mod CueTextExportLaws

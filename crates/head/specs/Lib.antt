@@ -5,7 +5,11 @@ pub mod PanelExports
 pub mod PartsExports
 pub mod IndependentExports
 pub mod RecordingExports
+pub mod CaptureExports
 pub mod ReasonExports
 pub mod TightExports
 pub mod SalvageExports
 pub mod InterlockExports
+pub mod ListReasonExports
+pub mod SentenceExports
+pub mod CueTextExports

@@ -1,13 +1,17 @@
 // What C programs call; include/head.h declares it. A function that can refuse returns the refusal's number, 0 if accepted.
+mod capture_exports;
+mod cue_text_exports;
 mod independent_exports;
 mod interlock_exports;
 mod lent;
+mod list_reason_exports;
 mod numbers;
 mod panel_exports;
 pub mod parts_exports;
 mod reason_exports;
 mod recording_exports;
 mod salvage_exports;
+mod sentence_exports;
 mod spi_exports;
 pub mod sserial_exports;
 mod tight_exports;

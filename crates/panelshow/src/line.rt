@@ -1,4 +1,6 @@
-// A field's line: its name, its value and its unit. Each function answers the place behind what it put.
+// A field's line: its name, and its reading and unit or, where it has no reading, its value and type. Each function answers the place behind
+// what it put.
+use lbp16::Refusal;
 use panel::reading::ReadingAnswer;
 use sserial::table::Field;
 use text::find;
@@ -42,15 +44,66 @@ fn measured(out: &mut [u8], at: usize, unit: &[u8], x: f32) -> usize {
     text::put(out, next, unit)
 }
 
-fn answered(out: &mut [u8], at: usize, unit: &[u8], answer: ReadingAnswer) -> usize {
-    match answer {
-        ReadingAnswer::Reading(x) => measured(out, at, unit, x),
-        ReadingAnswer::Refused(r) => line::numbered(out, at, b": no reading, ", r.number as u64),
+// The data types.
+fn type_word(out: &mut [u8], at: usize, kind: u8) -> usize {
+    match kind {
+        0 => text::put(out, at, b"pad"),
+        1 => text::put(out, at, b"bits"),
+        2 => text::put(out, at, b"unsigned"),
+        3 => text::put(out, at, b"signed"),
+        4 => text::put(out, at, b"nonvolatile unsigned"),
+        5 => text::put(out, at, b"nonvolatile signed"),
+        6 => text::put(out, at, b"stream"),
+        _ => text::put(out, at, b"boolean"),
     }
 }
 
-pub(crate) fn reading(out: &mut [u8], memory: &[u8], f: Field, answer: ReadingAnswer) -> usize {
+fn plain(out: &mut [u8], at: usize, kind: u8, value: u64) -> usize {
+    if (kind == 3) | (kind == 5) {
+        return number::signed(out, at, value);
+    }
+    number::decimal(out, at, value)
+}
+
+// 44 is what the type and the width say.
+fn why(out: &mut [u8], at: usize, f: Field, r: Refusal) -> usize {
+    if r.number == 44 {
+        return line::numbered(out, at, b", width ", f.width as u64);
+    }
+    line::numbered(out, at, b", no reading: ", r.number as u64)
+}
+
+fn unmeasured(out: &mut [u8], at: usize, f: Field, value: u64, r: Refusal) -> usize {
+    let next = text::put(out, at, b": ");
+    let next = plain(out, next, f.kind, value);
+    let next = text::put(out, next, b" (");
+    let next = type_word(out, next, f.kind);
+    let next = why(out, next, f, r);
+    text::put(out, next, b")")
+}
+
+fn answered(
+    out: &mut [u8],
+    at: usize,
+    unit: &[u8],
+    f: Field,
+    value: u64,
+    answer: ReadingAnswer,
+) -> usize {
+    match answer {
+        ReadingAnswer::Reading(x) => measured(out, at, unit, x),
+        ReadingAnswer::Refused(r) => unmeasured(out, at, f, value, r),
+    }
+}
+
+pub(crate) fn reading(
+    out: &mut [u8],
+    memory: &[u8],
+    f: Field,
+    value: u64,
+    answer: ReadingAnswer,
+) -> usize {
     let next = text::put(out, 0, find::string(memory, f.name));
-    let next = answered(out, next, find::string(memory, f.unit), answer);
+    let next = answered(out, next, find::string(memory, f.unit), f, value, answer);
     text::put(out, next, b"\n")
 }

@@ -1,7 +1,10 @@
 // The panel's readings of one card, a line for each field that the card sends. Standard input has the address of the card's table
 // (2 bytes), a channel's three registers (4 bytes each), all low byte first, and then the card's memory.
+mod fault;
 mod line;
 
+use fault::pair;
+use input::Taken;
 use lbp16::Refusal;
 use libc::STDIN_FILENO;
 use libc::STDOUT_FILENO;
@@ -13,10 +16,6 @@ use sserial::field::FieldAnswer;
 use sserial::table::Direction;
 use sserial::table::Field;
 
-fn pair(low: u8, high: u8) -> u16 {
-    low as u16 + 256 * high as u16
-}
-
 fn quad(low: u16, high: u16) -> u32 {
     low as u32 + 65536 * high as u32
 }
@@ -27,15 +26,22 @@ fn put(out: &[u8], n: usize) {
     }
 }
 
-fn refused(out: &mut [u8], r: Refusal) {
+fn put_fault(out: &mut [u8], at: usize, memory: &[u8], table: u16, number: u32) -> usize {
+    if number == 41 {
+        return fault::first_unreadable(out, at, memory, table);
+    }
+    fault::first_overfull(out, at, memory, table)
+}
+
+fn refused(out: &mut [u8], memory: &[u8], table: u16, r: Refusal) {
     let next = text::line::numbered(out, 0, b"the table is refused with ", r.number as u64);
-    let n = text::put(out, next, b"\n");
+    let n = put_fault(out, next, memory, table, r.number);
     put(out, n);
 }
 
 fn told(out: &mut [u8], memory: &[u8], table: u16, index: u64, f: Field, value: u64) {
     let reading = panel::fields::field_reading(memory, table, index, value);
-    let n = line::reading(out, memory, f, reading);
+    let n = line::reading(out, memory, f, value, reading);
     put(out, n);
 }
 
@@ -88,7 +94,7 @@ fn incoming(
 fn card(out: &mut [u8], memory: &[u8], table: u16, registers: &[u32]) {
     let answer = count::count_fields(memory, table);
     match answer {
-        TableAnswer::Refused(r) => refused(out, r),
+        TableAnswer::Refused(r) => refused(out, memory, table, r),
         TableAnswer::Fields { inputs, outputs: _ } => {
             let mut room = [0u64; 96];
             incoming(out, memory, table, inputs, registers, &mut room);
@@ -108,9 +114,23 @@ fn show(out: &mut [u8], input: &[u8]) {
     card(out, &input[14..], pair(input[0], input[1]), &registers);
 }
 
+fn usage() {
+    io::write_all(
+        STDOUT_FILENO,
+        b"usage: panelshow < CARD\nCARD is, low byte first: the address of the card's process table (2 bytes), a channel's interface registers 0, 1 and 2 (4 bytes each),\nand the card's memory from address 0. The address is the low word of interface register 2 after a start; the memory is read by\nremote reads; the registers are those that hold the inputs after an exchange.\nA reading is the value times the maximum by the largest value; the minimum is left out.\n",
+    );
+}
+
 // A line has room for a name and a unit that are the whole memory.
 fn main() {
-    let mut input = [0u8; 65550];
-    let taken = io::read_full(STDIN_FILENO, &mut input);
-    show(&mut [0u8; 131200], &input[..taken]);
+    if os::arg_count() != 1 {
+        usage();
+        return;
+    }
+    let mut card = [0u8; 65550];
+    let taken = input::all(STDIN_FILENO, &mut card);
+    match taken {
+        Taken::Failed => input::cannot_read(),
+        Taken::Bytes(n) => show(&mut [0u8; 131200], &card[..n]),
+    }
 }

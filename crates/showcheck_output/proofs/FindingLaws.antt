@@ -1,14 +1,10 @@
 -- Laws of what is put.
-use Prim.Native.Nat.{ℕ, _+_, _-_, _^_, min, _≤_, _<_}
+use Prim.Native.Nat.{ℕ, _+_, _-_, min, _≤_}
 use mathlib.Core.Path.{_≡_, refl, sym, ap, _∙_}
-use mathlib.Core.List.{List}
+use mathlib.Core.List.{List, [], _++_, append-nil}
 use native.Mathlib.Omega.{arith}
-use lib.ListN.{length, take, drop, replicate, length-append}
-use borrow.Author.Tests.{lt-ltb, le-ltb}
-use Rattle.lbp16.specs.Space.{storeBytes}
-use Rattle.lbp16.specs.Pointer.{fresh}
+use lib.ListN.{length, take, drop, drop-of-length-le}
 use Rattle.lbp16.specs.declared.pointer.Pointers.{Pointers}
-use Rattle.packet.specs.Command.{limit}
 use Rattle.packet.proofs.SliceLaws.{tail-whole}
 use Rattle.cue.specs.Output.{Front, frontOf, frameListed}
 use Rattle.recording.specs.Recording.{left, judgedIn}
@@ -16,21 +12,12 @@ use Rattle.cue.specs.declared.frame.Frame.{Frame}
 use Rattle.recording.specs.declared.Judged.{Judged}
 use Rattle.cue.proofs.FrameLaws.{front-within}
 use Rattle.text.specs.Number.{ascii}
-use Rattle.text.specs.Room.{filled, putAt, textLeft}
-use Rattle.text.specs.Line.{numbered, tooLongLine}
-use Rattle.text.proofs.DecimalLaws.{decimal-length}
+use Rattle.text.specs.Room.{Filled, filled, putAt, textLeft}
 use Rattle.text.proofs.FindLaws.{rest-is}
 use Rattle.text.proofs.RoomLaws.{put-then, put-front}
-use Rattle.showcheck_output.specs.Findings.{between, hexLine, around, frameEnd, bytesOfFront, behindFront, bothReplies, repliesText}
-use Rattle.showcheck_output.specs.Findings.{badByteText, judgmentText, leftText, judgedText, said, mostBytes}
-use Rattle.showcheck_output.proofs.AroundLaws.{inside, most, line-length}
-
--- a number between two texts: its length
-pub between-length : (before after : List ℕ) (n : ℕ) → n < 2 ^ 64 → length (between before n after) ≤ length before + length after + 20
-unfolding between numbered
-between-length before after n small =
-    let d = decimal-length 19 n (omega arith) in
-    simp length-append (omega arith)
+use Rattle.showcheck_output.specs.Findings.{hexLine, around, frameEnd, bytesOfFront, behindFront, bothReplies}
+use Rattle.showcheck_output.specs.Findings.{unanswered, judgmentText, leftText, judgedText}
+use Rattle.showcheck_output.proofs.AroundLaws.{inside, most}
 
 -- a whole frame stands within the bytes
 pub end-within : (rest : List ℕ) → frameEnd (frontOf rest) ≤ length rest
@@ -46,6 +33,9 @@ end-within rest = go (frontOf rest) refl
 module _ (rest : List ℕ) {frame : Frame} (e : frameListed frame ≡ frontOf rest) where
   pub end-is : (x : Frame) → frame ≡ x → frameEnd (frameListed x) ≡ frameEnd (frontOf rest)
   end-is x q = rw q at (ap frameEnd e)
+
+  pub none-is : (x : Frame) → frame ≡ x → unanswered (frameListed x) ≡ unanswered (frontOf rest)
+  none-is x q = rw q at (ap unanswered e)
 
   pub whole-within : (n : ℕ) → frame ≡ Frame.Whole n → 4 + n ≤ length rest
   whole-within n q = front-within rest n (rw q at e)
@@ -70,40 +60,20 @@ unfolding bothReplies
 replies-put found reply k own at room e p q =
     put-then _ _ at room (rw (sym (most reply (length found) own e)) at p) q
 
--- and all that is said of a byte that is wrong
-bothReplies-length : (found reply : List ℕ) (k : ℕ) → length (bothReplies found reply k) ≤ 72
-unfolding bothReplies ascii
-bothReplies-length found reply k =
-    let a = line-length (ascii "expected") k (take (length found) reply) in
-    let b = line-length (ascii "found   ") k found in
-    rw length-append (omega arith)
-
-pub bad-byte-length : (i k : ℕ) (rest reply : List ℕ) → length (between (ascii "packet ") i (ascii ", ")) ≤ 29
-    → length (between (ascii "byte ") k (ascii " of its reply is wrong\n")) ≤ 48 → length (badByteText i k rest reply) ≤ 256
-unfolding badByteText repliesText
-bad-byte-length i k rest reply a b =
-    let c = bothReplies-length (bytesOfFront (behindFront rest)) reply k in
-    simp length-append (omega arith)
-
 -- what is put of what judging answers and leaves
-pub judged-is : (recording store room : List ℕ) (p : Pointers) (j : Judged) (store₁ room₁ : List ℕ) (at : ℕ) → p ≡ fresh
+pub judged-is : (recording frames store room : List ℕ) (p : Pointers) (j : Judged) (store₁ room₁ : List ℕ) (at : ℕ)
     → left j store₁ room₁ ≡ judgedIn recording store p room → at ≡ min (j .at) (length recording)
-    → judgmentText (j .judgment) (take (length recording - at) (drop at recording)) room₁ ≡ judgedText recording store room
+    → judgmentText (j .judgment) frames (take (length recording - at) (drop at recording)) store₁ (j .pointers) room₁
+    ≡ judgedText recording frames store p room
 unfolding judgedText leftText left
-judged-is recording store room p j store₁ room₁ at f e a =
-    let g : left j store₁ room₁ ≡ judgedIn recording store fresh room = rw f at e in
-    rw (← g, rest-is recording (j .at) at a) refl
+judged-is recording frames store room p j store₁ room₁ at e a = rw (← e, rest-is recording (j .at) at a) refl
 
--- what the program's function leaves
-module _ (recording room : List ℕ) {room₁ : List ℕ} {n : ℕ} (size : length room ≡ 256) where
-  pub too-long-said : mostBytes < length recording → filled n room₁ ≡ putAt tooLongLine 0 room
-      → filled n room₁ ≡ textLeft (said recording) room
-  unfolding said tooLongLine ascii
-  too-long-said h p = rw (lt-ltb mostBytes (length recording) h) (p ∙ put-front tooLongLine room (omega arith))
-
-  pub judged-said : length recording ≤ mostBytes
-      → filled n room₁ ≡ putAt (judgedText recording (replicate storeBytes 0) (replicate limit 0)) 0 room
-      → length (judgedText recording (replicate storeBytes 0) (replicate limit 0)) ≤ 256
-      → filled n room₁ ≡ textLeft (said recording) room
-  unfolding said
-  judged-said h p k = rw (le-ltb mostBytes (length recording) h) (p ∙ put-front _ room (omega arith))
+-- a room of the same length becomes what is put there
+pub becomes : (file store : List ℕ) {store₁ : List ℕ} {n : ℕ} → length file ≡ length store → filled n store₁ ≡ putAt file 0 store
+    → store₁ ≡ file
+unfolding textLeft
+becomes file store {store₁} h e =
+    let f = e ∙ put-front file store (omega arith) in
+    let g : store₁ ≡ file ++ drop (length file) store = ap (λ (x : Filled). x .room) f in
+    let z : drop (length file) store ≡ [] = drop-of-length-le store {i = length file} (omega arith) in
+    g ∙ rw z (append-nil file)

@@ -1,3 +1,5 @@
 pub mod AroundLaws
+pub mod LengthLaws
 pub mod FindingLaws
+pub mod HeardLaws
 pub mod SaidLaws

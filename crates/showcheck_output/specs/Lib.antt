@@ -1,1 +1,4 @@
 pub mod Findings
+pub mod Input
+pub mod Given
+pub mod Inside

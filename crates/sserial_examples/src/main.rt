@@ -3,6 +3,7 @@
 mod cards;
 mod line;
 
+use input::Taken;
 use libc::STDIN_FILENO;
 use libc::STDOUT_FILENO;
 use sserial::call;
@@ -149,10 +150,24 @@ fn put(out: &[u8], n: usize) {
     }
 }
 
-fn main() {
-    let mut input = [0u8; 8192];
-    let taken = io::read_full(STDIN_FILENO, &mut input);
+fn play(cards: &[u8]) {
     let mut out = [0u8; 8192];
-    let n = all(&mut out, &input[..taken]);
+    let n = all(&mut out, cards);
     put(&out, n);
+}
+
+fn main() {
+    if os::arg_count() != 1 {
+        io::write_all(
+            STDOUT_FILENO,
+            b"usage: sserial_examples < CARDS\nWorked examples of daughter card fields; CARDS are card memories as hexadecimal digits.\n",
+        );
+        return;
+    }
+    let mut cards = [0u8; 8192];
+    let taken = input::all(STDIN_FILENO, &mut cards);
+    match taken {
+        Taken::Bytes(n) => play(&cards[..n]),
+        Taken::Failed => input::cannot_read(),
+    }
 }

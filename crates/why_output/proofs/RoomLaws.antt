@@ -1,7 +1,7 @@
 -- What the program writes fits its room: every piece stands there, one behind the other.
 use Prim.Native.Nat.{ℕ, zero, suc, _+_, _-_, _≤_, _<_}
 use mathlib.Core.Path.{_≡_, refl}
-use mathlib.Core.List.{List, [], _∷_, _++_}
+use mathlib.Core.List.{List, _++_}
 use mathlib.Core.Bool.{Bool, true, false, _&&_, cond}
 use native.Mathlib.Omega.{arith}
 use borrow.Author.Tests.{le-ltb, ltb-false}
@@ -17,61 +17,25 @@ use Rattle.packet.proofs.RefusalLaws.{RefusedAt, refused-in-table}
 use Rattle.card.proofs.RunLaws.{checked-cases}
 use Rattle.text.specs.Number.{ascii, hexadecimal}
 use Rattle.text.specs.Room.{putAt, textLeft}
-use Rattle.text.specs.Line.{numbered}
-use Rattle.text.proofs.DecimalLaws.{decimal-length}
 use Rattle.text.proofs.HexLaws.{hex-length, bytes-length}
+use Rattle.text.proofs.LineLaws.{cond-length, numbered-length}
 use Rattle.text.proofs.RoomLaws.{put-front}
+use Rattle.sentence.specs.Sentence.{sentenceOf}
+use Rattle.sentence.proofs.TableLaws.{sentence-short}
 use Rattle.reason.specs.Reason.{commandsFrom, commandsBefore, unnamed, named, reasonOf, explained}
 use Rattle.reason.specs.declared.Reason.{Reason}
-use Rattle.why_output.specs.Sentence.{Entry, saysOf, sentences, sentence}
-use Rattle.why_output.specs.Wording.{acceptedText, refusedText, elementBytes, kindText, fieldsText, addressDigits, addressText}
+use Rattle.why_output.specs.Wording.{ruleText, acceptedText, refusedText, elementBytes, kindText, fieldsText, addressDigits, addressText}
 use Rattle.why_output.specs.Wording.{describedText, lastPlace, commandShown, spanText, commandText, frontText, saidOf, said}
 use Rattle.why_output.specs.declared.given.Given.{Given}
 use Rattle.why_output.specs.Given.{pointersIn, wholeText}
 
--- what holds of both of two texts' lengths
-cond-length : (n : ℕ) (b : Bool) (xs ys : List ℕ) → length xs ≤ n → length ys ≤ n → length (cond b xs ys) ≤ n
-cond-length n true xs ys h k = h
-cond-length n false xs ys h k = k
-
 -- No sentence is above 100 bytes.
-unfoldable AllShort : List Entry → Type 0
-AllShort [] = Unit {0}
-AllShort (e ∷ es) = (length (e .says) ≤ 100) × AllShort es
-
-says-short : (n : ℕ) (es : List Entry) → AllShort es → length (saysOf n es) ≤ 100
-unfolding saysOf AllShort
-says-short n [] h = omega arith
-says-short n (e ∷ es) h = cond-length 100 (eqb n (e .number)) (e .says) (saysOf n es) (h .0) (says-short n es (h .1))
-
-sentence-short : (n : ℕ) → length (sentence n) ≤ 100
-unfolding sentence sentences ascii AllShort
-sentence-short n =
-    says-short n sentences (
-      omega arith,
-      (
-        omega arith,
-        (
-          omega arith,
-          (
-            omega arith,
-            (
-              omega arith,
-              (
-                omega arith,
-                (
-                  omega arith,
-                  (
-                    omega arith,
-                    (omega arith, (omega arith, (omega arith, (omega arith, tt)))),
-                  ),
-                ),
-              ),
-            ),
-          ),
-        ),
-      ),
-    )
+rule-short : (n : ℕ) → length (ruleText n) ≤ 100
+unfolding ruleText ascii
+rule-short n =
+    cond-length 100 (eqb n 1) (ascii "the store is not whole, or a pointer stands above the size of its space or info area") (sentenceOf n)
+    (omega arith)
+    (sentence-short n)
 
 -- The numbers that a reason may hold.
 pub record Small (packet : List ℕ) (r : Reason) : Type 0 where
@@ -148,11 +112,6 @@ module _ (packet store : List ℕ) (p : Pointers) where
                 short = λ _. short;
               })
 
--- a number that a reason holds, behind its text
-numbered-few : (before : List ℕ) (n : ℕ) → n ≤ 18446744073709551615 → length (numbered before n) ≤ length before + 20
-unfolding numbered
-numbered-few before n l = rw length-append (omega (arith, decimal-length 19 n (omega arith)))
-
 address-few : (n : ℕ) → length (hexadecimal (addressDigits n) n) ≤ 5
 unfolding addressDigits
 address-few n = rw hex-length (go (ltb n 65536))
@@ -180,9 +139,9 @@ module _ (packet : List ℕ) (r : Reason) (s : Small packet r) where
   refused-size : length (refusedText r) ≤ 155
   unfolding refusedText ascii
   refused-size =
-      let a = numbered-few (ascii "refused ") (r .number) (omega (arith, s .number)) in
-      let b = numbered-few (ascii " at ") (r .place) (omega (arith, s .place)) in
-      let c = sentence-short (r .number) in
+      let a = numbered-length (ascii "refused ") (r .number) (omega (arith, s .number)) in
+      let b = numbered-length (ascii " at ") (r .place) (omega (arith, s .place)) in
+      let c = rule-short (r .number) in
       simp length-append (omega arith)
 
   kind-size : length (kindText (r .fields)) ≤ 10
@@ -197,11 +156,11 @@ module _ (packet : List ℕ) (r : Reason) (s : Small packet r) where
   unfolding fieldsText ascii
   fields-size =
       let a = kind-size in
-      let b = numbered-few (ascii ", space ") (r .fields .space) (omega (arith, s .space)) in
-      let c = numbered-few (ascii ", ") (elementBytes (r .fields .size)) (omega (arith, element-few (r .fields .size))) in
+      let b = numbered-length (ascii ", space ") (r .fields .space) (omega (arith, s .space)) in
+      let c = numbered-length (ascii ", ") (elementBytes (r .fields .size)) (omega (arith, element-few (r .fields .size))) in
       let d = cond-length 28 (r .fields .increment) (ascii "-byte elements, increment") (ascii "-byte elements, no increment")
       (omega arith) (omega arith) in
-      let e = numbered-few (ascii ", count ") (r .fields .count) (omega (arith, s .count)) in
+      let e = numbered-length (ascii ", count ") (r .fields .count) (omega (arith, s .count)) in
       simp length-append (omega arith)
 
   address-size : (n : ℕ) → length (addressText n r) ≤ 35
@@ -228,9 +187,9 @@ module _ (packet : List ℕ) (r : Reason) (s : Small packet r) where
   span-size : (last : ℕ) → last ≤ 18446744073709551615 → length (spanText r last) ≤ 80
   unfolding spanText ascii
   span-size last l =
-      let a = numbered-few (ascii "command ") (r .index) (omega (arith, s .index)) in
-      let b = numbered-few (ascii ", bytes ") (r .place) (omega (arith, s .place)) in
-      let c = numbered-few (ascii " to ") last l in
+      let a = numbered-length (ascii "command ") (r .index) (omega (arith, s .index)) in
+      let b = numbered-length (ascii ", bytes ") (r .place) (omega (arith, s .place)) in
+      let c = numbered-length (ascii " to ") last (omega arith) in
       simp length-append (omega arith)
 
   command-size : 3 ≤ r .number → length (commandText packet r) ≤ 4652
@@ -248,7 +207,7 @@ module _ (packet : List ℕ) (r : Reason) (s : Small packet r) where
   front-size : 3 ≤ r .number → length (frontText packet (r .place)) ≤ 4481
   unfolding frontText ascii
   front-size three =
-      let a = numbered-few (ascii "the ") (r .place) (omega (arith, s .place)) in
+      let a = numbered-length (ascii "the ") (r .place) (omega (arith, s .place)) in
       let b : length (take (r .place) packet) ≤ 1472 = rw length-take (omega (arith, s .short three)) in
       let c = bytes-length (take (r .place) packet) in
       simp length-append (omega arith)
@@ -270,7 +229,7 @@ module _ (packet : List ℕ) (r : Reason) (s : Small packet r) where
           let c = refused-size in
           simp length-append (omega arith)
 
-said-fits : (packet store : List ℕ) (p : Pointers) → length (said packet store p) ≤ 16384
+pub said-fits : (packet store : List ℕ) (p : Pointers) → length (said packet store p) ≤ 16384
 unfolding said
 said-fits packet store p = said-size packet (explained packet store p) (small packet store p)
 

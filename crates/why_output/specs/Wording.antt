@@ -11,14 +11,19 @@ use Rattle.text.specs.Number.{ascii, hexadecimal, bytesOfHex}
 use Rattle.text.specs.Line.{numbered}
 use Rattle.reason.specs.Reason.{explained}
 use Rattle.reason.specs.declared.Reason.{Reason}
-use Rattle.why_output.specs.Sentence.{sentence}
+use Rattle.sentence.specs.Sentence.{sentenceOf}
 
 unfoldable pub acceptedText : List ℕ → List ℕ
 acceptedText packet = cond (eqb (length packet) 0) (ascii "accepted, no commands\n") (ascii "accepted\n")
 
+-- What a packet's refusal says. 1 means other things too, but not of a packet.
+unfoldable pub ruleText : ℕ → List ℕ
+ruleText n =
+    cond (eqb n 1) (ascii "the store is not whole, or a pointer stands above the size of its space or info area") (sentenceOf n)
+
 unfoldable pub refusedText : Reason → List ℕ
 refusedText r =
-    numbered (ascii "refused ") (r .number) ++ numbered (ascii " at ") (r .place) ++ ascii ": " ++ sentence (r .number) ++ ascii "\n"
+    numbered (ascii "refused ") (r .number) ++ numbered (ascii " at ") (r .place) ++ ascii ": " ++ ruleText (r .number) ++ ascii "\n"
 
 -- the size code's bytes
 unfoldable pub elementBytes : ℕ → ℕ

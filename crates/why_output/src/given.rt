@@ -54,7 +54,7 @@ fn spaces_in(file: &[u8], at: usize) -> SpacePointers
     }
 }
 
-pub(crate) fn pointers_in(file: &[u8]) -> Pointers
+pub fn pointers_in(file: &[u8]) -> Pointers
     ensures { λ r. ⌜ r ≡ pointersIn (now (file .entry)) ⌝ }
 {
     Pointers {

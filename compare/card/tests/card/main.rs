@@ -1,5 +1,6 @@
 //! Tests of the program as a whole.
 
+mod captures;
 mod common;
 mod mesaflash;
 mod options;

@@ -24,6 +24,7 @@ fn called_wrongly() {
     wrong(&["--address", "here"], "card: 'here' is no IP address");
     wrong(&["--store"], "card: --store needs a file");
     wrong(&["--hostmot2", "--save"], "card: --save needs a file");
+    wrong(&["--save-start"], "card: --save-start needs a file");
 }
 
 #[test]
@@ -75,6 +76,29 @@ fn usage_when_asked() {
 }
 
 #[test]
+fn store_to_begin_with() {
+    let path = file("options-start");
+    let name = path.to_str().expect("a plain name");
+    let start = |words: &[&str]| {
+        let mut command = Command::new(env!("CARGO_BIN_EXE_card"));
+        let output = run(command.args(words).args(["--save-start", name]));
+        assert!(output.status.success());
+        let line = format!("card: store written to {name}\n");
+        assert_eq!(output.stdout, line.as_bytes());
+        fs::read(&path).expect("the store")
+    };
+    assert_eq!(start(&[]), vec![0; 65_728]);
+    let plain = start(&["--hostmot2"]);
+    assert_eq!(plain.len(), 65_728);
+    assert_eq!(plain[0x100..0x10C], *b"\xFE\xCA\xAA\x55HOSTMOT2");
+    // It begins with a file's store where one is named, and fills its cells in.
+    fs::write(&path, vec![0xEE; 65_728]).unwrap();
+    let other = start(&["--store", name, "--hostmot2"]);
+    assert_eq!(other[0x100..0x10C], plain[0x100..0x10C]);
+    assert_eq!(other[..0x100], [0xEE; 0x100]);
+}
+
+#[test]
 fn address_in_use() {
     let card = Card::start(&["--port", "0"]);
     let port = card.address.rsplit(':').next().expect("a port");
@@ -111,7 +135,12 @@ fn files_that_are_not_to_be_had() {
     assert!(line.starts_with(&format!("card: {name}: ")), "{line}");
     let below = missing.join("store");
     let name = below.to_str().expect("a plain name");
-    let (exit, line) = fails(&["--port", "0", "--save", name]);
-    assert_eq!(exit, 1);
-    assert!(line.starts_with(&format!("card: {name}: ")), "{line}");
+    for words in [
+        &["--port", "0", "--save", name],
+        &["--hostmot2", "--save-start", name][..],
+    ] {
+        let (exit, line) = fails(words);
+        assert_eq!(exit, 1);
+        assert!(line.starts_with(&format!("card: {name}: ")), "{line}");
+    }
 }

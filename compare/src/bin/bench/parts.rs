@@ -8,19 +8,19 @@ use model::parts::{Parts, ROOM};
 use model::store::Space;
 use std::hint::black_box;
 
-const RECORDS: u32 = 90_000;
+pub const RECORDS: u32 = 90_000;
 
 pub fn cases() -> Vec<Case> {
-    let list = season();
+    let list = season(RECORDS);
     let mut cases = vec![whole(&list)];
     cases.extend([1, 64, 4_096, 65_536].map(|bytes| fed(&list, bytes)));
     cases
 }
 
 /// Blocks of rising writes, each with a status read behind it.
-fn season() -> Vec<u8> {
+pub fn season(records: u32) -> Vec<u8> {
     let mut list = List::default();
-    for k in 0..RECORDS {
+    for k in 0..records {
         match k % 30 {
             29 => list.read(Space::Status, 2 * (k % 5)),
             _ => list.write(Space::Registers, 4 * k % 65_536, k),

@@ -6,25 +6,31 @@ use Rattle.cuefix.proofs.put_skipped.Statement.{statement}
 use Rattle.cuefix.proofs.put_skipped.Tie as tie
 
 abbrev Inv-loop : tie.InvT-loop
-Inv-loop log line₀ rest₀ line rest = length rest ≤ length log
+Inv-loop fd list log line₀ rest₀ from₀ line rest from = length rest ≤ length log
 
 abbrev μ-loop : tie.MeasureT-loop
-μ-loop log line₀ rest₀ line rest = length rest
+μ-loop fd list log line₀ rest₀ from₀ line rest from = length rest
 
 loop-holds : tie.Need-loop-holds Inv-loop μ-loop
 loop-holds c = search needs
 
-shared-slice-read-skipped : tie.Need-shared-slice-read-skipped Inv-loop μ-loop
-shared-slice-read-skipped c = search needs
+shared-slice-read-put-stretch : tie.Need-shared-slice-read-put-stretch Inv-loop μ-loop
+shared-slice-read-put-stretch c = search needs
 
-shared-slice-read-skipped-2 : tie.Need-shared-slice-read-skipped-2 Inv-loop μ-loop
-shared-slice-read-skipped-2 c = search needs
+shared-slice-read-put-stretch-2 : tie.Need-shared-slice-read-put-stretch-2 Inv-loop μ-loop
+shared-slice-read-put-stretch-2 c = search needs
 
-skipped-requires : tie.Need-skipped-requires Inv-loop μ-loop
-skipped-requires c κs = search needs
+put-stretch-requires : tie.Need-put-stretch-requires Inv-loop μ-loop
+put-stretch-requires c κs = search needs
 
-put-requires : tie.Need-put-requires Inv-loop μ-loop
-put-requires c κs = search needs
+shared-slice-read-behind : tie.Need-shared-slice-read-behind Inv-loop μ-loop
+shared-slice-read-behind c = search needs
+
+shared-slice-read-behind-2 : tie.Need-shared-slice-read-behind-2 Inv-loop μ-loop
+shared-slice-read-behind-2 c = search needs
+
+behind-requires : tie.Need-behind-requires Inv-loop μ-loop
+behind-requires c κs = search needs
 
 sub-rest : tie.Need-sub-rest Inv-loop μ-loop
 sub-rest c = search needs
@@ -51,10 +57,12 @@ put-skipped-spec =
     Inv-loop
     μ-loop
     loop-holds
-    shared-slice-read-skipped
-    shared-slice-read-skipped-2
-    skipped-requires
-    put-requires
+    shared-slice-read-put-stretch
+    shared-slice-read-put-stretch-2
+    put-stretch-requires
+    shared-slice-read-behind
+    shared-slice-read-behind-2
+    behind-requires
     sub-rest
     part-rest-start
     part-rest-end

@@ -11,14 +11,14 @@ most-read-requires c κs = search needs
 returns : tie.Need-returns
 returns c = search needs
 
-slice-relend-prefix-read-full : tie.Need-slice-relend-prefix-read-full
-slice-relend-prefix-read-full c = search needs
+slice-relend-prefix-all : tie.Need-slice-relend-prefix-all
+slice-relend-prefix-all c = search needs
 
-slice-aggregate-read-full : tie.Need-slice-aggregate-read-full
-slice-aggregate-read-full c = sym (length-take-le _ _ (omega arith))
+slice-aggregate-all : tie.Need-slice-aggregate-all
+slice-aggregate-all c = sym (length-take-le _ _ (omega arith))
 
-read-full-requires : tie.Need-read-full-requires
-read-full-requires c κs = search needs
+all-requires : tie.Need-all-requires
+all-requires c κs = search needs
 
 same-length : tie.Need-same-length
 same-length c = search needs
@@ -32,8 +32,8 @@ take-spec =
     (tie.spec
     most-read-requires
     returns
-    slice-relend-prefix-read-full
-    slice-aggregate-read-full
-    read-full-requires
+    slice-relend-prefix-all
+    slice-aggregate-all
+    all-requires
     same-length
     returns-2)

@@ -3,9 +3,6 @@ use borrow.Author.Needs.{needs}
 use Rattle.showcheck_output.proofs.put_judged.Statement.{statement}
 use Rattle.showcheck_output.proofs.put_judged.Tie as tie
 
-fresh-requires : tie.Need-fresh-requires
-fresh-requires c κs = search needs
-
 judge-in-requires : tie.Need-judge-in-requires
 judge-in-requires c κs = search needs
 
@@ -27,17 +24,22 @@ put-verdict-requires c κs = search needs
 same-length : tie.Need-same-length
 same-length c = search needs
 
+same-length-2 : tie.Need-same-length-2
+same-length-2 c = search needs
+
 returns : tie.Need-returns
 returns c =
-    let b = c .before .before .before .before .before .before .before in
-    let e = judged-is _ _ _ _ _ _ _ _ (b .before .before .before .fresh .ensures) (b .before .judge-in .ensures) (b .least .ensures) in
-    rw e at (c .before .before .put-verdict .ensures)
+    let z = c .before .before .before .before .before .before .before .before in
+    let y = z .before .before .before .before in
+    let x = y .before .before .before .before .before .before .before in
+    let a = x .args in
+    let e = judged-is _ (a .frames .now) _ _ _ _ _ _ _ (y .judge-in .ensures) (z .least .ensures) in
+    let v = c .before .before .put-verdict .ensures in (rw e at (v .0), rw e at (v .1))
 
 pub put-judged-spec : {M : Type 1} → statement M
 put-judged-spec =
     tie.close
     (tie.spec
-    fresh-requires
     judge-in-requires
     least-requires
     sub-put-verdict
@@ -45,4 +47,5 @@ put-judged-spec =
     part-put-verdict-end
     put-verdict-requires
     same-length
+    same-length-2
     returns)

@@ -26,8 +26,8 @@ slice-aggregate-put c = search needs
 put-requires : tie.Need-put-requires
 put-requires c κs = search needs
 
-put-sentence-requires : tie.Need-put-sentence-requires
-put-sentence-requires c κs = search needs
+put-rule-requires : tie.Need-put-rule-requires
+put-rule-requires c κs = search needs
 
 slice-aggregate-put-2 : tie.Need-slice-aggregate-put-2
 slice-aggregate-put-2 c = search needs
@@ -48,7 +48,7 @@ returns c =
     put-then _ _ _ _
     (put-then _ _ _ _
     (put-then _ _ _ _ (put-then _ _ _ _ (w .before .before .before .before .before .numbered .ensures) (w .numbered2 .ensures)) (x .put .ensures))
-    (y .put-sentence .ensures))
+    (y .put-rule .ensures))
     (z .put2 .ensures)
 
 pub refused-spec : {M : Type 1} → statement M
@@ -62,7 +62,7 @@ refused-spec =
     numbered-requires-2
     slice-aggregate-put
     put-requires
-    put-sentence-requires
+    put-rule-requires
     slice-aggregate-put-2
     put-requires-2
     same-length

@@ -11,8 +11,8 @@ enum-told c = search needs
 fresh-requires : tie.Need-fresh-requires
 fresh-requires c κs = search needs
 
-answer-requires : tie.Need-answer-requires
-answer-requires c κs = search needs
+put-said-requires : tie.Need-put-said-requires
+put-said-requires c κs = search needs
 
 enum-told-2 : tie.Need-enum-told-2
 enum-told-2 c = search needs
@@ -35,8 +35,8 @@ returns c =
 pointers-in-requires : tie.Need-pointers-in-requires
 pointers-in-requires c κs = search needs
 
-answer-requires-2 : tie.Need-answer-requires-2
-answer-requires-2 c κs = search needs
+put-said-requires-2 : tie.Need-put-said-requires-2
+put-said-requires-2 c κs = search needs
 
 enum-told-3 : tie.Need-enum-told-3
 enum-told-3 c = search needs
@@ -62,8 +62,8 @@ same-length-2 c = search needs
 returns-2 : tie.Need-returns-2
 unfolding wholeText ascii
 returns-2 c =
-    let b = c .before .before .before .before in
-    rw (b .before .enum-told .given .1) (rw (b .fresh .ensures) at (c .before .before .answer .ensures))
+    let b = c .before .before .before in
+    rw (b .before .before .enum-told .given .1) (rw (b .fresh .ensures) at (c .before .before .put-said .ensures))
 
 same-length-3 : tie.Need-same-length-3
 same-length-3 c = search needs
@@ -71,9 +71,9 @@ same-length-3 c = search needs
 returns-3 : tie.Need-returns-3
 unfolding wholeText ascii
 returns-3 c =
-    let b = c .before .before .before .before in
-    rw (b .before .before .enum-told2 .given .1, eq-eqb _ 32 (b .before .if1 .left))
-    (rw (b .pointers-in .ensures) at (c .before .before .answer2 .ensures))
+    let b = c .before .before .before in
+    rw (b .before .before .before .enum-told2 .given .1, eq-eqb _ 32 (b .before .before .if1 .left))
+    (rw (b .pointers-in .ensures) at (c .before .before .put-said2 .ensures))
 
 same-length-4 : tie.Need-same-length-4
 same-length-4 c = search needs
@@ -95,14 +95,14 @@ written-spec =
     (tie.spec
     enum-told
     fresh-requires
-    answer-requires
+    put-said-requires
     enum-told-2
     slice-aggregate-put
     put-requires
     same-length
     returns
     pointers-in-requires
-    answer-requires-2
+    put-said-requires-2
     enum-told-3
     slice-aggregate-put-2
     put-requires-2

@@ -1,0 +1,94 @@
+-- What is wrong with a bad line, and with which of its words.
+use Prim.Native.Nat.{ℕ, _+_, _-_, _%_}
+use mathlib.Core.List.{List, [], _∷_}
+use mathlib.Core.Bool.{Bool, true, false, not, _||_, _&&_, cond}
+use lib.ListN.{getD, take}
+use lib.Dec.{eqb, ltb}
+use Rattle.text.specs.Find.{sameBytes}
+use Rattle.lbp16.specs.Space.{spaceOf as space, isAbsent, row}
+use Rattle.cue_text.specs.Words.{linesOf, wordsOf}
+use Rattle.cue_text.specs.Numbers.{Value, none, value, spaceOf, addressOf, isName}
+use Rattle.cue_text.specs.Text.{Form, empty, reads, writes, names, unknown, at, called, formOf}
+use Rattle.cue_text.specs.declared.fault.Cause.{Cause}
+use Rattle.cue_text.specs.declared.fault.Fault.{Fault}
+
+-- the word is counted from 0 in its line
+abbrev pub fault : Cause → ℕ → Fault
+fault cause word = record { cause = cause; word = word }
+
+-- lines are counted from 1
+unfoldable pub lineNumbered : ℕ → List ℕ → List ℕ
+lineNumbered line text = getD (linesOf text) (line - 1) []
+
+unfoldable pub isNone : Value → Bool
+isNone none = true
+isNone (value n) = false
+
+unfoldable pub numberIn : Value → ℕ
+numberIn none = 0
+numberIn (value n) = n
+
+-- 82, of a SPACE that is the word i and an ADDRESS behind it, and of a VALUE behind both
+unfoldable pub placeFault : ℕ → List ℕ → Fault
+placeFault i s = cond (isNone (spaceOf s)) (fault Cause.Space i) (fault Cause.Address (i + 1))
+
+unfoldable pub writeFault : List ℕ → List ℕ → Fault
+writeFault s a = cond (isNone (spaceOf s) || isNone (addressOf a)) (placeFault 1 s) (fault Cause.Value 3)
+
+-- whether a line, and one of some lines, defines a name
+unfoldable pub definesName : List ℕ → Form → Bool
+definesName n empty = false
+definesName n (reads t) = false
+definesName n (writes t v) = false
+definesName n (names m s a) = sameBytes m n
+definesName n unknown = false
+
+unfoldable pub defined : List ℕ → List (List ℕ) → Bool
+defined n [] = false
+defined n (l ∷ ls) = definesName n (formOf (wordsOf l)) || defined n ls
+
+-- 83, of a name that is used, and of one that is defined below some lines
+unfoldable pub usedFault : List ℕ → Fault
+usedFault n = cond (isName n) (fault Cause.NotDefined 1) (fault Cause.NoName 1)
+
+unfoldable pub definedFault : List (List ℕ) → List ℕ → Fault
+definedFault above n = cond (isName n) (cond (defined n above) (fault Cause.Again 1) (fault Cause.TooMany 1)) (fault Cause.NoName 1)
+
+-- 23, by the first rule that the element breaks
+unfoldable pub elementCause : Bool → ℕ → ℕ → Cause
+elementCause write? s a =
+    let r = row (space s) in
+    cond (not (eqb (a % r .element) 0)) Cause.Misaligned
+    (cond (ltb (r .bytes) (a + r .element)) Cause.PastEnd
+    (cond (ltb a (r .«read_only») && write?) Cause.ReadOnly (cond (eqb a 0x1A) Cause.Unlock Cause.PacketCount)))
+
+-- its SPACE is the word i, and its ADDRESS the next
+unfoldable pub elementFault : Bool → ℕ → ℕ → ℕ → Fault
+elementFault write? i s a = cond (isAbsent (space s)) (fault Cause.NoSpace i) (fault (elementCause write? s a) (i + 1))
+
+-- 24 is a value's. Of a name that is known the read passes 23, so that only a write can break it: its cell is read only.
+unfoldable pub formFault : ℕ → List (List ℕ) → Form → Fault
+formFault n above empty = fault Cause.Form 0
+formFault n above (reads (at s a)) =
+    cond (eqb n 82) (placeFault 1 s) (elementFault false 1 (numberIn (spaceOf s)) (numberIn (addressOf a)))
+formFault n above (reads (called w)) = usedFault w
+formFault n above (writes (at s a) v) =
+    cond (eqb n 82) (writeFault s a)
+    (cond (eqb n 24) (fault Cause.TooWide 3) (elementFault true 1 (numberIn (spaceOf s)) (numberIn (addressOf a))))
+formFault n above (writes (called w) v) =
+    cond (eqb n 82) (fault Cause.Value 2)
+    (cond (eqb n 83) (usedFault w) (cond (eqb n 24) (fault Cause.TooWide 2) (fault Cause.ReadOnly 1)))
+formFault n above (names w s a) =
+    cond (eqb n 82) (placeFault 2 s)
+    (cond (eqb n 83) (definedFault above w) (elementFault false 2 (numberIn (spaceOf s)) (numberIn (addressOf a))))
+formFault n above unknown = fault Cause.Form 0
+
+-- of a line that is refused with this number
+unfoldable pub faultOf : ℕ → ℕ → List ℕ → Fault
+faultOf n line text =
+    cond (eqb n 21) (fault Cause.Records 0)
+    (formFault n (take (line - 1) (linesOf text)) (formOf (wordsOf (lineNumbered line text))))
+
+-- the word at fault
+unfoldable pub faultWord : ℕ → ℕ → List ℕ → List ℕ
+faultWord n line text = getD (wordsOf (lineNumbered line text)) (faultOf n line text .word) []

@@ -1,0 +1,4 @@
+-- Laws of the definitions in specs/.
+pub mod WordingLaws
+pub mod SizeLaws
+pub mod SaidLaws

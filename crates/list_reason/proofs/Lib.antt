@@ -1,0 +1,6 @@
+-- Laws of the definitions in specs/.
+pub mod CauseLaws
+pub mod FrontLaws
+pub mod ReachLaws
+pub mod WhyLaws
+pub mod Examples

@@ -1,0 +1,71 @@
+use Prim.Native.Nat.{_-_}
+use mathlib.Core.Path.{_≡_}
+use lib.ListN.{length}
+use borrow.Author.Needs.{needs}
+use Rattle.panelshow.proofs.fault.first_overfull.Statement.{statement}
+use Rattle.panelshow.proofs.fault.first_overfull.Tie as tie
+
+abbrev Inv-loop : tie.InvT-loop
+Inv-loop out₀ at memory table k₀ b₀ out k b = length out ≡ length out₀
+
+abbrev μ-loop : tie.MeasureT-loop
+μ-loop out₀ at memory table k₀ b₀ out k b = 65535 - k
+
+loop-holds : tie.Need-loop-holds Inv-loop μ-loop
+loop-holds c = search needs
+
+record-of-requires : tie.Need-record-of-requires Inv-loop μ-loop
+record-of-requires c κs = search needs
+
+with-entry-requires : tie.Need-with-entry-requires Inv-loop μ-loop
+with-entry-requires c κs = search needs
+
+overfull-requires : tie.Need-overfull-requires Inv-loop μ-loop
+overfull-requires c κs = search needs
+
+goes-on-requires : tie.Need-goes-on-requires Inv-loop μ-loop
+goes-on-requires c κs = search needs
+
+said-requires : tie.Need-said-requires Inv-loop μ-loop
+said-requires c κs = search needs
+
+same-length : tie.Need-same-length Inv-loop μ-loop
+same-length c = search needs
+
+returns : tie.Need-returns Inv-loop μ-loop
+returns c = search needs
+
+add-k : tie.Need-add-k Inv-loop μ-loop
+add-k c = search needs
+
+loop-less : tie.Need-loop-less Inv-loop μ-loop
+loop-less c = search needs
+
+loop-again : tie.Need-loop-again Inv-loop μ-loop
+loop-again c = search needs
+
+same-length-2 : tie.Need-same-length-2 Inv-loop μ-loop
+same-length-2 c = search needs
+
+returns-2 : tie.Need-returns-2 Inv-loop μ-loop
+returns-2 c = search needs
+
+pub first-overfull-spec : {M : Type 1} → statement M
+first-overfull-spec =
+    tie.close
+    (tie.spec
+    Inv-loop
+    μ-loop
+    loop-holds
+    record-of-requires
+    with-entry-requires
+    overfull-requires
+    goes-on-requires
+    said-requires
+    same-length
+    returns
+    add-k
+    loop-less
+    loop-again
+    same-length-2
+    returns-2)
