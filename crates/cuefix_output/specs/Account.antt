@@ -7,7 +7,7 @@ use lib.Seq.{sets}
 use lib.Dec.{eqb, ltb}
 use Rattle.text.specs.Number.{ascii, bytesOfHex}
 use Rattle.text.specs.Line.{numbered, pairLine, tooLongLine}
-use Rattle.input.specs.Reading.{sameWord}
+use Rattle.text.specs.Find.{sameBytes}
 use Rattle.salvage.specs.Salvage.{sizeAt, scan, keptCount, counted, output, logged}
 use Rattle.salvage.specs.declared.scan.Counts.{Counts}
 use Rattle.cuefix_output.specs.declared.Request.{Request}
@@ -115,7 +115,7 @@ toldNote list l = noteOf (l .told)
 
 -- What is asked for: by no argument the list, by "--log" alone the account, by anything else how the program is used.
 unfoldable pub isLog : List ℕ → Bool
-isLog word = sameWord word (ascii "--log")
+isLog word = sameBytes word (ascii "--log")
 
 -- `count`: the program's name and its arguments
 unfoldable pub requested : ℕ → List ℕ → Request

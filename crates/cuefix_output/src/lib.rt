@@ -1,6 +1,7 @@
 // What the salvaging program writes: a playable list, or an account of what was skipped, a line at a time.
 use salvage::scan;
 use salvage::scan::Counts;
+use text::find;
 
 pub mod lines;
 
@@ -30,7 +31,7 @@ pub enum Told {
 fn is_log(word: &[u8]) -> bool
     ensures { λ r. ⌜ r ≡ isLog (now (word .entry)) ⌝ }
 {
-    input::is_word(word, b"--log")
+    find::same(word, b"--log")
 }
 
 // `count`: how many words the program was started with, its name among them; `word`: the first behind it.

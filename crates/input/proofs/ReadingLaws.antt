@@ -1,16 +1,11 @@
--- What a caller needs of a read, and laws of words.
-use Prim.Native.Nat.{ℕ, suc, _+_, _≤_, _<_}
-use mathlib.Core.Logic.{_≢_}
-use mathlib.Core.Path.{_≡_, refl, sym, ap}
-use mathlib.Core.List.{List, [], _∷_, _++_}
-use mathlib.Core.Bool.{Bool, true, false, _&&_}
+-- What a caller needs of a read.
+use Prim.Native.Nat.{ℕ, _+_, _≤_}
+use mathlib.Core.Path.{_≡_, sym}
+use mathlib.Core.List.{List, _++_}
 use native.Mathlib.Omega.{arith}
-use native.Mathlib.Numerals.{add-one}
-use lib.ListN.{length, take, drop, getD, length-append, drop-of-length-le}
-use lib.Seq.{drop-cons, length-take-le}
-use lib.Dec.{eqb}
-use borrow.Author.Tests.{eq-eqb, ne-eqb}
-use Rattle.input.specs.Reading.{Within, Behind, sameWord}
+use lib.ListN.{length, take, length-append}
+use lib.Seq.{length-take-le}
+use Rattle.input.specs.Reading.{Within, Behind}
 use Rattle.input.specs.declared.Taken.{Taken}
 
 -- the bytes that came can be taken from the room
@@ -32,29 +27,3 @@ behind-is from Taken.Failed d ys more h w = tt
 pub behind-within : (from : ℕ) (t : Taken) (room : List ℕ) → Behind from t room → (n : ℕ) → t ≡ Taken.Bytes n → from + n ≤ length room
 unfolding Behind
 behind-within from t room w n e = rw e at w
-
--- words of different lengths
-pub other-length : (a b : List ℕ) → length a ≢ length b → sameWord a b ≡ false
-unfolding sameWord
-other-length [] [] h = absurd (h refl)
-other-length [] (y ∷ b) h = refl
-other-length (x ∷ a) [] h = refl
-other-length (x ∷ a) (y ∷ b) h = rw (other-length a b (λ e. h (ap suc e))) (go (eqb x y))
-  where
-    go : (t : Bool) → (t && false) ≡ false
-    go true = refl
-    go false = refl
-
--- byte by byte
-module _ (a b : List ℕ) (i : ℕ) (h : i < length a) (k : i < length b) where
-  pub other-byte : getD a i 0 ≢ getD b i 0 → sameWord (drop i a) (drop i b) ≡ false
-  unfolding sameWord
-  other-byte e = rw (drop-cons a i 0 h, drop-cons b i 0 k, ne-eqb (getD a i 0) (getD b i 0) e) refl
-
-  pub same-byte : getD a i 0 ≡ getD b i 0 → sameWord (drop i a) (drop i b) ≡ sameWord (drop (i + 1) a) (drop (i + 1) b)
-  unfolding sameWord
-  same-byte e = rw (drop-cons a i 0 h, drop-cons b i 0 k, eq-eqb (getD a i 0) (getD b i 0) e, add-one) refl
-
-pub same-end : (a b : List ℕ) (i : ℕ) → length a ≤ i → length b ≤ i → sameWord (drop i a) (drop i b) ≡ true
-unfolding sameWord
-same-end a b i h k = rw (drop-of-length-le a h, drop-of-length-le b k) refl

@@ -1,9 +1,8 @@
 // What programs read, over the kit's `libc::read`: a read that fails, or that a signal interrupts, is not the end.
 use libc::STDERR_FILENO;
-ghost use mathlib.Core.Path.{_≡_};
 ghost use Prim.Native.Nat.{_≤_};
 ghost use lib.ListN.{length};
-ghost use Rattle.input.specs.Reading.{Within, Behind, sameWord};
+ghost use Rattle.input.specs.Reading.{Within, Behind};
 
 // So many bytes came, none at the end; or a read failed.
 pub enum Taken {
@@ -61,21 +60,4 @@ pub fn all(fd: i32, room: &mut [u8]) -> Taken
 
 pub fn cannot_read() {
     io::write_all(STDERR_FILENO, b"cannot read\n");
-}
-
-// Whether a word of the command line is this one.
-pub fn is_word(word: &[u8], known: &[u8]) -> bool
-    ensures { λ r. ⌜ r ≡ sameWord (now (word .entry)) (now (known .entry)) ⌝ }
-{
-    if word.len() != known.len() {
-        return false;
-    }
-    let mut i: usize = 0;
-    while i < known.len() {
-        if word[i] != known[i] {
-            return false;
-        }
-        i += 1;
-    }
-    true
 }

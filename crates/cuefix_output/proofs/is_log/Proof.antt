@@ -4,15 +4,15 @@ use borrow.Author.Needs.{needs}
 use Rattle.cuefix_output.proofs.is_log.Statement.{statement}
 use Rattle.cuefix_output.proofs.is_log.Tie as tie
 
-slice-aggregate-is-word : tie.Need-slice-aggregate-is-word
-slice-aggregate-is-word c = search needs
+slice-aggregate-same : tie.Need-slice-aggregate-same
+slice-aggregate-same c = search needs
 
-is-word-requires : tie.Need-is-word-requires
-is-word-requires c κs = search needs
+same-requires : tie.Need-same-requires
+same-requires c κs = search needs
 
 returns : tie.Need-returns
 unfolding isLog ascii
-returns c = c .is-word .ensures
+returns c = c .same .ensures
 
 pub is-log-spec : {M : Type 1} → statement M
-is-log-spec = tie.close (tie.spec slice-aggregate-is-word is-word-requires returns)
+is-log-spec = tie.close (tie.spec slice-aggregate-same same-requires returns)
