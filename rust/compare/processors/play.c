@@ -1,4 +1,4 @@
-/* Makes the calls of a file of compare/src/vectors.rs, which says how it is laid out, and compares all that they leave. */
+/* Makes the calls of a file of rust/compare/src/vectors.rs, which says how it is laid out, and compares all that they leave. */
 #include <string.h>
 
 #include "head.h"

@@ -31,7 +31,7 @@ build() {
     [ -f "$library" ] || fail "no library at $library: build it first, or give its path"
     HEAD_LIB=$(cd "$(dirname "$library")" && pwd)/$(basename "$library")
     HEAD_LIB_SUM=$(cksum <"$library")
-    CARGO_TARGET_DIR=${CARGO_TARGET_DIR:-$here/../target/compare}
+    CARGO_TARGET_DIR=${CARGO_TARGET_DIR:-$here/../target/rust}
     export HEAD_LIB HEAD_LIB_SUM CARGO_TARGET_DIR
     in_workspace build || fail "the build failed"
 }

@@ -108,11 +108,11 @@ const SHIFTED: &str = "a refusal whose frame is moved by frames that are passed 
 /// The repository's real captures, with their packets.
 const REAL_CAPTURES: [(&[u8], u64); 2] = [
     (
-        include_bytes!("../../tests/captures/mesaflash-readhmid.pcap"),
+        include_bytes!("../../../tests/captures/mesaflash-readhmid.pcap"),
         191,
     ),
     (
-        include_bytes!("../../tests/captures/mesaflash-188.pcap"),
+        include_bytes!("../../../tests/captures/mesaflash-188.pcap"),
         188,
     ),
 ];
