@@ -1,76 +1,30 @@
-/* What it costs, in bytes, by tools/costs; docs/FIRMWARE.md has the rest:
+/* The head controller, in the order in which one meets its parts:
  *
- *                                 x86_64-linux  aarch64-linux  riscv64-linux    armv7-linux      cortex-m4      cortex-m0
- *   code                                52,113         43,312         57,442         65,400         53,630         61,768
- *   constants                            4,336          3,616            368            112            144            144
- *   data                                     0              0              0              0              0              0
- *   stack of head_assemble               8,792          8,656          8,816          8,780          8,700          8,772
- *   stack of head_capture                  448            400            480            332            316            408
- *   stack of head_check                    256            208            208            240            192            264
- *   stack of head_compile                  560            352            400            416            400            436
- *   stack of head_field                    288            176            208            172            176            208
- *   stack of head_fields                   136              0              0              0             16              8
- *   stack of head_guard                    144              0             16             36             36             76
- *   stack of head_guarded_check            336            288            304            288            256            368
- *   stack of head_guarded_list             384            224            256            264            264            332
- *   stack of head_guarded_run              576            592            576            600            536            664
- *   stack of head_guarded_spi              304            160            208            176            184            240
- *   stack of head_header                   136              0              0              0              0              8
- *   stack of head_header_word              136              0              0              8              8             20
- *   stack of head_independent            8,592          8,448          8,464          8,448          8,440          8,492
- *   stack of head_judge                  2,016          2,016          2,032          2,096          2,000          2,144
- *   stack of head_list_text                336            272            208            152            152            236
- *   stack of head_list_why                 240            112            112             88             88            132
- *   stack of head_pack                     480            368            416            356            340            408
- *   stack of head_panel_reading            136              0              0              8              8             24
- *   stack of head_panel_report             136              0              0             16             16             24
- *   stack of head_panel_start              136              0              0              0              0              0
- *   stack of head_part                   1,064          1,120          1,248          1,268          1,192          1,296
- *   stack of head_run                      480            432            416            480            456            528
- *   stack of head_salvage                  320            176            192            152            144            204
- *   stack of head_sentence               3,088          2,960          3,056          2,952          2,944          3,424
- *   stack of head_spi                      256            144            144            144            144            152
- *   stack of head_table                    288            160            208            164            184            216
- *   stack of head_tight_check              720            464            592            560            544            612
- *   stack of head_tighten                1,056            720            928            824            816            916
- *   stack of head_unpack                   464            336            400            308            316            392
- *   stack of head_why                      368            400            384            376            304            392
- *   stack of head_word                     160              0              0             16             16             24
+ *   a card                  head_check, head_run, head_why                                          examples/c/packets.c
+ *   SPI bursts              head_spi                                                                examples/c/bursts.c
+ *   words and headers       head_fields, head_word, head_header, head_header_word                   examples/c/bursts.c
+ *   cue lists               head_compile, head_list_why, head_salvage, head_independent             examples/c/lists.c
+ *   cue lists as text       head_assemble, head_list_text                                           examples/c/lists.c
+ *   a cue list in parts     head_part                                                               examples/c/parts.c
+ *   packets in fewer bytes  head_tighten, head_tight_check                                          examples/c/lists.c
+ *   the interlock           head_guard, head_guarded_check, .._run, .._spi, .._list                 examples/c/guard.c
+ *   recordings, captures    head_judge, head_capture                                                examples/c/captures.c
+ *   daughter cards          head_table, head_field, head_pack, head_unpack                          examples/c/daughter.c
+ *   the lamp panel          head_panel_start, head_panel_report, head_panel_reading                 examples/c/daughter.c
+ *   what a number means     head_sentence                                                           examples/c/packets.c
  *
- * A stack is the deepest that the call can need, without that of the functions of libc and libgcc that are named below. No
- * function is reached from itself, none asks for memory, and none keeps anything between calls, so that calls which are lent
- * different memory may run at the same time. On a Cortex-M4 a packet takes at most 240,165 instructions, a burst 1,366, a
- * record of a list 443 in head_compile.
- * x86_64-linux needs memcpy (libc), memset (libc). Registers beyond the integer ones: assemble, capture, check, compile,
- *   field, guarded_check, guarded_list, guarded_run, guarded_spi, independent, judge, pack, panel_reading, part, run,
- *   sentence, spi, table, tight_check, tighten, unpack, why.
- * aarch64-linux needs memcpy (libc), memset (libc). Registers beyond the integer ones: assemble, capture, check, compile,
- *   field, fields, guarded_check, guarded_list, guarded_run, guarded_spi, header, independent, judge, list_text, pack,
- *   panel_reading, panel_report, part, run, sentence, spi, table, tight_check, tighten, unpack, why.
- * riscv64-linux needs memcpy (libc), memset (libc). Registers beyond the integer ones: panel_reading.
- * armv7-linux needs memcpy (libc), memset (libc). Registers beyond the integer ones: assemble, capture, check, compile,
- *   guarded_check, guarded_list, guarded_run, guarded_spi, independent, judge, pack, panel_reading, part, run, sentence,
- *   spi, tight_check, tighten, unpack, why.
- * cortex-m4 needs __aeabi_memclr4 (libc), __aeabi_memclr8 (libc), __aeabi_memcpy (libc). Registers beyond the integer ones:
- *   panel_reading.
- * cortex-m0 needs __aeabi_fcmplt (libgcc), __aeabi_fdiv (libgcc), __aeabi_fmul (libgcc), __aeabi_llsl (libgcc), __aeabi_llsr
- *   (libgcc), __aeabi_lmul (libgcc), __aeabi_memclr (libc), __aeabi_memclr4 (libc), __aeabi_memclr8 (libc), __aeabi_memcpy
- *   (libc), __aeabi_ui2f (libgcc). Registers beyond the integer ones: none.
- */
-
-/* The head controller: LBP16 packets and SPI bursts on a card store, command words and burst headers, cue lists, recorded
- * shows, guards over cells that nothing may write, and the fields and readings of daughter cards.
+ * What a call returns: 0 if it accepts, else the number of the refusal (enum head_refusal). head_panel_report refuses nothing and
+ * returns nothing.
  *
- * Every function but head_panel_report, which refuses nothing and returns nothing, returns 0 if it accepts, else the
- * number of the refusal.
+ * What an accepted call leaves: its answers, and what it writes at the front of a room. The rest of the room is unchanged.
  *
- * A refused call changes nothing that it was lent but these answers: *value or *bytes then holds the refusal's place;
- * *packets, *elements, *entries, *records, *lines, *inputs and *outputs hold 0; what *taken, *place, *index, *offset, *cause, *list and
- * head_why's fields hold is said at the function. All else keeps what it held, *word, *mask and *reading_bits too. Two functions change more:
+ * What a refused call leaves: all that it was lent as it was, but for these answers. *value or *bytes holds the refusal's place;
+ * *packets, *elements, *entries, *records, *lines, *inputs and *outputs hold 0; what *taken, *place, *index, *offset, *cause, *list
+ * and head_why's fields hold is said at the function. *word, *mask and *reading_bits keep what they held. Two functions change more:
  *   - head_part keeps a fault of the list (21 to 24) in the state, so that later calls repeat it;
  *   - head_judge leaves store and pointers, for 61 to 65, as the packets accepted before the fault leave them.
  *
- * If several refusals apply, 1 comes first, then 2, then those of the earliest failing command or record, the lowest number
+ * Which refusal: if several apply, 1 comes first, then 2, then those of the earliest failing command or record, the lowest number
  * first. Of these functions it is otherwise, or more is to be said:
  *   - head_why gives 13 before 1, and head_part 26 before 1;
  *   - head_table, head_field, head_pack and head_unpack give 41, then 42, then 40;
@@ -90,8 +44,8 @@
  *   - Nothing lent to a call may overlap anything else lent to it, *value included, and nobody else may
  *     touch it before the call returns.
  *
- * The functions keep nothing between calls. The card's state is the store and the pointers, that of a list in parts its
- * HEAD_PART_BYTES bytes; the caller keeps them.
+ * What is kept: nothing between calls. The card's state is the store and the pointers, that of a list in parts its
+ * HEAD_PART_BYTES bytes; the caller keeps them. What the calls cost stands at the end of this file.
  */
 #ifndef HEAD_H
 #define HEAD_H
@@ -102,20 +56,106 @@
 extern "C" {
 #endif
 
-/* The store: space 0 (registers) from byte 0, 65,536 bytes; space 2 (EEPROM) from 65,536, 128 bytes; space 6 (status)
- * from 65,664, 32 bytes; space 7 (information) from 65,696, 32 bytes. Elements have 4 bytes in space 0 and 2 in the
- * others, low byte first. */
+/* The version of this header and its library, as the file VERSION has it. CHANGELOG.md says which changes raise which number. */
+#define HEAD_VERSION "1.0.0"
+#define HEAD_VERSION_MAJOR 1
+#define HEAD_VERSION_MINOR 0
+#define HEAD_VERSION_PATCH 0
+
+/* What the functions return. head_sentence has a sentence for each; each function's comment says which it gives, and when. */
+enum head_refusal {
+    HEAD_ACCEPTED = 0,
+
+    /* packets; 1 also of bursts, recordings and the state of a list in parts, 13 also of headers */
+    HEAD_REFUSED_STATE = 1,
+    HEAD_REFUSED_PACKET_LENGTH = 2,
+    HEAD_REFUSED_WORD_CUT = 3,
+    HEAD_REFUSED_INFO_WRITE = 4,
+    HEAD_REFUSED_SPACE = 5,
+    HEAD_REFUSED_ELEMENT_SIZE = 6,
+    HEAD_REFUSED_COUNT_ZERO = 7,
+    HEAD_REFUSED_ADDRESS = 8,
+    HEAD_REFUSED_READ_ONLY = 9,
+    HEAD_REFUSED_LOCKED = 10,
+    HEAD_REFUSED_DATA_CUT = 11,
+    HEAD_REFUSED_REPLY_LENGTH = 12,
+    HEAD_REFUSED_WORD_FIELD = 13,
+
+    /* cue lists; 26 and 27 also of texts and captures */
+    HEAD_REFUSED_LIST_LENGTH = 21,
+    HEAD_REFUSED_RECORD = 22,
+    HEAD_REFUSED_RECORD_ELEMENT = 23,
+    HEAD_REFUSED_RECORD_VALUE = 24,
+    HEAD_REFUSED_ROOM = 26,
+    HEAD_REFUSED_LOG_ROOM = 27,
+
+    /* bursts */
+    HEAD_REFUSED_BURST_EMPTY = 31,
+    HEAD_REFUSED_BURST_COMMAND = 32,
+    HEAD_REFUSED_BURST_COUNT = 33,
+    HEAD_REFUSED_BURST_LENGTH = 34,
+    HEAD_REFUSED_BURST_ADDRESS = 35,
+
+    /* daughter cards and the lamp panel */
+    HEAD_REFUSED_FIELD = 40,
+    HEAD_REFUSED_TABLE = 41,
+    HEAD_REFUSED_FIELD_WIDTH = 42,
+    HEAD_REFUSED_NOT_STARTED = 43,
+    HEAD_REFUSED_READING_FIELD = 44,
+    HEAD_REFUSED_READING_BOUNDS = 45,
+    HEAD_REFUSED_READING_INFINITE = 46,
+
+    /* an output proposed for a list; two lists */
+    HEAD_REFUSED_OUTPUT = 50,
+    HEAD_REFUSED_CLASH = 51,
+
+    /* recordings */
+    HEAD_REFUSED_SHOW_PACKET = 61,
+    HEAD_REFUSED_SHOW_LENGTH = 62,
+    HEAD_REFUSED_SHOW_BYTE = 63,
+    HEAD_REFUSED_SHOW_CUT = 64,
+    HEAD_REFUSED_SHOW_UNMARKED = 65,
+
+    /* the interlock */
+    HEAD_REFUSED_GUARD = 70,
+    HEAD_REFUSED_PROTECTED = 71,
+
+    /* texts */
+    HEAD_REFUSED_TEXT_FORM = 81,
+    HEAD_REFUSED_TEXT_NUMBER = 82,
+    HEAD_REFUSED_TEXT_NAME = 83,
+
+    /* captures */
+    HEAD_REFUSED_CAPTURE = 91,
+    HEAD_REFUSED_FRAME_CUT = 92,
+    HEAD_REFUSED_DATAGRAM = 93,
+    HEAD_REFUSED_STRAY_REPLY = 94
+};
+
+/* The store, and where each space begins in it: the element at address a of a space stands at the space's place plus a. Elements
+ * have 4 bytes in space 0 and 2 in the others, low byte first. */
 #define HEAD_STORE_BYTES 65728
+#define HEAD_REGISTERS_AT 0       /* space 0, 65,536 bytes */
+#define HEAD_EEPROM_AT 65536      /* space 2, 128 bytes, read-only below address 0x20 */
+#define HEAD_STATUS_AT 65664      /* space 6, 32 bytes */
+#define HEAD_INFORMATION_AT 65696 /* space 7, 32 bytes, read-only */
+
+/* The two cells that every accepted packet changes, each of 2 bytes: the packet count, and the unlock of the EEPROM. */
+#define HEAD_COUNT_AT (HEAD_STATUS_AT + 0x0A)
+#define HEAD_UNLOCK_AT (HEAD_STATUS_AT + 0x1A)
 
 /* The most bytes that a packet or its reply may have: 1,500 less 28 of IP and UDP headers. */
 #define HEAD_REPLY_BYTES 1472
 
-/* The address pointers: those of spaces 0, 2, 6 and 7, in this order, then those of their info areas. */
+/* The address pointers: those of spaces 0, 2, 6 and 7, in this order, then those of their info areas. Each is at most its space's
+ * number of bytes, or 16 for an info area; all are 0 in a fresh card. */
 #define HEAD_POINTERS 8
 
 /* The bytes of a command word's fields, and the numbers of a burst header's. */
 #define HEAD_FIELDS 7
 #define HEAD_HEADER_FIELDS 4
+
+/* ---- A card: packets ---- */
 
 /* Checks one packet: what head_run would answer on this store and these pointers, with a reply room of 1,472 bytes.
  * Nothing is changed, and what the store's cells hold plays no part.
@@ -143,10 +183,9 @@ uint32_t head_check(const uint8_t *packet, uint64_t packet_length,
  *   elements  takes the number of elements moved, info reads too: the sum of the commands' counts, at most 1,460; 0 if
  *             refused
  *
- * Accepted: returns 0. The elements read stand at the front of the reply, low byte first, and its other bytes are
- * unchanged. Store and pointers are as the commands leave them, but the unlock cell (0x1A of space 6) is 0, and the packet
- * count (0x0A of space 6) is one more than the commands leave there, 0 after 65,535. A command may read or write the
- * count like any cell. A refused packet does not count.
+ * Accepted: the elements read stand at the front of the reply, low byte first. Store and pointers are as the commands leave
+ * them, but the unlock cell (0x1A of space 6) is 0, and the packet count (0x0A of space 6) is one more than the commands
+ * leave there, 0 after 65,535. A command may read or write the count like any cell. A refused packet does not count.
  * Refused: the place is the offset of the command's first byte in the packet, but 0 for 1 and 2.
  *
  *    1  the store is not whole (65,728 bytes), or a pointer stands above the size of its space or info area (16 bytes);
@@ -168,67 +207,6 @@ uint32_t head_run(const uint8_t *packet, uint64_t packet_length,
                   uint32_t *pointers, uint64_t pointers_length,
                   uint8_t *reply, uint64_t reply_length,
                   uint64_t *value, uint64_t *elements);
-
-/* Runs one SPI burst on space 0 of the store. The whole burst is checked before anything is done.
- *
- *   words   the words sent: a header, then at most as many words as it counts; a read ignores what these hold
- *   store   65,728 bytes
- *   answer  room for as many words as were sent
- *   value   takes the number of elements done, at most 127, or the refusal's place, which is 0
- *
- * A header, high bit first: 16 bits of address, 4 of command (0xA read, 0xB write), 1 increment, 7 of count, 4 unused.
- * Accepted: returns 0. As many elements are done as words follow the header, none if it stands alone. The first word of
- * the answer is 0; the others are the cells on a read, 0 on a write.
- *
- *    1  store not 65,728 bytes, or answer_length differs from words_length
- *   31  no word
- *   32  command neither 0xA nor 0xB
- *   33  count 0
- *   34  more words than 1 plus the count
- *   35  address not a multiple of 4, or a cell that the header counts past the end of space 0, whether its word came or not
- */
-uint32_t head_spi(const uint32_t *words, uint64_t words_length,
-                  uint8_t *store, uint64_t store_length,
-                  uint32_t *answer, uint64_t answer_length,
-                  uint64_t *value);
-
-/* Reads a command word (in a packet its low byte comes first) into its fields.
- *
- *   fields  room for 7 bytes: write, address, info (each 0 or 1), space (0 to 7), size (0, 1, 2, 3 for elements of
- *           1, 2, 4, 8 bytes), increment (0 or 1), count (0 to 127)
- *
- * Every word has fields.
- *
- *   13  fields_length is not 7; nothing is written
- */
-uint32_t head_fields(uint16_t word, uint8_t *fields, uint64_t fields_length);
-
-/* Writes fields, the same 7 bytes, into a command word.
- *
- *   13  fields_length is not 7, or write, address, info or increment above 1, space above 7, size above 3 or count
- *       above 127; *word keeps its value
- */
-uint32_t head_word(const uint8_t *fields, uint64_t fields_length, uint16_t *word);
-
-/* Reads the header of an SPI burst, as head_spi describes it, into its fields.
- *
- *   fields  room for 4 numbers: address (0 to 65,535), command (0 to 15), increment (0 or 1), count (0 to 127)
- *
- * Every word has fields; its four unused bits are ignored.
- *
- *   13  fields_length is not 4; nothing is written
- */
-uint32_t head_header(uint32_t word, uint32_t *fields, uint64_t fields_length);
-
-/* Writes fields, the same 4 numbers, into the header of an SPI burst. Its unused bits are 0.
- *
- *   13  fields_length is not 4, address above 65,535 or increment above 1
- *   32  command neither 0xA (read) nor 0xB (write)
- *   33  count 0 or above 127
- *
- * They are asked in this order. Refused: *word keeps its value.
- */
-uint32_t head_header_word(const uint32_t *fields, uint64_t fields_length, uint32_t *word);
 
 /* Says why a packet is refused: the number and the place that head_check gives, and head_run with a reply room of 1,472
  * bytes, and the command at fault. Nothing is changed, and what the store's cells hold plays no part.
@@ -257,6 +235,73 @@ uint32_t head_why(const uint8_t *packet, uint64_t packet_length,
                   uint64_t *place, uint64_t *index,
                   uint8_t *fields, uint64_t fields_length);
 
+/* ---- SPI bursts ---- */
+
+/* Runs one SPI burst on space 0 of the store. The whole burst is checked before anything is done.
+ *
+ *   words   the words sent: a header, then at most as many words as it counts; a read ignores what these hold
+ *   store   65,728 bytes
+ *   answer  room for as many words as were sent
+ *   value   takes the number of elements done, at most 127, or the refusal's place, which is 0
+ *
+ * A header, high bit first: 16 bits of address, 4 of command (0xA read, 0xB write), 1 increment, 7 of count, 4 unused.
+ * Accepted: as many elements are done as words follow the header, none if it stands alone. The first word of the answer is
+ * 0; the others are the cells on a read, 0 on a write.
+ *
+ *    1  store not 65,728 bytes, or answer_length differs from words_length
+ *   31  no word
+ *   32  command neither 0xA nor 0xB
+ *   33  count 0
+ *   34  more words than 1 plus the count
+ *   35  address not a multiple of 4, or a cell that the header counts past the end of space 0, whether its word came or not
+ */
+uint32_t head_spi(const uint32_t *words, uint64_t words_length,
+                  uint8_t *store, uint64_t store_length,
+                  uint32_t *answer, uint64_t answer_length,
+                  uint64_t *value);
+
+/* ---- Command words, and headers of bursts ---- */
+
+/* Reads a command word (in a packet its low byte comes first) into its fields.
+ *
+ *   fields  room for 7 bytes: write, address, info (each 0 or 1), space (0 to 7), size (0, 1, 2, 3 for elements of
+ *           1, 2, 4, 8 bytes), increment (0 or 1), count (0 to 127)
+ *
+ * Every word has fields.
+ *
+ *   13  fields_length is not 7
+ */
+uint32_t head_fields(uint16_t word, uint8_t *fields, uint64_t fields_length);
+
+/* Writes fields, the same 7 bytes, into a command word.
+ *
+ *   13  fields_length is not 7, or write, address, info or increment above 1, space above 7, size above 3 or count
+ *       above 127
+ */
+uint32_t head_word(const uint8_t *fields, uint64_t fields_length, uint16_t *word);
+
+/* Reads the header of an SPI burst, as head_spi describes it, into its fields.
+ *
+ *   fields  room for 4 numbers: address (0 to 65,535), command (0 to 15), increment (0 or 1), count (0 to 127)
+ *
+ * Every word has fields; its four unused bits are ignored.
+ *
+ *   13  fields_length is not 4
+ */
+uint32_t head_header(uint32_t word, uint32_t *fields, uint64_t fields_length);
+
+/* Writes fields, the same 4 numbers, into the header of an SPI burst. Its unused bits are 0.
+ *
+ *   13  fields_length is not 4, address above 65,535 or increment above 1
+ *   32  command neither 0xA (read) nor 0xB (write)
+ *   33  count 0 or above 127
+ *
+ * They are asked in this order.
+ */
+uint32_t head_header_word(const uint32_t *fields, uint64_t fields_length, uint32_t *word);
+
+/* ---- Cue lists ---- */
+
 /* Compiles a cue list into packets. The whole list is checked, and the output counted, before a byte is written.
  *
  *   list     the records, list_length bytes; may be empty
@@ -266,10 +311,9 @@ uint32_t head_why(const uint8_t *packet, uint64_t packet_length,
  *
  * A record: the mark "RD" (52 44), space, a spare byte 0 and a 16-bit address, low byte first; or the mark "WR" (57 52), the
  * same, and a 32-bit value, low byte first, whose upper half is 0 in a space of 2-byte elements. At most 100,000 records.
- * Accepted: returns 0. Before each packet stand the mark "LB" (4C 42) and its length, 2 bytes, low byte first; out beyond the
- * output is unchanged. Running the packets in order with head_run reads the values and leaves the cells that doing the
- * records one by one would, the unlock cell and the packet count apart; the count rises by the number of packets. Twice
- * the list's length is always room enough.
+ * Accepted: before each packet stand the mark "LB" (4C 42) and its length, 2 bytes, low byte first. Running the packets in
+ * order with head_run reads the values and leaves the cells that doing the records one by one would, the unlock cell and the
+ * packet count apart; the count rises by the number of packets. Twice the list's length is always room enough.
  * Refused: the place is the record's index from 0, but the bytes needed for 26.
  *
  *   21  100,000 records read and bytes remain
@@ -282,124 +326,6 @@ uint32_t head_why(const uint8_t *packet, uint64_t packet_length,
 uint32_t head_compile(const uint8_t *list, uint64_t list_length,
                       uint8_t *out, uint64_t out_length,
                       uint64_t *bytes, uint64_t *packets);
-
-/* Compiles a cue list into fewer bytes where it can. Parameters, records, refusals and their places are head_compile's, 26 with
- * the bytes of head_compile's own output included, so that room which is enough there is enough here. Refused: out is
- * unchanged.
- *
- *   list     the records, list_length bytes; may be empty
- *   out      room for head_compile's output
- *   bytes    takes the output's length, or the refusal's place
- *   packets  takes the number of packets, 0 if refused
- *
- * Accepted: returns 0. The output is never longer than head_compile's, and head_tight_check accepts it with this number of
- * packets; out beyond it is unchanged. Its packets, each behind the mark "LB" and its length, may be cut in other places than
- * head_compile's. Running them in order with head_run, from any store and any pointers that 1 does not turn away, does what
- * the records do, as head_compile says. 2 to 127 reads of one cell come out as one packet, in 8 bytes.
- *
- *   21 to 24 and 26  as head_compile
- */
-uint32_t head_tighten(const uint8_t *list, uint64_t list_length,
-                      uint8_t *out, uint64_t out_length,
-                      uint64_t *bytes, uint64_t *packets);
-
-/* Says whether an output, from wherever it comes, may be sent for a cue list instead of head_compile's. Nothing is changed but
- * *value.
- *
- *   list    the records, list_length bytes; may be empty
- *   output  packets, each behind the mark "LB" (4C 42) and its length, 2 bytes, low byte first; may be empty
- *   value   takes the number of packets if accepted, the refusal's place if the list is refused, 0 for 50
- *
- * Returns 0 exactly if the list is good and all of these hold: marks and lengths are sound; every packet is accepted by the
- * rules of head_run; none uses a space's pointer before it has set it; the elements that the packets read and write, in order,
- * are the list's records, but for writes of 0x5A02 to the unlock cell, which may stand anywhere; the output is no longer than
- * head_compile's. So an info read is rejected, and any other write to the unlock cell. An empty packet is accepted like any
- * other, and counts.
- * Then running the packets in order with head_run, from any store and any pointers that 1 does not turn away, reads the values
- * and leaves the cells that doing the records one by one would, the unlock cell and the packet count apart; the count rises by
- * the number of packets.
- *
- *   21 to 24  as head_compile refuses the list, whatever the output is
- *   50        list good, output rejected
- */
-uint32_t head_tight_check(const uint8_t *list, uint64_t list_length,
-                          const uint8_t *output, uint64_t output_length,
-                          uint64_t *value);
-
-/* Saves what can be saved of a damaged cue list. Both rooms are held against what is needed before a byte is written.
- *
- *   list     the damaged list, list_length bytes; may be empty
- *   out      room for the records kept, at least list_length bytes
- *   log      room for two numbers for each stretch skipped: its start in the list, and its length; log_length counts numbers,
- *            and an odd one over is unused
- *   bytes    takes the bytes kept, or the refusal's place
- *   entries  takes the number of stretches skipped, 0 if refused
- *
- * The list is scanned from its start. Where a record stands that head_compile would not refuse with 22 to 24, it is kept, and
- * the scan goes on behind it; any other byte is skipped, and the scan goes on behind that byte. Skipped bytes that touch are
- * one stretch.
- * Accepted: returns 0. The records kept stand in out, in order, and the stretches skipped in log; what is beyond is
- * unchanged in both. head_compile takes the output, unless it has more than 100,000 records (21) or the room lent there is too
- * small (26). A good list comes out unchanged, with no entries. An entry for every seven bytes of the list, and one more, is
- * always room enough.
- *
- *   26  out_length below list_length, which is the place
- *   27  room enough in out, and log for fewer entries than needed; their number is the place
- */
-uint32_t head_salvage(const uint8_t *list, uint64_t list_length,
-                      uint8_t *out, uint64_t out_length,
-                      uint64_t *log, uint64_t log_length,
-                      uint64_t *bytes, uint64_t *entries);
-
-/* Makes a cue list of its text. The whole text is judged, and the room held against the bytes needed, before a byte is written.
- *
- *   text     lines, each ended by a newline, which the last may lack; text_length bytes, may be empty
- *   out      room for the list: 6 bytes for each line that reads, 10 for each that writes
- *   bytes    takes the list's bytes, or the refusal's place
- *   records  takes the number of records, 0 if refused
- *
- * Words stand apart by blanks, tabs and carriage returns; # starts a comment; capitals differ from small letters. A line is
- * empty, or one of
- *
- *   read SPACE ADDRESS            read NAME
- *   write SPACE ADDRESS VALUE     write NAME VALUE
- *   name NAME SPACE ADDRESS
- *
- * SPACE is registers, eeprom, status, information or a number up to 255, ADDRESS a number up to 65,535, VALUE one up to
- * 4,294,967,295; numbers are decimal, or hexadecimal behind 0x or 0X. A NAME has a letter first, then letters, digits, _, - and
- * ., at most 32 bytes, is none of the words read, write, name and the four spaces, and is defined once and above its use; a text
- * has at most 1,000.
- * Accepted: returns 0. The list stands in out, a record for each line that reads or writes, in order; what is beyond is
- * unchanged. head_compile does not refuse it with 21 to 24, and running its packets does what the lines say one by one.
- *
- * The place of all but 26 is the line, counted from 1: the earliest bad one, and there the first of these that applies.
- *
- *   81          its first word and its number of words are none of the five above
- *   82          a SPACE, ADDRESS or VALUE is none, or too large
- *   83          a NAME is none, not defined above, defined twice, or one too many
- *   21, 23, 24  as head_compile would refuse the record; a name that is defined is held against 23 as a read
- *   26          text good, and out_length below the bytes needed, which is the place
- */
-uint32_t head_assemble(const uint8_t *text, uint64_t text_length,
-                       uint8_t *out, uint64_t out_length,
-                       uint64_t *bytes, uint64_t *records);
-
-/* Writes a cue list as text, the other way round: one line for each record, ended by a newline, as in
- * "read registers 0x0010" and "write eeprom 0x0022 0xC0A8", with four digits of address and as many of value as the element has.
- *
- *   list   the records, list_length bytes; may be empty
- *   out    room for the text: at most 34 bytes for each record
- *   bytes  takes the text's bytes, or the refusal's place
- *   lines  takes the number of lines, 0 if refused
- *
- * Accepted: returns 0. The text stands in out, and what is beyond is unchanged. head_assemble makes the same list of it.
- *
- *   21 to 24  as head_compile refuses the list
- *   26        list good, and out_length below the bytes needed, which is the place
- */
-uint32_t head_list_text(const uint8_t *list, uint64_t list_length,
-                        uint8_t *out, uint64_t out_length,
-                        uint64_t *bytes, uint64_t *lines);
 
 /* Says what is wrong with a cue list: head_compile's refusal with 21 to 24, the record at fault, and the cause. Nothing is changed.
  *
@@ -427,122 +353,105 @@ uint32_t head_list_text(const uint8_t *list, uint64_t list_length,
 uint32_t head_list_why(const uint8_t *list, uint64_t list_length,
                        uint64_t *place, uint64_t *offset, uint64_t *cause);
 
-/* Says what a number means, in a sentence: one that a function here returned, or any other.
+/* Saves what can be saved of a damaged cue list. Both rooms are held against what is needed before a byte is written.
  *
- *   number  the number; 0 is "accepted"
- *   out     room for the sentence: plain ASCII, with no newline and no NUL behind it; HEAD_SENTENCE_BYTES are always enough
- *   bytes   takes the sentence's bytes, or if refused those needed
+ *   list     the damaged list, list_length bytes; may be empty
+ *   out      room for the records kept, at least list_length bytes
+ *   log      room for two numbers for each stretch skipped: its start in the list, and its length; log_length counts numbers,
+ *            and an odd one over is unused
+ *   bytes    takes the bytes kept, or the refusal's place
+ *   entries  takes the number of stretches skipped, 0 if refused
  *
- * Where a number means different things to different functions (1, 26 and 33), the sentence names them all. Of a number that means
- * nothing it says so. Accepted: returns 0, the sentence stands at the front of out, and what is beyond is unchanged.
+ * The list is scanned from its start. Where a record stands that head_compile would not refuse with 22 to 24, it is kept,
+ * and the scan goes on behind it; any other byte is skipped, and the scan goes on behind that byte. Skipped bytes that touch
+ * are one stretch.
+ * Accepted: the records kept stand in out, in order, and the stretches skipped in log. head_compile takes the output, unless
+ * it has more than 100,000 records (21) or the room lent there is too small (26). A good list comes out unchanged, with no
+ * entries. An entry for every seven bytes of the list, and one more, is always room enough.
  *
- *   26  out_length below the sentence's bytes
+ *   26  out_length below list_length, which is the place
+ *   27  room enough in out, and log for fewer entries than needed; their number is the place
  */
-#define HEAD_SENTENCE_BYTES 100
-uint32_t head_sentence(uint32_t number,
+uint32_t head_salvage(const uint8_t *list, uint64_t list_length,
+                      uint8_t *out, uint64_t out_length,
+                      uint64_t *log, uint64_t log_length,
+                      uint64_t *bytes, uint64_t *entries);
+
+/* Says whether two cue lists may be compiled apart and run in either order.
+ *
+ *   first   the one list's records, first_length bytes; may be empty
+ *   second  the other's
+ *   list    takes which list is at fault: 0 the first, 1 the second; 0 if none is
+ *   place   takes the index of the record at fault, from 0; 0 if none is
+ *
+ * Returns 0 exactly if both lists are accepted and neither writes a cell (a space and an address) that the other names. Then
+ * all packets of one list run before all of the other, in either order from the same store and pointers, are accepted, leave the
+ * same store to the byte, the packet count and the unlock cell too, and read the same values for each list. The pointers at the
+ * end may differ. Packets of the two lists are not to be mixed.
+ * The first list's refusal goes before the second's, and both before a clash. The time is in proportion to both lists' lengths.
+ * It uses about 8.5 KB of stack.
+ *
+ *   21 to 24  as head_compile refuses that list
+ *   51        the second list's record at place writes a cell which the first names, or names a cell which the first writes; it
+ *             is the first such record
+ */
+uint32_t head_independent(const uint8_t *first, uint64_t first_length,
+                          const uint8_t *second, uint64_t second_length,
+                          uint64_t *list, uint64_t *place);
+
+/* ---- Cue lists as text ---- */
+
+/* Makes a cue list of its text. The whole text is judged, and the room held against the bytes needed, before a byte is written.
+ *
+ *   text     lines, each ended by a newline, which the last may lack; text_length bytes, may be empty
+ *   out      room for the list: 6 bytes for each line that reads, 10 for each that writes
+ *   bytes    takes the list's bytes, or the refusal's place
+ *   records  takes the number of records, 0 if refused
+ *
+ * Words stand apart by blanks, tabs and carriage returns; # starts a comment; capitals differ from small letters. A line is
+ * empty, or one of
+ *
+ *   read SPACE ADDRESS            read NAME
+ *   write SPACE ADDRESS VALUE     write NAME VALUE
+ *   name NAME SPACE ADDRESS
+ *
+ * SPACE is registers, eeprom, status, information or a number up to 255, ADDRESS a number up to 65,535, VALUE one up to
+ * 4,294,967,295; numbers are decimal, or hexadecimal behind 0x or 0X. A NAME has a letter first, then letters, digits, _, -
+ * and ., at most 32 bytes, is none of the words read, write, name and the four spaces, and is defined once and above its
+ * use; a text has at most 1,000.
+ * Accepted: the list stands in out, a record for each line that reads or writes, in order. head_compile does not refuse it
+ * with 21 to 24, and running its packets does what the lines say one by one.
+ *
+ * The place of all but 26 is the line, counted from 1: the earliest bad one, and there the first of these that applies.
+ *
+ *   81          its first word and its number of words are none of the five above
+ *   82          a SPACE, ADDRESS or VALUE is none, or too large
+ *   83          a NAME is none, not defined above, defined twice, or one too many
+ *   21, 23, 24  as head_compile would refuse the record; a name that is defined is held against 23 as a read
+ *   26          text good, and out_length below the bytes needed, which is the place
+ */
+uint32_t head_assemble(const uint8_t *text, uint64_t text_length,
                        uint8_t *out, uint64_t out_length,
-                       uint64_t *bytes);
+                       uint64_t *bytes, uint64_t *records);
 
-/* Daughter cards: serial cards whose memory holds a process table, which describes the card's fields.
+/* Writes a cue list as text, the other way round: one line for each record, ended by a newline, as in
+ * "read registers 0x0010" and "write eeprom 0x0022 0xC0A8", with four digits of address and as many of value as the element has.
  *
- * In the four functions below, memory is the card's memory from address 0, table the address of its table in it. Fields stand in a
- * channel's three registers in table order, from the low bit of the first word upward, inputs (read from the card) and outputs
- * (written to it) apart; a field of both directions stands in both. A value is 64 bits: of a signed field (types 3 and 5) two's
- * complement of its own width, sign-extended; of any other, pads too, its plain bits.
+ *   list   the records, list_length bytes; may be empty
+ *   out    room for the text: at most 34 bytes for each record
+ *   bytes  takes the text's bytes, or the refusal's place
+ *   lines  takes the number of lines, 0 if refused
  *
- *   41  the table needs a byte past memory_length (an entry, a record, a string's NUL), or a record, type, mode type or
- *       direction is not one that the card's manual lists
- *   42  a field of 0 or more than 64 bits, or more than 96 bits in one direction
- *   40  see each function
+ * Accepted: the text stands in out. head_assemble makes the same list of it.
  *
- * 41 comes first, wherever in the table it is found, then 42, then 40. */
-
-/* The words of a field. */
-#define HEAD_FIELD_WORDS 7
-
-/* The registers of eight channels, three words each, and how many values a direction has at most. */
-#define HEAD_REGISTERS 24
-#define HEAD_FIELD_VALUES 96
-
-/* How many fields the table has.
- *
- *   inputs, outputs  take the number of fields each way, both 0 if refused; a field of both directions counts in both
+ *   21 to 24  as head_compile refuses the list
+ *   26        list good, and out_length below the bytes needed, which is the place
  */
-uint32_t head_table(const uint8_t *memory, uint64_t memory_length, uint16_t table,
-                    uint64_t *inputs, uint64_t *outputs);
+uint32_t head_list_text(const uint8_t *list, uint64_t list_length,
+                        uint8_t *out, uint64_t out_length,
+                        uint64_t *bytes, uint64_t *lines);
 
-/* One field of the table.
- *
- *   index  from 0, in table order over both directions; mode records are not counted
- *   field  room for 7 words: width in bits, type, direction byte (0x00 input, 0x40 both, 0x80 output), the bits of minimum
- *          and of maximum (IEEE-754), and the places in memory of unit and name, each ended by a NUL
- *
- *   40  index past the last field, or field_length is not 7; nothing is written
- */
-uint32_t head_field(const uint8_t *memory, uint64_t memory_length, uint16_t table, uint64_t index,
-                    uint32_t *field, uint64_t field_length);
-
-/* Packs the values of one direction into the registers of one channel.
- *
- *   direction  0 inputs, 1 outputs
- *   channel    0 to 7
- *   values     one for each field of that direction, in table order
- *   registers  24 words: three for channel 0, three for channel 1, ..
- *
- * Accepted: all 96 bits of the channel are written, those that no field has as 0; the other channels are unchanged.
- *
- *   40  direction above 1, channel above 7, registers_length not 24, values_length not the number of fields, or a value
- *       that does not fit its field; nothing is written
- */
-uint32_t head_pack(const uint8_t *memory, uint64_t memory_length, uint16_t table, uint32_t direction, uint32_t channel,
-                   const uint64_t *values, uint64_t values_length,
-                   uint32_t *registers, uint64_t registers_length);
-
-/* Unpacks the values of one direction from the registers of one channel, the other way round.
- *
- *   values  room for one value for each field of that direction
- *
- *   40  direction above 1, channel above 7, registers_length not 24, or values_length not the number of fields; nothing is
- *       written
- */
-uint32_t head_unpack(const uint8_t *memory, uint64_t memory_length, uint16_t table, uint32_t direction, uint32_t channel,
-                     const uint32_t *registers, uint64_t registers_length,
-                     uint64_t *values, uint64_t values_length);
-
-/* The lamp panel: starts exchanges for the channels in asked, where bit c of a mask stands for channel c.
- *
- *   started  the channels that are started
- *   mask     takes the mask asked for, only if accepted
- *
- *   43  asked names a channel that is not in started; *mask keeps its value
- */
-uint32_t head_panel_start(uint8_t asked, uint8_t started, uint8_t *mask);
-
-/* The lamp panel: what became of the channels in asked. Channels of faults that were not asked don't count.
- *
- *   asked_count   takes how many channels were asked
- *   failed_count  takes how many of these failed
- *   lowest        takes the lowest of these that failed, 8 if none did
- */
-void head_panel_report(uint8_t asked, uint8_t faults,
-                       uint8_t *asked_count, uint8_t *failed_count, uint8_t *lowest);
-
-/* The lamp panel: a field's reading. It is the value as a float, times the maximum, divided by one less than 2 to the
- * width, in that order, each step rounded once (IEEE 754's binary32, ties to even).
- *
- *   type          the field's data type, as the card's table has it
- *   width         the field's bits
- *   minimum_bits, maximum_bits  the bounds, as the bits of a float that stand in the table
- *   reading_bits  takes the reading, as the bits of a float, only if accepted; it is never a NaN
- *
- *   44  type not 2 (unsigned, not the nonvolatile 4), width not 1 to 24, or value too large for the width
- *   45  a bound that is an infinity or a NaN, or a maximum not above the minimum
- *   46  the value times the maximum is not finite
- *
- * They are asked in this order. Refused: *reading_bits keeps its value.
- */
-uint32_t head_panel_reading(uint32_t type, uint32_t width, uint64_t value,
-                            uint32_t minimum_bits, uint32_t maximum_bits, uint32_t *reading_bits);
+/* ---- A cue list in parts ---- */
 
 /* Compiles a cue list that comes in parts, cut anywhere, inside a record too. Each call takes bytes of the part until a
  * packet is finished, which it writes; until a fault shows; or until the part ends.
@@ -580,88 +489,51 @@ uint32_t head_part(uint8_t *state, uint64_t state_length,
                    uint8_t *out, uint64_t out_length,
                    uint64_t *taken, uint64_t *value);
 
-/* Says whether two cue lists may be compiled apart and run in either order.
- *
- *   first   the one list's records, first_length bytes; may be empty
- *   second  the other's
- *   list    takes which list is at fault: 0 the first, 1 the second; 0 if none is
- *   place   takes the index of the record at fault, from 0; 0 if none is
- *
- * Returns 0 exactly if both lists are accepted and neither writes a cell (a space and an address) that the other names. Then
- * all packets of one list run before all of the other, in either order from the same store and pointers, are accepted, leave the
- * same store to the byte, the packet count and the unlock cell too, and read the same values for each list. The pointers at the
- * end may differ. Packets of the two lists are not to be mixed.
- * The first list's refusal goes before the second's, and both before a clash. The time is in proportion to both lists' lengths.
- * It uses about 8.5 KB of stack.
- *
- *   21 to 24  as head_compile refuses that list
- *   51        the second list's record at place writes a cell which the first names, or names a cell which the first writes; it
- *             is the first such record
- */
-uint32_t head_independent(const uint8_t *first, uint64_t first_length,
-                          const uint8_t *second, uint64_t second_length,
-                          uint64_t *list, uint64_t *place);
+/* ---- Packets in fewer bytes ---- */
 
-/* Judges a recorded show: packets and replies in turn, each behind the mark "LB" (4C 42) and its length, 2 bytes, low byte
- * first. A packet that reads nothing has a reply of length 0.
+/* Compiles a cue list into fewer bytes where it can. Parameters, records, refusals and their places are head_compile's, 26 with
+ * the bytes of head_compile's own output included, so that room which is enough there is enough here.
  *
- *   show      the recording, show_length bytes; may be empty
- *   store     65,728 bytes, as the show begins
- *   pointers  8 numbers, as in head_run
- *   index     takes the number of packets judged if all is well; the packet at fault, from 0, for 61 to 63; the part, from 0,
- *             for 64 and 65; 0 for 1
- *   place     takes the wrong byte's place in its reply for 63, else 0
- *
- * Returns 0 if the recording is whole, every packet is accepted by the rules of head_run, and every reply is what they give, each
- * packet run from the state that the one before left. Otherwise the first fault:
- *
- *    1  as in head_run, of store and pointers; store and pointers are unchanged
- *   61  a packet that is refused
- *   62  a reply of another length
- *   63  a reply of the right length with a wrong byte
- *   64  cut: the recording ends inside a part, or where a reply should begin
- *   65  a part without the mark
- *
- * Store and pointers are left as the packets accepted so far leave them, also where a reply is then at fault. 1 is asked
- * before all else.
- */
-uint32_t head_judge(const uint8_t *show, uint64_t show_length,
-                    uint8_t *store, uint64_t store_length,
-                    uint32_t *pointers, uint64_t pointers_length,
-                    uint64_t *index, uint64_t *place);
-
-/* Makes a recording for head_judge of a capture file: classic pcap, as tcpdump writes it and Wireshark saves it on demand.
- *
- *   capture  the file, capture_length bytes
- *   out      room for the recording: each packet and its reply, each behind the mark "LB" and its length
- *   frames   room for one number for each packet: its frame in the capture, counted from 1 as Wireshark does (the low 32 bits
- *            of it, in a file of more than 64 GB); frames_length counts numbers
- *   bytes    takes the recording's bytes, or the refusal's place
+ *   list     the records, list_length bytes; may be empty
+ *   out      room for head_compile's output
+ *   bytes    takes the output's length, or the refusal's place
  *   packets  takes the number of packets, 0 if refused
  *
- * Read are files of either byte order, with microseconds or nanoseconds, of the link types 0 (null), 1 (Ethernet, also with one
- * tag 0x8100), 12, 101 and 228 (raw), 113 and 276 (Linux cooked). The card's address is the destination of the first UDP
- * datagram over IPv4 to port 27181. A request is a datagram to that address and port, a reply any other one from them. All
- * other frames are passed over, those too whose ports can't be seen: a link or IP header not wholly captured, another version,
- * a header length below 5 words, a later fragment, fewer than four captured bytes behind the IP header. A reply belongs to the
- * request before it; a request that has none before the next request or the end has a reply of no bytes. Checksums are not
- * looked at.
- * Accepted: returns 0. The recording stands in out and the frames' numbers in frames; what is beyond is unchanged in both. A
- * recording has fewer bytes than its capture.
+ * Accepted: the output is never longer than head_compile's, and head_tight_check accepts it with this number of packets. Its
+ * packets, each behind the mark "LB" and its length, may be cut in other places than head_compile's. Running them in order
+ * with head_run, from any store and any pointers that 1 does not turn away, does what the records do, as head_compile says.
+ * 2 to 127 reads of one cell come out as one packet, in 8 bytes.
  *
- *   91  no capture that is read here: fewer than 24 bytes, another magic, another link type; place 0
- *   92  a frame that is cut: fewer bytes than its header has, or than it says were captured; the place is the frame, from 1, as
- *       for 93 and 94
- *   93  a datagram of the card that isn't whole: more fragments follow, the UDP length is below 8 or not the IP packet's length
- *       less its header, or bytes of it were not captured; padding behind it is fine
- *   94  a second reply to a request
- *   26  capture good, out_length below the bytes needed, which are the place
- *   27  room enough in out, and frames_length below the packets, whose number is the place
+ *   21 to 24 and 26  as head_compile
  */
-uint32_t head_capture(const uint8_t *capture, uint64_t capture_length,
+uint32_t head_tighten(const uint8_t *list, uint64_t list_length,
                       uint8_t *out, uint64_t out_length,
-                      uint32_t *frames, uint64_t frames_length,
                       uint64_t *bytes, uint64_t *packets);
+
+/* Says whether an output, from wherever it comes, may be sent for a cue list instead of head_compile's. Nothing is changed but
+ * *value.
+ *
+ *   list    the records, list_length bytes; may be empty
+ *   output  packets, each behind the mark "LB" (4C 42) and its length, 2 bytes, low byte first; may be empty
+ *   value   takes the number of packets if accepted, the refusal's place if the list is refused, 0 for 50
+ *
+ * Returns 0 exactly if the list is good and all of these hold: marks and lengths are sound; every packet is accepted by the
+ * rules of head_run; none uses a space's pointer before it has set it; the elements that the packets read and write, in order,
+ * are the list's records, but for writes of 0x5A02 to the unlock cell, which may stand anywhere; the output is no longer than
+ * head_compile's. So an info read is rejected, and any other write to the unlock cell. An empty packet is accepted like any
+ * other, and counts.
+ * Then running the packets in order with head_run, from any store and any pointers that 1 does not turn away, reads the values
+ * and leaves the cells that doing the records one by one would, the unlock cell and the packet count apart; the count rises by
+ * the number of packets.
+ *
+ *   21 to 24  as head_compile refuses the list, whatever the output is
+ *   50        list good, output rejected
+ */
+uint32_t head_tight_check(const uint8_t *list, uint64_t list_length,
+                          const uint8_t *output, uint64_t output_length,
+                          uint64_t *value);
+
+/* ---- The interlock ---- */
 
 /* The interlock: a guard names bytes of the store that no packet, burst or list may write, whatever it holds. It is numbers of
  * 32 bits, two for each range: its first byte in the store, and its number of bytes. A register at address a is the range a, 4;
@@ -758,8 +630,253 @@ uint32_t head_guarded_list(const uint8_t *list, uint64_t list_length,
                            const uint32_t *guard, uint64_t guard_length,
                            uint64_t *value);
 
+/* ---- Recordings and captures ---- */
+
+/* Judges a recorded show: packets and replies in turn, each behind the mark "LB" (4C 42) and its length, 2 bytes, low byte
+ * first. A packet that reads nothing has a reply of length 0.
+ *
+ *   show      the recording, show_length bytes; may be empty
+ *   store     65,728 bytes, as the show begins
+ *   pointers  8 numbers, as in head_run
+ *   index     takes the number of packets judged if all is well; the packet at fault, from 0, for 61 to 63; the part, from 0,
+ *             for 64 and 65; 0 for 1
+ *   place     takes the wrong byte's place in its reply for 63, else 0
+ *
+ * Returns 0 if the recording is whole, every packet is accepted by the rules of head_run, and every reply is what they give, each
+ * packet run from the state that the one before left. Otherwise the first fault:
+ *
+ *    1  as in head_run, of store and pointers
+ *   61  a packet that is refused
+ *   62  a reply of another length
+ *   63  a reply of the right length with a wrong byte
+ *   64  cut: the recording ends inside a part, or where a reply should begin
+ *   65  a part without the mark
+ *
+ * Store and pointers are left as the packets accepted so far leave them, also where a reply is then at fault. 1 is asked
+ * before all else.
+ */
+uint32_t head_judge(const uint8_t *show, uint64_t show_length,
+                    uint8_t *store, uint64_t store_length,
+                    uint32_t *pointers, uint64_t pointers_length,
+                    uint64_t *index, uint64_t *place);
+
+/* Makes a recording for head_judge of a capture file: classic pcap, as tcpdump writes it and Wireshark saves it on demand.
+ *
+ *   capture  the file, capture_length bytes
+ *   out      room for the recording: each packet and its reply, each behind the mark "LB" and its length
+ *   frames   room for one number for each packet: its frame in the capture, counted from 1 as Wireshark does (the low 32 bits
+ *            of it, in a file of more than 64 GB); frames_length counts numbers
+ *   bytes    takes the recording's bytes, or the refusal's place
+ *   packets  takes the number of packets, 0 if refused
+ *
+ * Read are files of either byte order, with microseconds or nanoseconds, of the link types 0 (null), 1 (Ethernet, also with
+ * one tag 0x8100), 12, 101 and 228 (raw), 113 and 276 (Linux cooked). The card's address is the destination of the first UDP
+ * datagram over IPv4 to port 27181. A request is a datagram to that address and port, a reply any other one from them. All
+ * other frames are passed over, those too whose ports can't be seen: a link or IP header not wholly captured, another
+ * version, a header length below 5 words, a later fragment, fewer than four captured bytes behind the IP header. A reply
+ * belongs to the request before it; a request that has none before the next request or the end has a reply of no bytes.
+ * Checksums are not looked at.
+ * Accepted: the recording stands in out and the frames' numbers in frames. A recording has fewer bytes than its capture.
+ *
+ *   91  no capture that is read here: fewer than 24 bytes, another magic, another link type; place 0
+ *   92  a frame that is cut: fewer bytes than its header has, or than it says were captured; the place is the frame, from 1, as
+ *       for 93 and 94
+ *   93  a datagram of the card that isn't whole: more fragments follow, the UDP length is below 8 or not the IP packet's length
+ *       less its header, or bytes of it were not captured; padding behind it is fine
+ *   94  a second reply to a request
+ *   26  capture good, out_length below the bytes needed, which are the place
+ *   27  room enough in out, and frames_length below the packets, whose number is the place
+ */
+uint32_t head_capture(const uint8_t *capture, uint64_t capture_length,
+                      uint8_t *out, uint64_t out_length,
+                      uint32_t *frames, uint64_t frames_length,
+                      uint64_t *bytes, uint64_t *packets);
+
+/* ---- Daughter cards ---- */
+
+/* Daughter cards: serial cards whose memory holds a process table, which describes the card's fields.
+ *
+ * In the four functions below, memory is the card's memory from address 0, table the address of its table in it. Fields stand in a
+ * channel's three registers in table order, from the low bit of the first word upward, inputs (read from the card) and outputs
+ * (written to it) apart; a field of both directions stands in both. A value is 64 bits: of a signed field (types 3 and 5) two's
+ * complement of its own width, sign-extended; of any other, pads too, its plain bits.
+ *
+ *   41  the table needs a byte past memory_length (an entry, a record, a string's NUL), or a record, type, mode type or
+ *       direction is not one that the card's manual lists
+ *   42  a field of 0 or more than 64 bits, or more than 96 bits in one direction
+ *   40  see each function
+ *
+ * 41 comes first, wherever in the table it is found, then 42, then 40. */
+
+/* The words of a field. */
+#define HEAD_FIELD_WORDS 7
+
+/* The registers of eight channels, three words each, and how many values a direction has at most. */
+#define HEAD_REGISTERS 24
+#define HEAD_FIELD_VALUES 96
+
+/* How many fields the table has.
+ *
+ *   inputs, outputs  take the number of fields each way, both 0 if refused; a field of both directions counts in both
+ */
+uint32_t head_table(const uint8_t *memory, uint64_t memory_length, uint16_t table,
+                    uint64_t *inputs, uint64_t *outputs);
+
+/* One field of the table.
+ *
+ *   index  from 0, in table order over both directions; mode records are not counted
+ *   field  room for 7 words: width in bits, type, direction byte (0x00 input, 0x40 both, 0x80 output), the bits of minimum
+ *          and of maximum (IEEE-754), and the places in memory of unit and name, each ended by a NUL
+ *
+ *   40  index past the last field, or field_length is not 7
+ */
+uint32_t head_field(const uint8_t *memory, uint64_t memory_length, uint16_t table, uint64_t index,
+                    uint32_t *field, uint64_t field_length);
+
+/* Packs the values of one direction into the registers of one channel.
+ *
+ *   direction  0 inputs, 1 outputs
+ *   channel    0 to 7
+ *   values     one for each field of that direction, in table order
+ *   registers  24 words: three for channel 0, three for channel 1, ..
+ *
+ * Accepted: all 96 bits of the channel are written, those that no field has as 0; the other channels are unchanged.
+ *
+ *   40  direction above 1, channel above 7, registers_length not 24, values_length not the number of fields, or a value
+ *       that does not fit its field
+ */
+uint32_t head_pack(const uint8_t *memory, uint64_t memory_length, uint16_t table, uint32_t direction, uint32_t channel,
+                   const uint64_t *values, uint64_t values_length,
+                   uint32_t *registers, uint64_t registers_length);
+
+/* Unpacks the values of one direction from the registers of one channel, the other way round.
+ *
+ *   values  room for one value for each field of that direction
+ *
+ *   40  direction above 1, channel above 7, registers_length not 24, or values_length not the number of fields
+ */
+uint32_t head_unpack(const uint8_t *memory, uint64_t memory_length, uint16_t table, uint32_t direction, uint32_t channel,
+                     const uint32_t *registers, uint64_t registers_length,
+                     uint64_t *values, uint64_t values_length);
+
+/* ---- The lamp panel ---- */
+
+/* The lamp panel: starts exchanges for the channels in asked, where bit c of a mask stands for channel c.
+ *
+ *   started  the channels that are started
+ *   mask     takes the mask asked for, only if accepted
+ *
+ *   43  asked names a channel that is not in started
+ */
+uint32_t head_panel_start(uint8_t asked, uint8_t started, uint8_t *mask);
+
+/* The lamp panel: what became of the channels in asked. Channels of faults that were not asked don't count.
+ *
+ *   asked_count   takes how many channels were asked
+ *   failed_count  takes how many of these failed
+ *   lowest        takes the lowest of these that failed, 8 if none did
+ */
+void head_panel_report(uint8_t asked, uint8_t faults,
+                       uint8_t *asked_count, uint8_t *failed_count, uint8_t *lowest);
+
+/* The lamp panel: a field's reading. It is the value as a float, times the maximum, divided by one less than 2 to the
+ * width, in that order, each step rounded once (IEEE 754's binary32, ties to even).
+ *
+ *   type          the field's data type, as the card's table has it
+ *   width         the field's bits
+ *   minimum_bits, maximum_bits  the bounds, as the bits of a float that stand in the table
+ *   reading_bits  takes the reading, as the bits of a float, only if accepted; it is never a NaN
+ *
+ *   44  type not 2 (unsigned, not the nonvolatile 4), width not 1 to 24, or value too large for the width
+ *   45  a bound that is an infinity or a NaN, or a maximum not above the minimum
+ *   46  the value times the maximum is not finite
+ *
+ * They are asked in this order.
+ */
+uint32_t head_panel_reading(uint32_t type, uint32_t width, uint64_t value,
+                            uint32_t minimum_bits, uint32_t maximum_bits, uint32_t *reading_bits);
+
+/* ---- What a number means ---- */
+
+/* Says what a number means, in a sentence: one that a function here returned, or any other.
+ *
+ *   number  the number; 0 is "accepted"
+ *   out     room for the sentence: plain ASCII, with no newline and no NUL behind it; HEAD_SENTENCE_BYTES are always enough
+ *   bytes   takes the sentence's bytes, or if refused those needed
+ *
+ * Where a number means different things to different functions (1, 26 and 33), the sentence names them all. Of a number that
+ * means nothing it says so.
+ * Accepted: the sentence stands in out.
+ *
+ *   26  out_length below the sentence's bytes
+ */
+#define HEAD_SENTENCE_BYTES 100
+uint32_t head_sentence(uint32_t number,
+                       uint8_t *out, uint64_t out_length,
+                       uint64_t *bytes);
+
 #ifdef __cplusplus
 }
 #endif
 
 #endif
+
+/* What it costs, in bytes, by tools/costs; docs/FIRMWARE.md has the rest:
+ *
+ *                                 x86_64-linux  aarch64-linux  riscv64-linux    armv7-linux      cortex-m4      cortex-m0
+ *   code                                52,113         43,312         57,442         65,400         53,630         61,768
+ *   constants                            4,336          3,616            368            112            144            144
+ *   data                                     0              0              0              0              0              0
+ *   stack of head_assemble               8,792          8,656          8,816          8,780          8,700          8,772
+ *   stack of head_capture                  448            400            480            332            316            408
+ *   stack of head_check                    256            208            208            240            192            264
+ *   stack of head_compile                  560            352            400            416            400            436
+ *   stack of head_field                    288            176            208            172            176            208
+ *   stack of head_fields                   136              0              0              0             16              8
+ *   stack of head_guard                    144              0             16             36             36             76
+ *   stack of head_guarded_check            336            288            304            288            256            368
+ *   stack of head_guarded_list             384            224            256            264            264            332
+ *   stack of head_guarded_run              576            592            576            600            536            664
+ *   stack of head_guarded_spi              304            160            208            176            184            240
+ *   stack of head_header                   136              0              0              0              0              8
+ *   stack of head_header_word              136              0              0              8              8             20
+ *   stack of head_independent            8,592          8,448          8,464          8,448          8,440          8,492
+ *   stack of head_judge                  2,016          2,016          2,032          2,096          2,000          2,144
+ *   stack of head_list_text                336            272            208            152            152            236
+ *   stack of head_list_why                 240            112            112             88             88            132
+ *   stack of head_pack                     480            368            416            356            340            408
+ *   stack of head_panel_reading            136              0              0              8              8             24
+ *   stack of head_panel_report             136              0              0             16             16             24
+ *   stack of head_panel_start              136              0              0              0              0              0
+ *   stack of head_part                   1,064          1,120          1,248          1,268          1,192          1,296
+ *   stack of head_run                      480            432            416            480            456            528
+ *   stack of head_salvage                  320            176            192            152            144            204
+ *   stack of head_sentence               3,088          2,960          3,056          2,952          2,944          3,424
+ *   stack of head_spi                      256            144            144            144            144            152
+ *   stack of head_table                    288            160            208            164            184            216
+ *   stack of head_tight_check              720            464            592            560            544            612
+ *   stack of head_tighten                1,056            720            928            824            816            916
+ *   stack of head_unpack                   464            336            400            308            316            392
+ *   stack of head_why                      368            400            384            376            304            392
+ *   stack of head_word                     160              0              0             16             16             24
+ *
+ * A stack is the deepest that the call can need, without that of the functions of libc and libgcc that are named below. No
+ * function is reached from itself, none asks for memory, and none keeps anything between calls, so that calls which are lent
+ * different memory may run at the same time. On a Cortex-M4 a packet takes at most 240,165 instructions, a burst 1,366, a
+ * record of a list 443 in head_compile.
+ * x86_64-linux needs memcpy (libc), memset (libc). Registers beyond the integer ones: assemble, capture, check, compile,
+ *   field, guarded_check, guarded_list, guarded_run, guarded_spi, independent, judge, pack, panel_reading, part, run,
+ *   sentence, spi, table, tight_check, tighten, unpack, why.
+ * aarch64-linux needs memcpy (libc), memset (libc). Registers beyond the integer ones: assemble, capture, check, compile,
+ *   field, fields, guarded_check, guarded_list, guarded_run, guarded_spi, header, independent, judge, list_text, pack,
+ *   panel_reading, panel_report, part, run, sentence, spi, table, tight_check, tighten, unpack, why.
+ * riscv64-linux needs memcpy (libc), memset (libc). Registers beyond the integer ones: panel_reading.
+ * armv7-linux needs memcpy (libc), memset (libc). Registers beyond the integer ones: assemble, capture, check, compile,
+ *   guarded_check, guarded_list, guarded_run, guarded_spi, independent, judge, pack, panel_reading, part, run, sentence,
+ *   spi, tight_check, tighten, unpack, why.
+ * cortex-m4 needs __aeabi_memclr4 (libc), __aeabi_memclr8 (libc), __aeabi_memcpy (libc). Registers beyond the integer ones:
+ *   panel_reading.
+ * cortex-m0 needs __aeabi_fcmplt (libgcc), __aeabi_fdiv (libgcc), __aeabi_fmul (libgcc), __aeabi_llsl (libgcc), __aeabi_llsr
+ *   (libgcc), __aeabi_lmul (libgcc), __aeabi_memclr (libc), __aeabi_memclr4 (libc), __aeabi_memclr8 (libc), __aeabi_memcpy
+ *   (libc), __aeabi_ui2f (libgcc). Registers beyond the integer ones: none.
+ */

@@ -36,11 +36,6 @@ static void same(int line, const char *what, const void *found, const void *expe
 static uint8_t store[HEAD_STORE_BYTES], before[HEAD_STORE_BYTES], reply[HEAD_REPLY_BYTES];
 static uint32_t pointers[HEAD_POINTERS];
 
-#define EEPROM 65536
-#define STATUS 65664
-#define COUNT (STATUS + 0x0A)
-#define UNLOCK (STATUS + 0x1A)
-
 /* Cue lists: P7, with the output that document 01 gives; one that is refused with 24 at 1; one register read three times. */
 static const uint8_t p7[] = { 'W', 'R', 2, 0, 0x20, 0, 0x20, 0, 0, 0, 'W', 'R', 2, 0, 0x22, 0, 0xA8, 0xC0, 0, 0 };
 static const uint8_t p7_output[] = { 'L', 'B', 14, 0, 1, 0xD9, 0x1A, 0, 2, 0x5A, 0x82, 0xC9, 0x20, 0, 0x20, 0, 0xA8, 0xC0 };
@@ -74,8 +69,8 @@ static void packets(void)
     IS(head_run(UNLOCKED, store, sizeof store, pointers, HEAD_POINTERS, reply, sizeof reply, &value, &elements), 0);
     IS(value, 0);
     IS(elements, 3);
-    memcpy(before + EEPROM + 0x20, values, 4);
-    before[COUNT] = 1;
+    memcpy(before + HEAD_EEPROM_AT + 0x20, values, 4);
+    before[HEAD_COUNT_AT] = 1;
     SAME(store, before, sizeof store);
     SAME(pointers, moved, sizeof pointers);
 
@@ -84,13 +79,33 @@ static void packets(void)
     IS(elements, 3);
     SAME(reply, values, 6);
     SAME(reply + 6, zeros, sizeof reply - 6);
-    before[COUNT] = 2;
+    before[HEAD_COUNT_AT] = 2;
     SAME(store, before, sizeof store);
 
     IS(head_run(LOCKED, store, sizeof store - 1, pointers, HEAD_POINTERS, reply, sizeof reply, &value, &elements), 1);
     IS(head_run(LOCKED, store, sizeof store, pointers, HEAD_POINTERS - 1, reply, sizeof reply, &value, &elements), 1);
     IS(head_check(zeros, sizeof zeros, store, sizeof store, pointers, HEAD_POINTERS, &value), 6);
     IS(head_check(store, HEAD_REPLY_BYTES + 1, before, sizeof before, pointers, HEAD_POINTERS, &value), 2);
+}
+
+static void places(void)
+{
+    /* The first element of each space, read by its address 0. */
+    static const uint8_t firsts[] = { 0x01, 0x42, 0, 0, 0x01, 0x49, 0, 0, 0x01, 0x59, 0, 0, 0x01, 0x5D, 0, 0 };
+    static const uint8_t values[] = { 10, 11, 12, 13, 20, 21, 60, 61, 70, 71 };
+    uint64_t value = 99, elements = 99;
+
+    memset(store, 0, sizeof store);
+    memset(pointers, 0, sizeof pointers);
+    memcpy(store + HEAD_REGISTERS_AT, values, 4);
+    memcpy(store + HEAD_EEPROM_AT, values + 4, 2);
+    memcpy(store + HEAD_STATUS_AT, values + 6, 2);
+    memcpy(store + HEAD_INFORMATION_AT, values + 8, 2);
+    IS(head_run(firsts, sizeof firsts, store, sizeof store, pointers, HEAD_POINTERS, reply, sizeof reply, &value, &elements), 0);
+    IS(value, sizeof values);
+    SAME(reply, values, sizeof values);
+    memset(store, 0, sizeof store);
+    memset(before, 0, sizeof before);
 }
 
 static void reasons(void)
@@ -395,7 +410,7 @@ static void recordings(void)
     IS(head_judge(show, sizeof show, store, sizeof store, pointers, HEAD_POINTERS, &index, &place), 63);
     IS(index, 1);
     IS(place, 3);
-    IS(store[COUNT], 2);
+    IS(store[HEAD_COUNT_AT], 2);
     show[sizeof show - 1] = 0xC0;
     IS(head_judge(show, sizeof show, store, sizeof store, pointers, HEAD_POINTERS, &index, &place), 0);
     IS(index, 2);
@@ -403,7 +418,7 @@ static void recordings(void)
     IS(head_judge(show, sizeof show - 1, store, sizeof store, pointers, HEAD_POINTERS, &index, &place), 64);
     IS(index, 3);
     IS(head_judge(show, sizeof show, store, sizeof store, pointers, HEAD_POINTERS - 1, &index, &place), 1);
-    IS(store[UNLOCK], 0);
+    IS(store[HEAD_UNLOCK_AT], 0);
 }
 
 static void captures(void)
@@ -517,9 +532,9 @@ static void lamp_panel(void)
 static void guards(void)
 {
     /* The EEPROM's cell 0x22, a register's last byte, and a range of no bytes in the unlock cell. */
-    static const uint32_t guard[] = { EEPROM + 0x22, 2, 0x1007, 1, UNLOCK, 0 };
+    static const uint32_t guard[] = { HEAD_EEPROM_AT + 0x22, 2, 0x1007, 1, HEAD_UNLOCK_AT, 0 };
     static const uint32_t past[] = { 0, 4, 0xFFFFFFFF, 1 };
-    static const uint32_t count[] = { COUNT + 1, 1 };
+    static const uint32_t count[] = { HEAD_COUNT_AT + 1, 1 };
     static const uint32_t none[2 * HEAD_GUARD_RANGES + 2] = { 0 };
     uint64_t value = 99;
 
@@ -541,7 +556,7 @@ static void guards(void)
 
 static void guarded(void)
 {
-    static const uint32_t cell[] = { EEPROM + 0x22, 2 }, beside[] = { EEPROM + 0x24, 2, 0x1008, 4 };
+    static const uint32_t cell[] = { HEAD_EEPROM_AT + 0x22, 2 }, beside[] = { HEAD_EEPROM_AT + 0x24, 2, 0x1008, 4 };
     static const uint32_t unmoved[HEAD_POINTERS] = { 0 };
     static const uint32_t words[] = { 0x1000B830, 1, 2 };
     uint32_t answer[] = { 9, 9, 9 };
@@ -563,8 +578,8 @@ static void guarded(void)
     SAME(pointers, unmoved, sizeof pointers);
     IS(head_guarded_run(UNLOCKED, store, sizeof store, pointers, HEAD_POINTERS, reply, sizeof reply, beside, 4, &value, &elements), 0);
     IS(elements, 3);
-    memcpy(before + EEPROM + 0x20, p7_output + 14, 4);
-    before[COUNT] = 1;
+    memcpy(before + HEAD_EEPROM_AT + 0x20, p7_output + 14, 4);
+    before[HEAD_COUNT_AT] = 1;
     SAME(store, before, sizeof store);
 
     /* Three registers are promised and two came. */
@@ -590,6 +605,7 @@ static void guarded(void)
 int main(void)
 {
     packets();
+    places();
     reasons();
     words();
     headers();
