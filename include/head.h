@@ -3,11 +3,14 @@
  *   a card                  head_check, head_run, head_why                                          examples/c/packets.c
  *   SPI bursts              head_spi                                                                examples/c/bursts.c
  *   words and headers       head_fields, head_word, head_header, head_header_word                   examples/c/bursts.c
- *   cue lists               head_compile, head_list_why, head_salvage, head_independent             examples/c/lists.c
+ *   cue lists               head_compile                                                            examples/c/lists.c
+ *   damaged cue lists       head_list_why, head_salvage                                             examples/c/damaged.c
+ *   two cue lists           head_independent                                                        examples/c/tight.c
  *   cue lists as text       head_assemble, head_list_text                                           examples/c/lists.c
  *   a cue list in parts     head_part                                                               examples/c/parts.c
- *   packets in fewer bytes  head_tighten, head_tight_check                                          examples/c/lists.c
- *   the interlock           head_guard, head_guarded_check, .._run, .._spi, .._list                 examples/c/guard.c
+ *   packets in fewer bytes  head_tighten, head_tight_check                                          examples/c/tight.c
+ *   the interlock           head_guard, head_guarded_check, head_guarded_run, head_guarded_spi,
+ *                           head_guarded_list                                                       examples/c/guard.c
  *   recordings, captures    head_judge, head_capture                                                examples/c/captures.c
  *   daughter cards          head_table, head_field, head_pack, head_unpack                          examples/c/daughter.c
  *   the lamp panel          head_panel_start, head_panel_report, head_panel_reading                 examples/c/daughter.c
