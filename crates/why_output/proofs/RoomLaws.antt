@@ -1,134 +1,27 @@
 -- What the program writes fits its room: every piece stands there, one behind the other.
-use Prim.Native.Nat.{ℕ, zero, suc, _+_, _-_, _≤_, _<_}
+use Prim.Native.Nat.{ℕ, _≤_}
 use mathlib.Core.Path.{_≡_, refl}
-use mathlib.Core.List.{List, _++_}
-use mathlib.Core.Bool.{Bool, true, false, _&&_, cond}
+use mathlib.Core.List.{List, [], _++_}
+use mathlib.Core.Bool.{Bool, true, false, cond}
 use native.Mathlib.Omega.{arith}
-use borrow.Author.Tests.{le-ltb, ltb-false}
+use borrow.Author.Tests.{ltb-false}
 use lib.Dec.{eqb, ltb}
-use lib.ListN.{length, take, drop, length-append, length-take, length-drop}
-use Rattle.lbp16.specs.Word.{fieldsOf}
+use lib.ListN.{length, take, length-append, length-take}
 use Rattle.lbp16.specs.Pointer.{fresh}
-use Rattle.lbp16.specs.declared.word.Fields.{Fields}
 use Rattle.lbp16.specs.declared.pointer.Pointers.{Pointers}
-use Rattle.packet.specs.Command.{limit, fieldsAt, commandBytes}
-use Rattle.packet.specs.Judge.{Verdict, refused, accepted, judge}
-use Rattle.packet.proofs.RefusalLaws.{RefusedAt, refused-in-table}
-use Rattle.card.proofs.RunLaws.{checked-cases}
-use Rattle.text.specs.Number.{ascii, hexadecimal}
+use Rattle.text.specs.Number.{ascii, bytesOfHex}
+use Rattle.text.specs.Line.{numbered}
 use Rattle.text.specs.Room.{putAt, textLeft}
-use Rattle.text.proofs.HexLaws.{hex-length, bytes-length}
+use Rattle.text.proofs.HexLaws.{bytes-length}
 use Rattle.text.proofs.LineLaws.{cond-length, numbered-length}
 use Rattle.text.proofs.RoomLaws.{put-front}
-use Rattle.sentence.specs.Sentence.{sentenceOf}
-use Rattle.sentence.proofs.TableLaws.{sentence-short}
-use Rattle.reason.specs.Reason.{commandsFrom, commandsBefore, unnamed, named, reasonOf, explained}
+use Rattle.reason.specs.Reason.{explained}
 use Rattle.reason.specs.declared.Reason.{Reason}
-use Rattle.why_output.specs.Wording.{ruleText, acceptedText, refusedText, elementBytes, kindText, fieldsText, addressDigits, addressText}
-use Rattle.why_output.specs.Wording.{describedText, lastPlace, commandShown, spanText, commandText, frontText, saidOf, said}
+use Rattle.packet_text.specs.Wording.{refusedText, commandText}
+use Rattle.packet_text.proofs.SizeLaws.{Small, small, refused-size, command-size}
+use Rattle.why_output.specs.Wording.{acceptedText, frontText, saidOf, said}
 use Rattle.why_output.specs.declared.given.Given.{Given}
 use Rattle.why_output.specs.Given.{pointersIn, wholeText}
-
--- No sentence is above 100 bytes.
-rule-short : (n : ℕ) → length (ruleText n) ≤ 100
-unfolding ruleText ascii
-rule-short n =
-    cond-length 100 (eqb n 1) (ascii "the store is not whole, or a pointer stands above the size of its space or info area") (sentenceOf n)
-    (omega arith)
-    (sentence-short n)
-
--- The numbers that a reason may hold.
-pub record Small (packet : List ℕ) (r : Reason) : Type 0 where
-  pub number : r .number ≤ 12
-  pub place : r .place ≤ 1472
-  pub index : r .index ≤ 1472
-  pub space : r .fields .space < 8
-  pub count : r .fields .count < 128
-  pub short : 3 ≤ r .number → length packet ≤ 1472
-
-commands-few : (fuel n : ℕ) (rest : List ℕ) → commandsFrom fuel n rest ≤ fuel
-unfolding commandsFrom
-commands-few zero n rest = omega arith
-commands-few (suc fuel) zero rest = omega arith
-commands-few (suc fuel) (suc n) rest =
-    let k = commandBytes (fieldsAt rest) in
-    let h = commands-few fuel (suc n - k) (drop k rest) in
-    omega arith
-
--- fields are those of some word
-module _ (P : Fields → Type 0) (all : (w : ℕ) → P (fieldsOf w)) where
-  fields-some : (rest : List ℕ) → P (fieldsAt rest)
-  unfolding fieldsAt
-  fields-some rest = go (ltb (length rest) 2) _
-    where
-      go : (b : Bool) (w : ℕ) → P (cond b (fieldsOf 0) (fieldsOf w))
-      go true w = all 0
-      go false w = all w
-
-space-few : (w : ℕ) → fieldsOf w .space < 8
-unfolding fieldsOf
-space-few w = omega arith
-
-count-few : (w : ℕ) → fieldsOf w .count < 128
-unfolding fieldsOf
-count-few w = omega arith
-
-unnamed-small : (packet : List ℕ) (n : ℕ) → n < 3 → Small packet (unnamed n 0)
-unfolding unnamed
-unnamed-small packet n l =
-    record {
-      number = omega arith;
-      place = omega arith;
-      index = omega arith;
-      space = space-few 0;
-      count = count-few 0;
-      short = λ h. absurd (omega arith);
-    }
-
-module _ (packet store : List ℕ) (p : Pointers) where
-  pub small : Small packet (explained packet store p)
-  unfolding explained reasonOf named commandsBefore
-  small =
-      checked-cases packet store p (λ v. Small packet (reasonOf p packet v)) (λ _. unnamed-small packet 1 (omega arith))
-      (λ _ _. unnamed-small packet 2 (omega arith))
-      (λ _ short. go short (judge p packet) refl)
-    where
-      go : length packet ≤ limit → (v : Verdict) → judge p packet ≡ v → Small packet (reasonOf p packet v)
-      go short (accepted c) q = unnamed-small packet 0 (omega arith)
-      go short (refused n place) q = at (refused-in-table p packet n place q)
-        where
-          at : RefusedAt p packet n place → Small packet (reasonOf p packet (refused n place))
-          at r =
-              let three = r .in-table .0 in
-              let twelve = r .in-table .1 in
-              let some : 1 ≤ length (drop place packet) = rw (r .from-place) (r .some) in
-              let within : 1 ≤ length packet - place = rw (length-drop place packet) at some in
-              rw (le-ltb n 3 three) (record {
-                number = twelve;
-                place = omega arith;
-                index = omega (arith, commands-few place place packet);
-                space = fields-some (λ f. f .space < 8) space-few (drop place packet);
-                count = fields-some (λ f. f .count < 128) count-few (drop place packet);
-                short = λ _. short;
-              })
-
-address-few : (n : ℕ) → length (hexadecimal (addressDigits n) n) ≤ 5
-unfolding addressDigits
-address-few n = rw hex-length (go (ltb n 65536))
-  where
-    go : (b : Bool) → cond b 4 5 ≤ 5
-    go true = omega arith
-    go false = omega arith
-
-element-few : (code : ℕ) → elementBytes code ≤ 8
-unfolding elementBytes
-element-few code = go (eqb code 0) (eqb code 1) (eqb code 2)
-  where
-    go : (a b c : Bool) → cond a 1 (cond b 2 (cond c 4 8)) ≤ 8
-    go true b c = omega arith
-    go false true c = omega arith
-    go false false true = omega arith
-    go false false false = omega arith
 
 accepted-size : (packet : List ℕ) → length (acceptedText packet) ≤ 22
 unfolding acceptedText ascii
@@ -136,81 +29,13 @@ accepted-size packet =
     cond-length 22 (eqb (length packet) 0) (ascii "accepted, no commands\n") (ascii "accepted\n") (omega arith) (omega arith)
 
 module _ (packet : List ℕ) (r : Reason) (s : Small packet r) where
-  refused-size : length (refusedText r) ≤ 155
-  unfolding refusedText ascii
-  refused-size =
-      let a = numbered-length (ascii "refused ") (r .number) (omega (arith, s .number)) in
-      let b = numbered-length (ascii " at ") (r .place) (omega (arith, s .place)) in
-      let c = rule-short (r .number) in
-      simp length-append (omega arith)
-
-  kind-size : length (kindText (r .fields)) ≤ 10
-  unfolding kindText ascii
-  kind-size =
-      let i = r .fields .info in
-      cond-length 10 (r .fields .write) (cond i (ascii "info write") (ascii "write")) (cond i (ascii "info read") (ascii "read"))
-      (cond-length 10 i (ascii "info write") (ascii "write") (omega arith) (omega arith))
-      (cond-length 10 i (ascii "info read") (ascii "read") (omega arith) (omega arith))
-
-  fields-size : length (fieldsText (r .fields)) ≤ 118
-  unfolding fieldsText ascii
-  fields-size =
-      let a = kind-size in
-      let b = numbered-length (ascii ", space ") (r .fields .space) (omega (arith, s .space)) in
-      let c = numbered-length (ascii ", ") (elementBytes (r .fields .size)) (omega (arith, element-few (r .fields .size))) in
-      let d = cond-length 28 (r .fields .increment) (ascii "-byte elements, increment") (ascii "-byte elements, no increment")
-      (omega arith) (omega arith) in
-      let e = numbered-length (ascii ", count ") (r .fields .count) (omega (arith, s .count)) in
-      simp length-append (omega arith)
-
-  address-size : (n : ℕ) → length (addressText n r) ≤ 35
-  unfolding addressText ascii
-  address-size n =
-      let a = address-few (r .address) in
-      let b = cond-length 28 (r .fields .address) (ascii ", address ") (ascii ", address from the pointer (") (omega arith)
-      (omega arith) in
-      let c = cond-length 2 (r .fields .address) (ascii "\n") (ascii ")\n") (omega arith) (omega arith) in
-      cond-length 35 (r .fields .address && ltb n 4) (ascii ", address cut off\n")
-      (cond (r .fields .address) (ascii ", address ") (ascii ", address from the pointer (")
-      ++ hexadecimal (addressDigits (r .address)) (r .address)
-      ++ cond (r .fields .address) (ascii "\n") (ascii ")\n"))
-      (omega arith) (simp length-append (omega arith))
-
-  described-size : (n : ℕ) → length (describedText n r) ≤ 155
-  unfolding describedText ascii
-  described-size n =
-      let a = fields-size in
-      let b = address-size n in
-      cond-length 155 (ltb n 2) (ascii ": word cut off\n") (ascii ": " ++ fieldsText (r .fields) ++ addressText n r) (omega arith)
-      (simp length-append (omega arith))
-
-  span-size : (last : ℕ) → last ≤ 18446744073709551615 → length (spanText r last) ≤ 80
-  unfolding spanText ascii
-  span-size last l =
-      let a = numbered-length (ascii "command ") (r .index) (omega (arith, s .index)) in
-      let b = numbered-length (ascii ", bytes ") (r .place) (omega (arith, s .place)) in
-      let c = numbered-length (ascii " to ") last (omega arith) in
-      simp length-append (omega arith)
-
-  command-size : 3 ≤ r .number → length (commandText packet r) ≤ 4652
-  unfolding commandText ascii lastPlace commandShown
-  command-size three =
-      let a = span-size (lastPlace (r .place) (length (commandShown packet r))) (omega arith) in
-      let d = described-size (length (drop (r .place) packet)) in
-      let e = shown-few in
-      let f = bytes-length (commandShown packet r) in
-      simp length-append (omega arith)
-    where
-      shown-few : length (commandShown packet r) ≤ 1472
-      shown-few = rw (length-take, length-drop) (omega (arith, s .short three))
-
   front-size : 3 ≤ r .number → length (frontText packet (r .place)) ≤ 4481
   unfolding frontText ascii
   front-size three =
       let a = numbered-length (ascii "the ") (r .place) (omega (arith, s .place)) in
       let b : length (take (r .place) packet) ≤ 1472 = rw length-take (omega (arith, s .short three)) in
       let c = bytes-length (take (r .place) packet) in
-      simp length-append (omega arith)
+      cond-length 4481 (eqb (r .place) 0) [] _ (omega arith) (simp length-append (omega arith))
 
   said-size : length (saidOf packet r) ≤ 16384
   unfolding saidOf
@@ -221,12 +46,12 @@ module _ (packet : List ℕ) (r : Reason) (s : Small packet r) where
     where
       go : (b : Bool) → ltb (r .number) 3 ≡ b
           → length (cond b (refusedText r) (refusedText r ++ commandText packet r ++ frontText packet (r .place))) ≤ 16384
-      go true e = omega (arith, refused-size)
+      go true e = omega (arith, refused-size packet r s)
       go false e =
           let three = ltb-false (r .number) 3 e in
-          let a = command-size three in
+          let a = command-size packet r s three in
           let b = front-size three in
-          let c = refused-size in
+          let c = refused-size packet r s in
           simp length-append (omega arith)
 
 pub said-fits : (packet store : List ℕ) (p : Pointers) → length (said packet store p) ≤ 16384

@@ -1,16 +1,17 @@
 // What the program `why` writes: why a captured packet is refused, in words.
 pub mod given;
-mod shown;
 
 use given::Given;
 use lbp16::pointer::Pointers;
+use packet_text::command;
 use reason::Reason;
 use text::line;
+use text::number;
 use text::pick;
 ghost use mathlib.Core.Path.{_≡_};
 ghost use Rattle.text.specs.Room.{filled, putAt, textLeft};
 ghost use Rattle.why_output.specs.Given.{wholeText};
-ghost use Rattle.why_output.specs.Wording.{ruleText, acceptedText, refusedText, saidOf, said};
+ghost use Rattle.why_output.specs.Wording.{acceptedText, frontText, saidOf, said};
 
 // Each answers the place behind what it put.
 fn accepted(out: &mut [u8], at: usize, packet: &[u8]) -> usize
@@ -20,26 +21,16 @@ fn accepted(out: &mut [u8], at: usize, packet: &[u8]) -> usize
     text::put(out, at, t)
 }
 
-fn put_rule(out: &mut [u8], at: usize, number: u32) -> usize
-    ensures { λ k. ⌜ filled k (now (out .exit)) ≡ putAt (ruleText number) at (now (out .entry)) ⌝ }
+// The bytes before a place; nothing where there are none.
+fn front(out: &mut [u8], at: usize, packet: &[u8], place: u64) -> usize
+    ensures { λ k. ⌜ filled k (now (out .exit)) ≡ putAt (frontText (now (packet .entry)) place) at (now (out .entry)) ⌝ }
 {
-    if number == 1 {
-        return text::put(
-            out,
-            at,
-            b"the store is not whole, or a pointer stands above the size of its space or info area",
-        );
+    if place == 0 {
+        return text::put(out, at, b"");
     }
-    sentence::put_sentence(out, at, number)
-}
-
-fn refused(out: &mut [u8], at: usize, r: Reason) -> usize
-    ensures { λ k. ⌜ filled k (now (out .exit)) ≡ putAt (refusedText r) at (now (out .entry)) ⌝ }
-{
-    let at = line::numbered(out, at, b"refused ", r.number as u64);
-    let at = line::numbered(out, at, b" at ", r.place);
-    let at = text::put(out, at, b": ");
-    let at = put_rule(out, at, r.number);
+    let at = line::numbered(out, at, b"the ", place);
+    let at = text::put(out, at, b" bytes before it are an accepted packet:");
+    let at = number::bytes(out, at, reason::front(packet, place));
     text::put(out, at, b"\n")
 }
 
@@ -49,12 +40,12 @@ fn say(out: &mut [u8], at: usize, packet: &[u8], r: Reason) -> usize
     if r.number == 0 {
         return accepted(out, at, packet);
     }
-    let at = refused(out, at, r);
+    let at = packet_text::put_refused(out, at, r);
     if r.number < 3 {
         return at;
     }
-    let at = shown::command(out, at, packet, r);
-    shown::front(out, at, packet, r.place)
+    let at = command::put_command(out, at, packet, r);
+    front(out, at, packet, r.place)
 }
 
 // Why a packet is refused in this state, put at a place of the room.

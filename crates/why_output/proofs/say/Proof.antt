@@ -15,8 +15,8 @@ returns : tie.Need-returns
 unfolding saidOf
 returns c = rw (eq-eqb _ 0 (c .before .before .before .before .if1 .taken)) (c .before .before .accepted .ensures)
 
-refused-requires : tie.Need-refused-requires
-refused-requires c κs = search needs
+put-refused-requires : tie.Need-put-refused-requires
+put-refused-requires c κs = search needs
 
 same-length-2 : tie.Need-same-length-2
 same-length-2 c = search needs
@@ -26,10 +26,10 @@ unfolding saidOf
 returns-2 c =
     rw
     (ne-eqb _ 0 (c .before .before .before .before .before .before .if1 .left), lt-ltb _ 3 (c .if2 .taken))
-    (c .before .before .before .before .refused .ensures)
+    (c .before .before .before .before .put-refused .ensures)
 
-command-requires : tie.Need-command-requires
-command-requires c κs = search needs
+put-command-requires : tie.Need-put-command-requires
+put-command-requires c κs = search needs
 
 front-requires : tie.Need-front-requires
 front-requires c κs = search needs
@@ -42,8 +42,8 @@ unfolding saidOf
 returns-3 c =
     let a = c .before .before .before .before .before .before .before .before in
     let z = a .before .before .before .before .before .before in
-    rw (ne-eqb _ 0 (z .if1 .left), le-ltb _ 3 (a .if2 .left)) (put-then _ _ _ _ (put-then _ _ _ _ (a .before .before .before .before .refused .ensures)
-    (c .before .before .before .before .before .before .command .ensures)) (c .before .before .front .ensures))
+    rw (ne-eqb _ 0 (z .if1 .left), le-ltb _ 3 (a .if2 .left)) (put-then _ _ _ _ (put-then _ _ _ _ (a .before .before .before .before .put-refused .ensures)
+    (c .before .before .before .before .before .before .put-command .ensures)) (c .before .before .front .ensures))
 
 pub say-spec : {M : Type 1} → statement M
 say-spec =
@@ -52,10 +52,10 @@ say-spec =
     accepted-requires
     same-length
     returns
-    refused-requires
+    put-refused-requires
     same-length-2
     returns-2
-    command-requires
+    put-command-requires
     front-requires
     same-length-3
     returns-3)
