@@ -44,8 +44,8 @@
  *   - No pointer may be null, not even that of a buffer with a length of 0.
  *   - Pointers are aligned for their type, and all that is lent holds a value, also what is only written: clear
  *     all rooms and all that takes an answer before the first call.
- *   - Nothing lent to a call may overlap anything else lent to it, *value included, and nobody else may
- *     touch it before the call returns.
+ *   - What a call writes, *value included, overlaps nothing else that it is lent; buffers that it only reads may overlap each
+ *     other. Until it returns nobody else touches what it writes, or changes what it reads.
  *
  * What is kept: nothing between calls. The card's state is the store and the pointers, that of a list in parts its
  * HEAD_PART_BYTES bytes; the caller keeps them. What the calls cost stands at the end of this file.

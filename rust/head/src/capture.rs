@@ -1,8 +1,23 @@
 //! Captures of a card's datagrams.
+//!
+//! ```
+//! let refusal = head::capture(b"no capture", &mut [], &mut []).unwrap_err();
+//! assert_eq!(refusal.number, 91);
+//! ```
+#![forbid(unsafe_code)]
 
-use crate::{accepted, Refusal};
+use crate::refusal::written;
+use crate::{Refusal, raw};
 
 /// What was read from a capture.
+///
+/// ```
+/// // A capture of no frames.
+/// let mut file = vec![0xD4, 0xC3, 0xB2, 0xA1];
+/// file.resize(24, 0);
+/// assert_eq!(head::capture(&file, &mut [], &mut [])?, head::Captured { bytes: 0, packets: 0 });
+/// # Ok::<(), head::Refusal>(())
+/// ```
 #[derive(Clone, Copy, Debug, PartialEq, Eq)]
 pub struct Captured {
     /// The recording's length.
@@ -34,47 +49,18 @@ pub struct Captured {
 /// # Ok::<(), head::Refusal>(())
 /// ```
 pub fn capture(capture: &[u8], out: &mut [u8], frames: &mut [u32]) -> Result<Captured, Refusal> {
-    let (number, bytes, packets) = exports::capture(capture, out, frames);
-    accepted(number, bytes)?;
+    let (bytes, packets) = written(raw::capture(capture, out, frames))?;
     Ok(Captured {
-        bytes: bytes as usize,
+        bytes,
         packets: packets as usize,
     })
 }
 
+/// The library's answers of this module, as numbers.
+///
+/// ```
+/// assert_eq!(head::capture::exports::capture(&[], &mut [], &mut []), (91, 0, 0));
+/// ```
 pub mod exports {
-    use crate::exports::UNWRITTEN;
-
-    /// Answers the refusal number, the recording's bytes or the place, and the packets, 0 if refused.
-    pub fn capture(capture: &[u8], out: &mut [u8], frames: &mut [u32]) -> (u32, u64, u64) {
-        let mut bytes = UNWRITTEN;
-        let mut packets = UNWRITTEN;
-        // SAFETY: each pointer and length is a slice's, and the library uses nothing beyond.
-        let number = unsafe {
-            head_capture(
-                capture.as_ptr(),
-                capture.len() as u64,
-                out.as_mut_ptr(),
-                out.len() as u64,
-                frames.as_mut_ptr(),
-                frames.len() as u64,
-                &mut bytes,
-                &mut packets,
-            )
-        };
-        (number, bytes, packets)
-    }
-
-    extern "C" {
-        fn head_capture(
-            capture: *const u8,
-            capture_len: u64,
-            out: *mut u8,
-            out_len: u64,
-            frames: *mut u32,
-            frames_len: u64,
-            bytes: *mut u64,
-            packets: *mut u64,
-        ) -> u32;
-    }
+    pub use crate::raw::capture;
 }

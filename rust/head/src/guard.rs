@@ -26,17 +26,78 @@
 //! # Ok::<(), head::Refusal>(())
 //! ```
 
-use crate::{accepted, ran, Ran, Refusal};
+#![forbid(unsafe_code)]
+
+use crate::card::ran;
+use crate::refusal::accepted;
+use crate::{Ran, Refusal, raw};
+use std::ops::Range;
 
 /// The number of a guard that is not sound. It comes before every other refusal; its place is the
 /// first pair at fault.
+///
+/// ```
+/// assert_eq!(head::guard(&[0x1000]).unwrap_err().number, head::guard::UNSOUND);
+/// ```
 pub const UNSOUND: u32 = 70;
 
 /// The number of a packet, burst or list that is otherwise accepted and writes a protected byte.
+///
+/// ```
+/// let refusal = head::guarded_list(b"WR\0\0\x04\0\x01\0\0\0", &[4, 4]).unwrap_err();
+/// assert_eq!(refusal.number, head::guard::PROTECTED);
+/// ```
 pub const PROTECTED: u32 = 71;
 
 /// The most ranges that a guard may have.
+///
+/// ```
+/// assert!(head::Guard::new(vec![0..4; head::guard::MOST_RANGES]).is_ok());
+/// assert!(head::Guard::new(vec![0..4; head::guard::MOST_RANGES + 1]).is_err());
+/// ```
 pub const MOST_RANGES: usize = 64;
+
+/// A sound guard: ranges of the store's bytes that nothing may write.
+///
+/// ```
+/// let guard = head::Guard::new([0x1000..0x1008, 65_536..65_664])?;
+/// assert_eq!(guard.numbers(), [0x1000, 8, 65_536, 128]);
+/// # Ok::<(), head::Refusal>(())
+/// ```
+#[derive(Clone, Debug, PartialEq, Eq)]
+pub struct Guard {
+    numbers: Vec<u32>,
+}
+
+impl Guard {
+    /// The guard of these ranges, or [`UNSOUND`] with the first that is at fault.
+    ///
+    /// ```
+    /// // The unlock cell, at 0x1A of space 6, can't be protected.
+    /// let refusal = head::Guard::new([0..4, 65_690..65_692]).unwrap_err();
+    /// assert_eq!((refusal.number, refusal.place), (head::guard::UNSOUND, 1));
+    /// ```
+    pub fn new(ranges: impl IntoIterator<Item = Range<u32>>) -> Result<Guard, Refusal> {
+        let numbers: Vec<u32> = ranges
+            .into_iter()
+            .flat_map(|range| [range.start, range.len() as u32])
+            .collect();
+        guard(&numbers)?;
+        Ok(Guard { numbers })
+    }
+
+    /// Two numbers for each range, as the functions of this module take them.
+    ///
+    /// ```
+    /// let guard = head::Guard::new([8..12])?;
+    /// assert_eq!(head::guarded_list(b"RD\0\0\x08\0", guard.numbers()), Ok(1));
+    /// # Ok::<(), head::Refusal>(())
+    /// ```
+    #[inline]
+    pub fn numbers(&self) -> &[u32] {
+        &self.numbers
+    }
+}
 
 /// Whether a guard is sound: answers how many ranges it has.
 ///
@@ -46,13 +107,18 @@ pub const MOST_RANGES: usize = 64;
 /// assert_eq!((refusal.number, refusal.place), (head::guard::UNSOUND, 1));
 /// ```
 pub fn guard(guard: &[u32]) -> Result<usize, Refusal> {
-    let (number, value) = exports::guard(guard);
-    accepted(number, value)?;
-    Ok(value as usize)
+    Ok(accepted(raw::guard(guard))? as usize)
 }
 
 /// Checks one packet as [`crate::check`] does, and against a guard: what would be accepted and
 /// would write a protected byte is refused with [`PROTECTED`] at the first command that does.
+///
+/// ```
+/// let (store, pointers) = (vec![0; head::STORE_BYTES], [0; head::POINTERS]);
+/// let packet = [0x81, 0xC2, 0x00, 0x10, 1, 0, 0, 0];
+/// assert_eq!(head::guarded_check(&packet, &store, &pointers, &[0x1004, 4]), Ok(0));
+/// assert!(head::guarded_check(&packet, &store, &pointers, &[0x1000, 4]).is_err());
+/// ```
 #[inline]
 pub fn guarded_check(
     packet: &[u8],
@@ -60,13 +126,19 @@ pub fn guarded_check(
     pointers: &[u32],
     guard: &[u32],
 ) -> Result<usize, Refusal> {
-    let (number, value) = exports::guarded_check(packet, store, pointers, guard);
-    accepted(number, value)?;
-    Ok(value as usize)
+    Ok(accepted(raw::guarded_check(packet, store, pointers, guard))? as usize)
 }
 
 /// Runs one packet as [`crate::run`] does, unless [`guarded_check`] refuses it. After any packets
 /// and bursts that are run with the same guard, every protected byte is as it was.
+///
+/// ```
+/// let (mut store, mut pointers) = (vec![0; head::STORE_BYTES], [0; head::POINTERS]);
+/// let (mut reply, packet) = ([0; head::PACKET_BYTES], [0x81, 0xC2, 0x00, 0x10, 1, 0, 0, 0]);
+/// let answer = head::guarded_run(&packet, &mut store, &mut pointers, &mut reply, &[0x1000, 4]);
+/// assert_eq!(answer.unwrap_err().number, head::guard::PROTECTED);
+/// assert_eq!(store[0x1000], 0);
+/// ```
 #[inline]
 pub fn guarded_run(
     packet: &[u8],
@@ -75,11 +147,18 @@ pub fn guarded_run(
     reply: &mut [u8],
     guard: &[u32],
 ) -> Result<Ran, Refusal> {
-    ran(exports::guarded_run(packet, store, pointers, reply, guard))
+    ran(raw::guarded_run(packet, store, pointers, reply, guard))
 }
 
 /// Runs one SPI burst as [`crate::spi`] does, unless it would be accepted and promises to write a
 /// protected byte, whether the word for it came or not.
+///
+/// ```
+/// // Two words are promised, and one came.
+/// let (mut store, mut answer) = (vec![0; head::STORE_BYTES], [0; 2]);
+/// let refusal = head::guarded_spi(&[0x1000_B820, 1], &mut store, &mut answer, &[0x1004, 4]);
+/// assert_eq!(refusal.unwrap_err().number, head::guard::PROTECTED);
+/// ```
 #[inline]
 pub fn guarded_spi(
     words: &[u32],
@@ -87,13 +166,11 @@ pub fn guarded_spi(
     answer: &mut [u32],
     guard: &[u32],
 ) -> Result<u64, Refusal> {
-    let (number, value) = exports::guarded_spi(words, store, answer, guard);
-    accepted(number, value)?;
-    Ok(value)
+    accepted(raw::guarded_spi(words, store, answer, guard))
 }
 
 /// Whether a cue list is good and writes no protected byte: answers how many records it has. Then
-/// every packet that [`crate::compile`] makes of it passes the guard.
+/// every packet that [`crate::compile()`] makes of it passes the guard.
 ///
 /// ```
 /// // Read register 4, write register 8.
@@ -103,33 +180,14 @@ pub fn guarded_spi(
 /// assert_eq!((refusal.number, refusal.place), (head::guard::PROTECTED, 1));
 /// ```
 pub fn guarded_list(list: &[u8], guard: &[u32]) -> Result<u64, Refusal> {
-    let (number, value) = exports::guarded_list(list, guard);
-    accepted(number, value)?;
-    Ok(value)
+    accepted(raw::guarded_list(list, guard))
 }
 
+/// The library's answers of this module, as numbers.
+///
+/// ```
+/// assert_eq!(head::guard::exports::guard(&[0x1000, 4]), (0, 1));
+/// ```
 pub mod exports {
-    exports! {
-        /// Answers the refusal number, and the pairs or the place.
-        fn guard = head_guard(const guard: u32) -> (value: u64);
-
-        /// Answers the refusal number, and the reply's length or the place.
-        fn guarded_check = head_guarded_check(
-            const packet: u8, const store: u8, const pointers: u32, const guard: u32
-        ) -> (value: u64);
-
-        /// Answers the refusal number, the reply's length or the place, and the elements moved, 0 if
-        /// refused.
-        fn guarded_run = head_guarded_run(
-            const packet: u8, mut store: u8, mut pointers: u32, mut reply: u8, const guard: u32
-        ) -> (value: u64, elements: u64);
-
-        /// Answers the refusal number, and the elements moved or the place.
-        fn guarded_spi = head_guarded_spi(
-            const words: u32, mut store: u8, mut answer: u32, const guard: u32
-        ) -> (value: u64);
-
-        /// Answers the refusal number, and the records or the place.
-        fn guarded_list = head_guarded_list(const list: u8, const guard: u32) -> (value: u64);
-    }
+    pub use crate::raw::{guard, guarded_check, guarded_list, guarded_run, guarded_spi};
 }

@@ -1,14 +1,28 @@
 //! The header word of an SPI burst, both ways.
+//!
+//! ```
+//! assert_eq!(head::header_word(&head::header(0x1000_A83F)), Ok(0x1000_A830));
+//! ```
+#![forbid(unsafe_code)]
 
-use crate::{accepted, Refusal};
+use crate::refusal::placeless;
+use crate::{Refusal, raw};
 
 /// A header word taken apart.
-#[derive(Clone, Copy, Debug, PartialEq, Eq)]
+///
+/// ```
+/// let header = head::Header { address: 0x1000, command: 0xA, increment: true, count: 3 };
+/// assert_eq!(head::header(0x1000_A830), header);
+/// ```
+#[derive(Clone, Copy, Debug, PartialEq, Eq, Hash)]
 pub struct Header {
+    /// The first register's.
     pub address: u16,
     /// 0xA to read, 0xB to write.
     pub command: u8,
+    /// Each register is the next one; otherwise all are the same one.
     pub increment: bool,
+    /// How many words follow, 0 to 127.
     pub count: u8,
 }
 
@@ -22,7 +36,7 @@ pub struct Header {
 /// ```
 pub fn header(word: u32) -> Header {
     let mut fields = [0; 4];
-    exports::header(word, &mut fields);
+    raw::header(word, &mut fields);
     let [address, command, increment, count] = fields;
     Header {
         address: address as u16,
@@ -34,6 +48,11 @@ pub fn header(word: u32) -> Header {
 
 /// Puts a burst's header together. A command other than 0xA and 0xB is refused with 32, a count
 /// outside 1 to 127 with 33.
+///
+/// ```
+/// let header = head::Header { address: 0x1000, command: 0xB, increment: true, count: 0 };
+/// assert_eq!(head::header_word(&header).unwrap_err().number, 33);
+/// ```
 pub fn header_word(header: &Header) -> Result<u32, Refusal> {
     let fields = [
         header.address.into(),
@@ -42,28 +61,15 @@ pub fn header_word(header: &Header) -> Result<u32, Refusal> {
         header.count.into(),
     ];
     let mut word = 0;
-    let number = exports::header_word(&fields, &mut word);
-    accepted(number, 0)?;
+    placeless(raw::header_word(&fields, &mut word))?;
     Ok(word)
 }
 
+/// The library's answers of this module, as numbers.
+///
+/// ```
+/// assert_eq!(head::header::exports::header(0x1000_A830, &mut []), 13);
+/// ```
 pub mod exports {
-    /// Writes 4 numbers: address, command, increment, count. A slice of another length is refused
-    /// with 13 and left alone.
-    pub fn header(word: u32, fields: &mut [u32]) -> u32 {
-        // SAFETY: each pointer and length is a slice's, and the library uses nothing beyond.
-        unsafe { head_header(word, fields.as_mut_ptr(), fields.len() as u64) }
-    }
-
-    /// Puts the header of these 4 numbers together. Where that is refused, `word` is left alone.
-    pub fn header_word(fields: &[u32], word: &mut u32) -> u32 {
-        // SAFETY: as in `header`.
-        unsafe { head_header_word(fields.as_ptr(), fields.len() as u64, word) }
-    }
-
-    extern "C" {
-        fn head_header(word: u32, fields: *mut u32, fields_len: u64) -> u32;
-
-        fn head_header_word(fields: *const u32, fields_len: u64, word: *mut u32) -> u32;
-    }
+    pub use crate::raw::{header, header_word};
 }

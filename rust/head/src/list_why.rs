@@ -1,11 +1,24 @@
 //! What is wrong with a cue list.
+//!
+//! ```
+//! // The list ends inside its record.
+//! assert_eq!(head::list_why(b"RD\0").map(|fault| fault.refusal.number), Some(22));
+//! ```
+#![forbid(unsafe_code)]
 
-use crate::Refusal;
+use crate::{Refusal, raw};
+use std::error::Error;
+use std::fmt;
 
 /// The refusal of a list, and what is wrong at the record.
+///
+/// ```
+/// let fault = head::list_why(b"RD\0\0\x04\0RD\0\x01\x04\0").expect("a refused list");
+/// assert_eq!(fault.to_string(), "refused 24 at 1 (byte 6): the spare byte is not 0");
+/// ```
 #[derive(Clone, Copy, Debug, PartialEq, Eq)]
 pub struct Fault {
-    /// What [`crate::compile`] refuses the list with, 21 to 24.
+    /// What [`crate::compile()`] refuses the list with, 21 to 24.
     pub refusal: Refusal,
     /// Where the record begins in the list. The bytes before it alone are an accepted list.
     pub offset: usize,
@@ -14,7 +27,12 @@ pub struct Fault {
 }
 
 impl Fault {
-    /// The cause in a sentence.
+    /// The cause, in the header's words: the library has a sentence for each number, and none for each cause.
+    ///
+    /// ```
+    /// let fault = head::list_why(b"RD\0\0\x03\0").expect("a refused list");
+    /// assert_eq!(fault.sentence(), "the address is not a multiple of the element's bytes");
+    /// ```
     pub fn sentence(&self) -> &'static str {
         match (self.refusal.number, self.cause) {
             (21, _) => "a list has at most 100,000 records",
@@ -34,7 +52,25 @@ impl Fault {
     }
 }
 
-/// What is wrong with a list; nothing if [`crate::compile`] would not refuse it with 21 to 24.
+impl fmt::Display for Fault {
+    fn fmt(&self, f: &mut fmt::Formatter) -> fmt::Result {
+        write!(
+            f,
+            "{} (byte {}): {}",
+            self.refusal,
+            self.offset,
+            self.sentence()
+        )
+    }
+}
+
+impl Error for Fault {
+    fn source(&self) -> Option<&(dyn Error + 'static)> {
+        Some(&self.refusal)
+    }
+}
+
+/// What is wrong with a list; nothing if [`crate::compile()`] would not refuse it with 21 to 24.
 ///
 /// ```
 /// // A read of register 4, and a write to a cell of the EEPROM that is read only.
@@ -46,7 +82,7 @@ impl Fault {
 /// assert!(head::list_why(&list[..fault.offset]).is_none());
 /// ```
 pub fn list_why(list: &[u8]) -> Option<Fault> {
-    let (number, place, offset, cause) = exports::list_why(list);
+    let (number, place, offset, cause) = raw::list_why(list);
     let fault = Fault {
         refusal: Refusal { number, place },
         offset: offset as usize,
@@ -55,34 +91,11 @@ pub fn list_why(list: &[u8]) -> Option<Fault> {
     (number != 0).then_some(fault)
 }
 
+/// The library's answers of this module, as numbers.
+///
+/// ```
+/// assert_eq!(head::list_why::exports::list_why(b"RD"), (22, 0, 0, 2));
+/// ```
 pub mod exports {
-    use crate::exports::UNWRITTEN;
-
-    /// Answers the refusal number, the record, its offset in the list and the cause, all 0 of a good list.
-    pub fn list_why(list: &[u8]) -> (u32, u64, u64, u64) {
-        let mut place = UNWRITTEN;
-        let mut offset = UNWRITTEN;
-        let mut cause = UNWRITTEN;
-        // SAFETY: pointer and length are a slice's, and the library uses no byte beyond.
-        let number = unsafe {
-            head_list_why(
-                list.as_ptr(),
-                list.len() as u64,
-                &mut place,
-                &mut offset,
-                &mut cause,
-            )
-        };
-        (number, place, offset, cause)
-    }
-
-    extern "C" {
-        fn head_list_why(
-            list: *const u8,
-            list_len: u64,
-            place: *mut u64,
-            offset: *mut u64,
-            cause: *mut u64,
-        ) -> u32;
-    }
+    pub use crate::raw::list_why;
 }

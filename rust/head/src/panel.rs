@@ -1,7 +1,21 @@
 //! The lamp panel: starting exchanges, reporting faults, and readings in a panel's units.
+//!
+//! ```
+//! let asked = head::panel::start(0b0110, 0b1110)?;
+//! assert_eq!(head::panel::report(asked, 0).failed, 0);
+//! # Ok::<(), head::Refusal>(())
+//! ```
+#![forbid(unsafe_code)]
 
-use crate::{accepted, Refusal};
+use crate::refusal::placeless;
+use crate::{Refusal, raw};
 
+/// What became of the channels that were asked.
+///
+/// ```
+/// let report = head::panel::report(0b0110, 0b0001);
+/// assert_eq!(report, head::panel::Report { asked: 2, failed: 0, lowest: None });
+/// ```
 #[derive(Clone, Copy, Debug, PartialEq, Eq)]
 pub struct Report {
     /// How many channels were asked.
@@ -14,10 +28,14 @@ pub struct Report {
 
 /// Answers the mask of the channels to start exchanges for. One that names a channel outside the
 /// started ones is refused with 43.
+///
+/// ```
+/// assert_eq!(head::panel::start(0b0110, 0b1110), Ok(0b0110));
+/// assert_eq!(head::panel::start(0b0110, 0b1100).unwrap_err().number, 43);
+/// ```
 pub fn start(asked: u8, started: u8) -> Result<u8, Refusal> {
     let mut mask = 0;
-    let number = exports::start(asked, started, &mut mask);
-    accepted(number, 0)?;
+    placeless(raw::start(asked, started, &mut mask))?;
     Ok(mask)
 }
 
@@ -28,7 +46,7 @@ pub fn start(asked: u8, started: u8) -> Result<u8, Refusal> {
 /// assert_eq!((report.asked, report.failed, report.lowest), (3, 1, Some(2)));
 /// ```
 pub fn report(asked: u8, faults: u8) -> Report {
-    let [asked, failed, lowest] = exports::report(asked, faults);
+    let [asked, failed, lowest] = raw::report(asked, faults);
     Report {
         asked,
         failed,
@@ -54,65 +72,17 @@ pub fn reading(
 ) -> Result<f32, Refusal> {
     let mut bits = 0;
     let (minimum, maximum) = (minimum.to_bits(), maximum.to_bits());
-    let number = exports::reading(kind, width, value, minimum, maximum, &mut bits);
-    accepted(number, 0)?;
+    placeless(raw::reading(
+        kind, width, value, minimum, maximum, &mut bits,
+    ))?;
     Ok(f32::from_bits(bits))
 }
 
+/// The library's answers of this module, as numbers.
+///
+/// ```
+/// assert_eq!(head::panel::exports::report(0, 0), [0, 0, 8]);
+/// ```
 pub mod exports {
-    /// Answers the refusal number. Where that is not 0, `mask` is left alone.
-    pub fn start(asked: u8, started: u8, mask: &mut u8) -> u32 {
-        // SAFETY: the pointer is a reference's.
-        unsafe { head_panel_start(asked, started, mask) }
-    }
-
-    /// How many channels were asked, how many failed, and the lowest of these or 8.
-    pub fn report(asked: u8, faults: u8) -> [u8; 3] {
-        let [mut asked_count, mut failed_count, mut lowest] = [u8::MAX; 3];
-        // SAFETY: as in `start`.
-        unsafe {
-            head_panel_report(
-                asked,
-                faults,
-                &mut asked_count,
-                &mut failed_count,
-                &mut lowest,
-            )
-        };
-        [asked_count, failed_count, lowest]
-    }
-
-    /// Answers the refusal number. Where that is not 0, `reading_bits` is left alone.
-    pub fn reading(
-        kind: u32,
-        width: u32,
-        value: u64,
-        minimum_bits: u32,
-        maximum_bits: u32,
-        reading_bits: &mut u32,
-    ) -> u32 {
-        // SAFETY: as in `start`.
-        unsafe { head_panel_reading(kind, width, value, minimum_bits, maximum_bits, reading_bits) }
-    }
-
-    extern "C" {
-        fn head_panel_start(asked: u8, started: u8, mask: *mut u8) -> u32;
-
-        fn head_panel_report(
-            asked: u8,
-            faults: u8,
-            asked_count: *mut u8,
-            failed_count: *mut u8,
-            lowest: *mut u8,
-        );
-
-        fn head_panel_reading(
-            kind: u32,
-            width: u32,
-            value: u64,
-            minimum_bits: u32,
-            maximum_bits: u32,
-            reading_bits: *mut u32,
-        ) -> u32;
-    }
+    pub use crate::raw::{reading, report, start};
 }

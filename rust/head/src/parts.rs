@@ -1,22 +1,68 @@
 //! Compiling a cue list that arrives in parts.
+//!
+//! ```
+//! use head::parts::{Compiler, ROOM};
+//!
+//! // Each part is given until all of it is taken, and the last one until nothing is written.
+//! let (mut compiler, mut out, mut packets) = (Compiler::new(), [0; ROOM], Vec::new());
+//! for (part, last) in [(&b"RD\0\0\x04"[..], false), (&b"\0"[..], true)] {
+//!     let mut rest = part;
+//!     loop {
+//!         let answer = compiler.part(rest, last, &mut out);
+//!         let written = answer.written?;
+//!         packets.extend_from_slice(&out[..written]);
+//!         rest = &rest[answer.taken..];
+//!         if rest.is_empty() && (!last || written == 0) {
+//!             break;
+//!         }
+//!     }
+//! }
+//! assert_eq!(packets, head::Packets::compile(b"RD\0\0\x04\0")?.output());
+//! # Ok::<(), head::Refusal>(())
+//! ```
+#![forbid(unsafe_code)]
 
-use crate::{accepted, Refusal};
+use crate::refusal::accepted;
+use crate::{Refusal, raw};
 
 /// The bytes of a compiler's state, as the header has it.
+///
+/// ```
+/// let mut state = vec![0; head::parts::STATE_BYTES];
+/// let mut out = [0; head::parts::ROOM];
+/// assert_eq!(head::parts::exports::part(&mut state, b"", 1, &mut out), (0, 0, 0));
+/// ```
 pub const STATE_BYTES: usize = defined(
     include_bytes!("../../../include/head.h"),
     b"#define HEAD_PART_BYTES",
 );
 
 /// The least room that a call needs: a packet with its mark and length.
+///
+/// ```
+/// let answer = head::parts::Compiler::new().part(b"", true, &mut [0; head::parts::ROOM - 1]);
+/// assert_eq!(answer.written.unwrap_err().number, 26);
+/// ```
 pub const ROOM: usize = 4 + crate::PACKET_BYTES;
 
 /// A compiler that takes a list in parts.
+///
+/// ```
+/// let mut compiler = head::parts::Compiler::new();
+/// let answer = compiler.part(b"??", false, &mut [0; head::parts::ROOM]);
+/// assert_eq!(answer.written.unwrap_err().number, 22);
+/// ```
+#[derive(Clone, Debug)]
 pub struct Compiler {
     state: Box<[u8]>,
 }
 
 /// What a call took and handed out.
+///
+/// ```
+/// let answer = head::parts::Compiler::new().part(b"RD", false, &mut [0; head::parts::ROOM]);
+/// assert_eq!(answer, head::parts::Answer { taken: 2, written: Ok(0) });
+/// ```
 #[derive(Clone, Copy, Debug, PartialEq, Eq)]
 pub struct Answer {
     /// The bytes of the part that were taken; the others are given again.
@@ -27,6 +73,11 @@ pub struct Answer {
 
 impl Compiler {
     /// One that has taken nothing.
+    ///
+    /// ```
+    /// let answer = head::parts::Compiler::new().part(b"", true, &mut [0; head::parts::ROOM]);
+    /// assert_eq!(answer.written, Ok(0));
+    /// ```
     pub fn new() -> Compiler {
         Compiler {
             state: vec![0; STATE_BYTES].into(),
@@ -51,10 +102,10 @@ impl Compiler {
     /// assert_eq!(compiler.part(&[], true, &mut out).written, Ok(0));
     /// ```
     pub fn part(&mut self, part: &[u8], last: bool, out: &mut [u8]) -> Answer {
-        let (number, taken, value) = exports::part(&mut self.state, part, last.into(), out);
+        let (number, taken, value) = raw::part(&mut self.state, part, last.into(), out);
         Answer {
             taken: taken as usize,
-            written: accepted(number, value).map(|()| value as usize),
+            written: accepted((number, value)).map(|bytes| bytes as usize),
         }
     }
 }
@@ -92,41 +143,11 @@ const fn stands_at(text: &[u8], at: usize, name: &[u8]) -> bool {
     k == name.len()
 }
 
+/// The library's answers of this module, as numbers.
+///
+/// ```
+/// assert_eq!(head::parts::exports::part(&mut [], b"", 1, &mut []), (26, 0, 1_476));
+/// ```
 pub mod exports {
-    use crate::exports::UNWRITTEN;
-
-    /// Answers the refusal number, the bytes taken, and the bytes written or the place.
-    pub fn part(state: &mut [u8], part: &[u8], last: u32, out: &mut [u8]) -> (u32, u64, u64) {
-        let mut taken = UNWRITTEN;
-        let mut value = UNWRITTEN;
-        // SAFETY: each pointer and length is a slice's, and the library uses nothing beyond.
-        let number = unsafe {
-            head_part(
-                state.as_mut_ptr(),
-                state.len() as u64,
-                part.as_ptr(),
-                part.len() as u64,
-                last,
-                out.as_mut_ptr(),
-                out.len() as u64,
-                &mut taken,
-                &mut value,
-            )
-        };
-        (number, taken, value)
-    }
-
-    extern "C" {
-        fn head_part(
-            state: *mut u8,
-            state_len: u64,
-            part: *const u8,
-            part_len: u64,
-            last: u32,
-            out: *mut u8,
-            out_len: u64,
-            taken: *mut u64,
-            value: *mut u64,
-        ) -> u32;
-    }
+    pub use crate::raw::part;
 }

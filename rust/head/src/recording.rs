@@ -1,9 +1,24 @@
 //! Judging a recorded show.
+//!
+//! ```
+//! // An empty packet, and its reply of no bytes.
+//! assert_eq!(head::Card::new().judge(b"LB\0\0LB\0\0"), head::Verdict::Yes(1));
+//! ```
+#![forbid(unsafe_code)]
 
-use crate::Refusal;
+use crate::{Refusal, raw};
 
 /// What is said of a recording. Packets and parts are counted from 0, and a part is a packet or a
 /// reply.
+///
+/// ```
+/// use head::{Card, Verdict};
+///
+/// assert_eq!(Card::new().judge(b"LB\x02\0\x81\x42LB\0\0"), Verdict::Packet(0));
+/// assert_eq!(Card::new().judge(b"LB\0\0LB\x01\0\0"), Verdict::Length(0));
+/// assert_eq!(Card::new().judge(b"LB\0\0LB"), Verdict::Cut(1));
+/// assert_eq!(Card::new().judge(b"LB\0\0????"), Verdict::Unmarked(1));
+/// ```
 #[derive(Clone, Copy, Debug, PartialEq, Eq)]
 pub enum Verdict {
     /// Every reply is what the rules give; the number of packets.
@@ -35,7 +50,11 @@ pub enum Verdict {
 /// # Ok::<(), head::Refusal>(())
 /// ```
 pub fn judge(recording: &[u8], store: &mut [u8], pointers: &mut [u32]) -> Result<Verdict, Refusal> {
-    let (number, index, place) = exports::judge(recording, store, pointers);
+    verdict(raw::judge(recording, store, pointers))
+}
+
+/// What an export's answer says of a recording.
+pub(crate) fn verdict((number, index, place): (u32, u64, u64)) -> Result<Verdict, Refusal> {
     match number {
         0 => Ok(Verdict::Yes(index)),
         61 => Ok(Verdict::Packet(index)),
@@ -47,10 +66,11 @@ pub fn judge(recording: &[u8], store: &mut [u8], pointers: &mut [u32]) -> Result
     }
 }
 
+/// The library's answers of this module, as numbers.
+///
+/// ```
+/// assert_eq!(head::recording::exports::judge(b"", &mut [], &mut []), (1, 0, 0));
+/// ```
 pub mod exports {
-    exports! {
-        /// Answers the number, the packet's or part's index, and the place of a wrong byte or 0.
-        fn judge = head_judge(const recording: u8, mut store: u8, mut pointers: u32)
-            -> (index: u64, place: u64);
-    }
+    pub use crate::raw::judge;
 }

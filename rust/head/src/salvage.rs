@@ -1,8 +1,23 @@
 //! Damaged cue lists.
+//!
+//! ```
+//! let (mut out, mut log) = ([0; 7], [0; 2]);
+//! let salvaged = head::salvage(b"?RD\0\0\x04\0", &mut out, &mut log)?;
+//! assert!(head::list_why(&out[..salvaged.bytes]).is_none());
+//! # Ok::<(), head::Refusal>(())
+//! ```
+#![forbid(unsafe_code)]
 
-use crate::{accepted, Refusal};
+use crate::refusal::written;
+use crate::{Refusal, raw};
 
 /// What was saved of a damaged list.
+///
+/// ```
+/// let salvaged = head::salvage(b"??", &mut [0; 2], &mut [0; 2])?;
+/// assert_eq!(salvaged, head::Salvaged { bytes: 0, entries: 1 });
+/// # Ok::<(), head::Refusal>(())
+/// ```
 #[derive(Clone, Copy, Debug, PartialEq, Eq)]
 pub struct Salvaged {
     /// The bytes of the records kept.
@@ -27,18 +42,18 @@ pub struct Salvaged {
 /// # Ok::<(), head::Refusal>(())
 /// ```
 pub fn salvage(list: &[u8], out: &mut [u8], log: &mut [u64]) -> Result<Salvaged, Refusal> {
-    let (number, bytes, entries) = exports::salvage(list, out, log);
-    accepted(number, bytes)?;
+    let (bytes, entries) = written(raw::salvage(list, out, log))?;
     Ok(Salvaged {
-        bytes: bytes as usize,
+        bytes,
         entries: entries as usize,
     })
 }
 
+/// The library's answers of this module, as numbers.
+///
+/// ```
+/// assert_eq!(head::salvage::exports::salvage(b"?", &mut [], &mut []), (26, 1, 0));
+/// ```
 pub mod exports {
-    exports! {
-        /// Answers the refusal number, the bytes kept or the place, and the log's entries, 0 if refused.
-        fn salvage = head_salvage(const list: u8, mut out: u8, mut log: u64)
-            -> (bytes: u64, entries: u64);
-    }
+    pub use crate::raw::salvage;
 }

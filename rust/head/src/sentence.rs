@@ -1,6 +1,18 @@
 //! A sentence for every number.
+//!
+//! ```
+//! assert_eq!(head::sentence(0), "accepted");
+//! ```
+#![forbid(unsafe_code)]
+
+use crate::raw;
 
 /// The bytes that are room enough for any sentence.
+///
+/// ```
+/// let mut room = [0; head::sentence::SENTENCE_BYTES];
+/// assert!((0..200).all(|number| head::sentence::exports::sentence(number, &mut room).0 == 0));
+/// ```
 pub const SENTENCE_BYTES: usize = 100;
 
 /// What a number means, in a sentence: that of a [`crate::Refusal`], 0 for acceptance, or any other, of
@@ -13,23 +25,15 @@ pub const SENTENCE_BYTES: usize = 100;
 /// ```
 pub fn sentence(number: u32) -> String {
     let mut room = [0; SENTENCE_BYTES];
-    let (_, bytes) = exports::sentence(number, &mut room);
+    let (_, bytes) = raw::sentence(number, &mut room);
     String::from_utf8_lossy(&room[..bytes as usize]).into_owned()
 }
 
+/// The library's answers of this module, as numbers.
+///
+/// ```
+/// assert_eq!(head::sentence::exports::sentence(31, &mut []), (26, 11));
+/// ```
 pub mod exports {
-    use crate::exports::UNWRITTEN;
-
-    /// Answers 0, or 26 where the room is too small, and the sentence's bytes.
-    pub fn sentence(number: u32, out: &mut [u8]) -> (u32, u64) {
-        let mut bytes = UNWRITTEN;
-        // SAFETY: pointer and length are a slice's, and the library uses no byte beyond.
-        let returned =
-            unsafe { head_sentence(number, out.as_mut_ptr(), out.len() as u64, &mut bytes) };
-        (returned, bytes)
-    }
-
-    extern "C" {
-        fn head_sentence(number: u32, out: *mut u8, out_len: u64, bytes: *mut u64) -> u32;
-    }
+    pub use crate::raw::sentence;
 }

@@ -4,20 +4,50 @@
 //! of contents starts. A table that needs a byte not lent, or has a record, type or direction that
 //! is not in the manual, is refused with 41; one with a field of 0 or above 64 bits, or of more
 //! than 96 bits one way, with 42.
+//!
+//! ```
+//! // A table of no fields, and one that begins past the memory's end.
+//! assert_eq!(head::sserial::table(&[0; 4], 0), Ok((0, 0)));
+//! assert_eq!(head::sserial::table(&[0; 4], 4).unwrap_err().number, 41);
+//! ```
+#![forbid(unsafe_code)]
 
-use crate::{accepted, Refusal};
+use crate::refusal::placeless;
+use crate::{Refusal, raw};
 
 /// The registers of all eight channels, three for each.
+///
+/// ```
+/// let registers = [0; head::sserial::REGISTERS];
+/// assert_eq!(registers.chunks(3).count(), 8);
+/// ```
 pub const REGISTERS: usize = 24;
 
 /// The way that data goes, as the host sees it.
+///
+/// ```
+/// assert_eq!((head::sserial::Way::In as u32, head::sserial::Way::Out as u32), (0, 1));
+/// ```
 #[derive(Clone, Copy, Debug, PartialEq, Eq)]
 pub enum Way {
+    /// Read from the card.
     In = 0,
+    /// Written to the card.
     Out = 1,
 }
 
 /// A process data descriptor.
+///
+/// ```
+/// // A table at address 2 with one field: 12 bits, signed, both ways, no unit, named T.
+/// let mut memory = [0; 24];
+/// memory[2..4].copy_from_slice(&[6, 0]);
+/// memory[6..10].copy_from_slice(&[0xA0, 12, 3, 0x40]);
+/// memory[21] = b'T';
+/// let field = head::sserial::field(&memory, 2, 0)?;
+/// assert_eq!((memory[field.unit], memory[field.name]), (0, b'T'));
+/// # Ok::<(), head::Refusal>(())
+/// ```
 #[derive(Clone, Copy, Debug, PartialEq)]
 pub struct Field {
     /// In bits.
@@ -26,25 +56,47 @@ pub struct Field {
     pub kind: u32,
     /// 0x00 input, 0x40 both, 0x80 output.
     pub direction: u32,
+    /// The value of the least number.
     pub minimum: f32,
+    /// The value of the greatest number.
     pub maximum: f32,
-    /// Where the unit and the name begin in the card's memory. Each ends at a NUL.
+    /// Where the unit begins in the card's memory. It ends at a NUL.
     pub unit: usize,
+    /// Where the name begins, likewise.
     pub name: usize,
 }
 
-/// How many fields a table has each way: inputs, outputs.
+/// How many fields a table has each way: inputs, outputs. One of both ways counts twice.
+///
+/// ```
+/// // A table at address 2 with one field: 12 bits, signed, both ways, no unit, named T.
+/// let mut memory = [0; 24];
+/// memory[2..4].copy_from_slice(&[6, 0]);
+/// memory[6..10].copy_from_slice(&[0xA0, 12, 3, 0x40]);
+/// memory[21] = b'T';
+/// assert_eq!(head::sserial::table(&memory, 2), Ok((1, 1)));
+/// ```
 pub fn table(memory: &[u8], table: u16) -> Result<(usize, usize), Refusal> {
-    let (number, inputs, outputs) = exports::table(memory, table);
-    accepted(number, 0)?;
+    let (number, inputs, outputs) = raw::table(memory, table);
+    placeless(number)?;
     Ok((inputs as usize, outputs as usize))
 }
 
 /// A field by its index in table order, modes not counted. One past the last is refused with 40.
+///
+/// ```
+/// // A table at address 2 with one field: 12 bits, signed, both ways, no unit, named T.
+/// let mut memory = [0; 24];
+/// memory[2..4].copy_from_slice(&[6, 0]);
+/// memory[6..10].copy_from_slice(&[0xA0, 12, 3, 0x40]);
+/// memory[21] = b'T';
+/// assert_eq!(head::sserial::field(&memory, 2, 0)?.width, 12);
+/// assert_eq!(head::sserial::field(&memory, 2, 1).unwrap_err().number, 40);
+/// # Ok::<(), head::Refusal>(())
+/// ```
 pub fn field(memory: &[u8], table: u16, index: usize) -> Result<Field, Refusal> {
     let mut numbers = [0; 7];
-    let number = exports::field(memory, table, index as u64, &mut numbers);
-    accepted(number, 0)?;
+    placeless(raw::field(memory, table, index as u64, &mut numbers))?;
     let [width, kind, direction, minimum, maximum, unit, name] = numbers;
     Ok(Field {
         width,
@@ -88,12 +140,28 @@ pub fn pack(
     values: &[u64],
     registers: &mut [u32; REGISTERS],
 ) -> Result<(), Refusal> {
-    let number = exports::pack(memory, table, way as u32, channel, values, registers);
-    accepted(number, 0)
+    placeless(raw::pack(
+        memory, table, way as u32, channel, values, registers,
+    ))
 }
 
 /// Unpacks the fields of one way from a channel's registers. `values` must have room for exactly
 /// as many: otherwise, and for a channel above 7, the refusal is 40.
+///
+/// ```
+/// use head::sserial::{unpack, Way, REGISTERS};
+///
+/// // A table at address 2 with one field: 12 bits, signed, both ways, no unit, named T.
+/// let mut memory = [0; 24];
+/// memory[2..4].copy_from_slice(&[6, 0]);
+/// memory[6..10].copy_from_slice(&[0xA0, 12, 3, 0x40]);
+/// memory[21] = b'T';
+/// let (mut registers, mut values) = ([0; REGISTERS], [0]);
+/// registers[3] = 0x7FF;
+/// unpack(&memory, 2, Way::In, 1, &registers, &mut values)?;
+/// assert_eq!(values, [2_047]);
+/// # Ok::<(), head::Refusal>(())
+/// ```
 pub fn unpack(
     memory: &[u8],
     table: u16,
@@ -102,133 +170,16 @@ pub fn unpack(
     registers: &[u32; REGISTERS],
     values: &mut [u64],
 ) -> Result<(), Refusal> {
-    let number = exports::unpack(memory, table, way as u32, channel, registers, values);
-    accepted(number, 0)
+    placeless(raw::unpack(
+        memory, table, way as u32, channel, registers, values,
+    ))
 }
 
+/// The library's answers of this module, as numbers.
+///
+/// ```
+/// assert_eq!(head::sserial::exports::table(&[], 0), (41, 0, 0));
+/// ```
 pub mod exports {
-    use crate::exports::UNWRITTEN;
-
-    /// Answers the refusal number, and how many inputs and outputs there are, both 0 if refused.
-    pub fn table(memory: &[u8], table: u16) -> (u32, u64, u64) {
-        let mut inputs = UNWRITTEN;
-        let mut outputs = UNWRITTEN;
-        // SAFETY: each pointer and length is a slice's, and the library uses nothing beyond.
-        let number = unsafe {
-            head_table(
-                memory.as_ptr(),
-                memory.len() as u64,
-                table,
-                &mut inputs,
-                &mut outputs,
-            )
-        };
-        (number, inputs, outputs)
-    }
-
-    /// Writes 7 numbers: width, type, direction, minimum, maximum, place of unit and of name.
-    pub fn field(memory: &[u8], table: u16, index: u64, field: &mut [u32]) -> u32 {
-        // SAFETY: as in `table`.
-        unsafe {
-            head_field(
-                memory.as_ptr(),
-                memory.len() as u64,
-                table,
-                index,
-                field.as_mut_ptr(),
-                field.len() as u64,
-            )
-        }
-    }
-
-    pub fn pack(
-        memory: &[u8],
-        table: u16,
-        direction: u32,
-        channel: u32,
-        values: &[u64],
-        registers: &mut [u32],
-    ) -> u32 {
-        // SAFETY: as in `table`.
-        unsafe {
-            head_pack(
-                memory.as_ptr(),
-                memory.len() as u64,
-                table,
-                direction,
-                channel,
-                values.as_ptr(),
-                values.len() as u64,
-                registers.as_mut_ptr(),
-                registers.len() as u64,
-            )
-        }
-    }
-
-    pub fn unpack(
-        memory: &[u8],
-        table: u16,
-        direction: u32,
-        channel: u32,
-        registers: &[u32],
-        values: &mut [u64],
-    ) -> u32 {
-        // SAFETY: as in `table`.
-        unsafe {
-            head_unpack(
-                memory.as_ptr(),
-                memory.len() as u64,
-                table,
-                direction,
-                channel,
-                registers.as_ptr(),
-                registers.len() as u64,
-                values.as_mut_ptr(),
-                values.len() as u64,
-            )
-        }
-    }
-
-    extern "C" {
-        fn head_table(
-            memory: *const u8,
-            memory_len: u64,
-            table: u16,
-            inputs: *mut u64,
-            outputs: *mut u64,
-        ) -> u32;
-
-        fn head_field(
-            memory: *const u8,
-            memory_len: u64,
-            table: u16,
-            index: u64,
-            field: *mut u32,
-            field_len: u64,
-        ) -> u32;
-
-        fn head_pack(
-            memory: *const u8,
-            memory_len: u64,
-            table: u16,
-            direction: u32,
-            channel: u32,
-            values: *const u64,
-            values_len: u64,
-            registers: *mut u32,
-            registers_len: u64,
-        ) -> u32;
-
-        fn head_unpack(
-            memory: *const u8,
-            memory_len: u64,
-            table: u16,
-            direction: u32,
-            channel: u32,
-            registers: *const u32,
-            registers_len: u64,
-            values: *mut u64,
-            values_len: u64,
-        ) -> u32;
-    }
+    pub use crate::raw::{field, pack, table, unpack};
 }

@@ -28,18 +28,39 @@
 //! # Ok::<(), head::Refusal>(())
 //! ```
 
-use crate::{accepted, Refusal};
+#![forbid(unsafe_code)]
+
+use crate::refusal::written;
+use crate::{Refusal, raw};
 
 /// The number of a line whose first word and number of words are those of no form.
+///
+/// ```
+/// assert_eq!(head::assemble(b"read", &mut []).unwrap_err().number, head::text::FORM);
+/// ```
 pub const FORM: u32 = 81;
 
 /// The number of a word that is no space, address or value where one must stand, or is too large.
+///
+/// ```
+/// assert_eq!(head::assemble(b"read 0 65536", &mut []).unwrap_err().number, head::text::NUMBER);
+/// ```
 pub const NUMBER: u32 = 82;
 
 /// The number of a name that is none, unknown, defined twice or beyond the thousandth.
+///
+/// ```
+/// assert_eq!(head::assemble(b"read lamp", &mut []).unwrap_err().number, head::text::NAME);
+/// ```
 pub const NAME: u32 = 83;
 
 /// What a text was assembled to.
+///
+/// ```
+/// let assembled = head::assemble(b"read 0 4", &mut [0; 10])?;
+/// assert_eq!(assembled, head::Assembled { bytes: 6, records: 1 });
+/// # Ok::<(), head::Refusal>(())
+/// ```
 #[derive(Clone, Copy, Debug, PartialEq, Eq)]
 pub struct Assembled {
     /// The list's length.
@@ -49,6 +70,12 @@ pub struct Assembled {
 }
 
 /// The text that was written for a list.
+///
+/// ```
+/// let written = head::list_text(b"RD\0\0\x04\0", &mut [0; 34])?;
+/// assert_eq!(written, head::Written { bytes: 22, lines: 1 });
+/// # Ok::<(), head::Refusal>(())
+/// ```
 #[derive(Clone, Copy, Debug, PartialEq, Eq)]
 pub struct Written {
     /// The text's length.
@@ -57,7 +84,7 @@ pub struct Written {
     pub lines: u64,
 }
 
-/// Assembles a text to a cue list in `out`, which [`crate::compile`] then refuses for no record.
+/// Assembles a text to a cue list in `out`, which [`crate::compile()`] then refuses for no record.
 ///
 /// The place of a refusal is the line, counted from 1: [`FORM`], [`NUMBER`], [`NAME`], or 21, 23 and 24 as
 /// the compiler would refuse its record. Where `out` is too short the refusal is 26 and its place is the
@@ -68,33 +95,31 @@ pub struct Written {
 /// assert_eq!((refusal.number, refusal.place), (head::text::NUMBER, 2));
 /// ```
 pub fn assemble(text: &[u8], out: &mut [u8]) -> Result<Assembled, Refusal> {
-    let (number, bytes, records) = exports::assemble(text, out);
-    accepted(number, bytes)?;
-    Ok(Assembled {
-        bytes: bytes as usize,
-        records,
-    })
+    let (bytes, records) = written(raw::assemble(text, out))?;
+    Ok(Assembled { bytes, records })
 }
 
 /// Writes a cue list to `out` as text, a line for each record, which [`assemble`] makes the same list of.
 ///
-/// A bad list is refused as [`crate::compile`] refuses it. Where `out` is too short the refusal is 26 and its
+/// A bad list is refused as [`crate::compile()`] refuses it. Where `out` is too short the refusal is 26 and its
 /// place is the length that is needed. What lies in `out` beyond the answered bytes is left as it was.
+///
+/// ```
+/// let mut out = [0; 34];
+/// let written = head::list_text(b"RD\0\0\x04\0", &mut out)?;
+/// assert_eq!(out[..written.bytes], *b"read registers 0x0004\n");
+/// # Ok::<(), head::Refusal>(())
+/// ```
 pub fn list_text(list: &[u8], out: &mut [u8]) -> Result<Written, Refusal> {
-    let (number, bytes, lines) = exports::list_text(list, out);
-    accepted(number, bytes)?;
-    Ok(Written {
-        bytes: bytes as usize,
-        lines,
-    })
+    let (bytes, lines) = written(raw::list_text(list, out))?;
+    Ok(Written { bytes, lines })
 }
 
+/// The library's answers of this module, as numbers.
+///
+/// ```
+/// assert_eq!(head::text::exports::assemble(b"read", &mut []), (81, 1, 0));
+/// ```
 pub mod exports {
-    exports! {
-        /// Answers the refusal number, the list's bytes or the place, and the records, 0 if refused.
-        fn assemble = head_assemble(const text: u8, mut out: u8) -> (bytes: u64, records: u64);
-
-        /// Answers the refusal number, the text's bytes or the place, and the lines, 0 if refused.
-        fn list_text = head_list_text(const list: u8, mut out: u8) -> (bytes: u64, lines: u64);
-    }
+    pub use crate::raw::{assemble, list_text};
 }

@@ -1,6 +1,6 @@
 //! Some of the documents' examples through the wrapper.
 
-use head::{Ran, Refusal, PACKET_BYTES, POINTERS, STORE_BYTES};
+use head::{PACKET_BYTES, POINTERS, Ran, Refusal, STORE_BYTES};
 
 fn ran(length: usize, elements: u64) -> Result<Ran, Refusal> {
     Ok(Ran { length, elements })
