@@ -1,4 +1,4 @@
-# For run, bench, callgrind and targets: finds the library and the toolchain, and builds.
+# For the commands here and tools/install: finds the library and the toolchain, and builds.
 # Needs: here, the folder of this file; name, the command that was called.
 
 library=$here/../target/staticlib/libhead.a
@@ -26,13 +26,18 @@ take_options() {
     done
 }
 
-build() {
+# For cargo and the build of the binding.
+find_library() {
     need cargo "a Rust toolchain is needed"
     [ -f "$library" ] || fail "no library at $library: build it first, or give its path"
     HEAD_LIB=$(cd "$(dirname "$library")" && pwd)/$(basename "$library")
     HEAD_LIB_SUM=$(cksum <"$library")
     CARGO_TARGET_DIR=${CARGO_TARGET_DIR:-$here/../target/rust}
     export HEAD_LIB HEAD_LIB_SUM CARGO_TARGET_DIR
+}
+
+build() {
+    find_library
     in_workspace build || fail "the build failed"
 }
 
