@@ -142,7 +142,7 @@ fn store_from_a_file_and_back() {
         assert_eq!(reply(&socket), [8, 9, 10, 11]);
         card.line();
         let lines = card.stop(signal);
-        assert_eq!(lines, [format!("card: store written to {to}")]);
+        assert_eq!(lines, [format!("lbp16 serve: store written to {to}")]);
         // The packet was counted, and the unlock cell cleared.
         let mut saved = store.clone();
         saved[COUNT] += 1;

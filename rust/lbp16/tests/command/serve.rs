@@ -6,7 +6,7 @@ use std::process::Command;
 
 /// Calls the program, which must fail, and answers its exit and the first line that it wrote.
 fn fails(words: &[&str]) -> (i32, String) {
-    let output = run(Command::new(env!("CARGO_BIN_EXE_card")).args(words));
+    let output = run(Command::new(env!("CARGO_BIN_EXE_lbp16")).arg("serve").args(words));
     assert!(output.stdout.is_empty());
     let text = String::from_utf8(output.stderr).expect("text");
     let line = text.lines().next().expect("a line").to_string();
@@ -15,39 +15,39 @@ fn fails(words: &[&str]) -> (i32, String) {
 
 #[test]
 fn called_wrongly() {
-    let wrong = |words: &[&str], line: &str| assert_eq!(fails(words), (2, line.to_string()));
-    wrong(&["--wrong"], "card: no option '--wrong' here");
-    wrong(&["word"], "card: no option 'word' here");
-    wrong(&["--port"], "card: --port needs a number");
-    wrong(&["--port", "70000"], "card: '70000' is no port");
-    wrong(&["--address"], "card: --address needs an IP address");
-    wrong(&["--address", "here"], "card: 'here' is no IP address");
-    wrong(&["--store"], "card: --store needs a file");
-    wrong(&["--hostmot2", "--save"], "card: --save needs a file");
-    wrong(&["--save-start"], "card: --save-start needs a file");
+    let wrong = |words: &[&str], line: &str| assert_eq!(fails(words), (2, format!("{line}; see lbp16 serve --help")));
+    wrong(&["--wrong"], "lbp16 serve: no option '--wrong' here");
+    wrong(&["word"], "lbp16 serve: 'word' is a file too many");
+    wrong(&["--port"], "lbp16 serve: --port needs a number");
+    wrong(&["--port", "70000"], "lbp16 serve: '70000' is no port");
+    wrong(&["--address"], "lbp16 serve: --address needs an IP address");
+    wrong(&["--address", "here"], "lbp16 serve: 'here' is no IP address");
+    wrong(&["--store"], "lbp16 serve: --store needs a file");
+    wrong(&["--hostmot2", "--save"], "lbp16 serve: --save needs a file");
+    wrong(&["--save-start"], "lbp16 serve: --save-start needs a file");
 }
 
 #[test]
 fn cells_that_cannot_be_protected() {
-    let wrong = |words: &[&str], line: &str| assert_eq!(fails(words), (2, line.to_string()));
-    wrong(&["--protect"], "card: --protect needs SPACE:FIRST-LAST");
+    let wrong = |words: &[&str], line: &str| assert_eq!(fails(words), (2, format!("{line}; see lbp16 serve --help")));
+    wrong(&["--protect"], "lbp16 serve: --protect needs SPACE:FIRST-LAST");
     for text in [
         "here", "0:", "0:1", "0:1-", "0:-2", ":1-2", "0:1-2-3", "0:+1-2", "0:1 - 2",
     ] {
-        let line = format!("card: '{text}' is not SPACE:FIRST-LAST in numbers");
+        let line = format!("lbp16 serve: '{text}' is not SPACE:FIRST-LAST in numbers");
         wrong(&["--protect", text], &line);
     }
     for text in ["0:a-b", "0:0x-1", "0:0x1G-0x20", "0:1-4294967296"] {
-        let line = format!("card: '{text}' is not SPACE:FIRST-LAST in numbers");
+        let line = format!("lbp16 serve: '{text}' is not SPACE:FIRST-LAST in numbers");
         wrong(&["--protect", text], &line);
     }
-    let line = "card: '1:0-3': a card has spaces 0, 2, 6 and 7";
+    let line = "lbp16 serve: '1:0-3': a card has spaces 0, 2, 6 and 7";
     wrong(&["--protect", "1:0-3"], line);
-    let line = "card: '0:4-3': the first address is above the last";
+    let line = "lbp16 serve: '0:4-3': the first address is above the last";
     wrong(&["--protect", "0:4-3"], line);
-    let line = "card: '0:0xFFFC-0x10000': space 0 has 65536 bytes";
+    let line = "lbp16 serve: '0:0xFFFC-0x10000': space 0 has 65536 bytes";
     wrong(&["--protect", "0:0xFFFC-0x10000"], line);
-    let line = "card: '7:0-32': space 7 has 32 bytes";
+    let line = "lbp16 serve: '7:0-32': space 7 has 32 bytes";
     wrong(&["--protect", "7:0-32"], line);
 }
 
@@ -55,7 +55,7 @@ fn cells_that_cannot_be_protected() {
 fn guards_that_are_not_sound() {
     let refused = |words: &[&str], text: &str, place: usize| {
         let (exit, line) = fails(words);
-        let expected = format!("card: '{text}': refused 70 at {place}: the guard is not sound: ");
+        let expected = format!("lbp16 serve: '{text}': refused 70 at {place}: the guard is not sound: ");
         assert_eq!(exit, 2);
         assert!(line.starts_with(&expected), "{line}");
     };
@@ -70,9 +70,9 @@ fn guards_that_are_not_sound() {
 
 #[test]
 fn usage_when_asked() {
-    let output = run(Command::new(env!("CARGO_BIN_EXE_card")).arg("--help"));
+    let output = run(Command::new(env!("CARGO_BIN_EXE_lbp16")).args(["serve", "--help"]));
     assert!(output.status.success());
-    assert!(output.stdout.starts_with(b"usage: card "));
+    assert!(output.stdout.starts_with(b"usage: lbp16 serve "));
 }
 
 #[test]
@@ -80,10 +80,10 @@ fn store_to_begin_with() {
     let path = file("options-start");
     let name = path.to_str().expect("a plain name");
     let start = |words: &[&str]| {
-        let mut command = Command::new(env!("CARGO_BIN_EXE_card"));
-        let output = run(command.args(words).args(["--save-start", name]));
+        let mut command = Command::new(env!("CARGO_BIN_EXE_lbp16"));
+        let output = run(command.arg("serve").args(words).args(["--save-start", name]));
         assert!(output.status.success());
-        let line = format!("card: store written to {name}\n");
+        let line = format!("lbp16 serve: store written to {name}\n");
         assert_eq!(output.stdout, line.as_bytes());
         fs::read(&path).expect("the store")
     };
@@ -103,27 +103,30 @@ fn address_in_use() {
     let card = Card::start(&["--port", "0"]);
     let port = card.address.rsplit(':').next().expect("a port");
     let (exit, line) = fails(&["--port", port]);
-    assert_eq!(exit, 1);
-    let expected = format!("card: 127.0.0.1:{port}: Address already in use");
+    assert_eq!(exit, 2);
+    let expected = format!("lbp16 serve: 127.0.0.1:{port}: Address already in use");
     assert!(line.starts_with(&expected), "{line}");
 }
 
 #[test]
 fn address_of_no_one_here() {
     let (exit, line) = fails(&["--address", "192.0.2.1", "--port", "0"]);
-    assert_eq!(exit, 1);
-    assert!(line.starts_with("card: 192.0.2.1:0: "), "{line}");
+    assert_eq!(exit, 2);
+    assert!(line.starts_with("lbp16 serve: 192.0.2.1:0: "), "{line}");
 }
 
 #[test]
 fn store_of_another_size() {
     let path = file("options-store");
     let name = path.to_str().expect("a plain name");
-    for bytes in [0, 65_727, 65_729] {
+    let fails = |bytes: usize, line: &str| {
         fs::write(&path, vec![0; bytes]).unwrap();
-        let line = format!("card: {name}: {bytes} bytes where a store has 65728");
-        assert_eq!(fails(&["--port", "0", "--store", name]), (1, line));
-    }
+        let line = format!("lbp16 serve: {name}: {line}");
+        assert_eq!(fails(&["--port", "0", "--store", name]), (2, line));
+    };
+    fails(0, "0 bytes where a store has 65728");
+    fails(65_727, "65727 bytes where a store has 65728");
+    fails(65_729, "more than the 65728 bytes of a store");
 }
 
 #[test]
@@ -131,8 +134,8 @@ fn files_that_are_not_to_be_had() {
     let missing = file("options-missing");
     let name = missing.to_str().expect("a plain name");
     let (exit, line) = fails(&["--port", "0", "--store", name]);
-    assert_eq!(exit, 1);
-    assert!(line.starts_with(&format!("card: {name}: ")), "{line}");
+    assert_eq!(exit, 2);
+    assert!(line.starts_with(&format!("lbp16 serve: cannot read {name}: ")), "{line}");
     let below = missing.join("store");
     let name = below.to_str().expect("a plain name");
     for words in [
@@ -140,7 +143,7 @@ fn files_that_are_not_to_be_had() {
         &["--hostmot2", "--save-start", name][..],
     ] {
         let (exit, line) = fails(words);
-        assert_eq!(exit, 1);
-        assert!(line.starts_with(&format!("card: {name}: ")), "{line}");
+        assert_eq!(exit, 2);
+        assert!(line.starts_with(&format!("lbp16 serve: cannot write {name}: ")), "{line}");
     }
 }

@@ -3,5 +3,5 @@
 mod captures;
 mod common;
 mod mesaflash;
-mod options;
+mod serve;
 mod wire;

@@ -19,7 +19,8 @@ pub struct Card {
 
 impl Card {
     pub fn start(words: &[&str]) -> Card {
-        let mut child = Command::new(env!("CARGO_BIN_EXE_card"))
+        let mut child = Command::new(env!("CARGO_BIN_EXE_lbp16"))
+            .arg("serve")
             .args(words)
             .stdout(Stdio::piped())
             .spawn()
@@ -36,7 +37,7 @@ impl Card {
             address: String::new(),
         };
         let first = card.line();
-        let address = first.strip_prefix("card: on ");
+        let address = first.strip_prefix("lbp16 serve: on ");
         card.address = address.expect("its address").to_string();
         card
     }

@@ -1,24 +1,49 @@
-//! Cells that no packet may write.
+//! Cells that nothing may write.
 
-use head::why::sentence;
+use crate::ending::Stop;
+use crate::record::space;
 
 /// What can be wrong with a guard whose ranges are in the store.
 const FAULTS: &str = "a range beyond the 64th, or one with a byte of the unlock cell (0x1A of \
                       space 6) or of the packet count (0x0A of space 6)";
 
-/// Where a space begins in the store, and how many bytes it has.
-fn space(number: u32) -> Option<(u32, u32)> {
-    match number {
-        0 => Some((0, 65_536)),
-        2 => Some((65_536, 128)),
-        6 => Some((65_664, 32)),
-        7 => Some((65_696, 32)),
-        _ => None,
+/// Ranges as they were given, and two numbers for each: its first byte in the store, its bytes.
+#[derive(Default)]
+pub struct Guard {
+    texts: Vec<String>,
+    numbers: Vec<u32>,
+}
+
+impl Guard {
+    pub fn add(&mut self, text: String) -> Result<(), Stop> {
+        self.numbers.extend(range(&text).map_err(Stop::Usage)?);
+        self.texts.push(text);
+        Ok(())
+    }
+
+    /// The numbers, if the library takes them.
+    pub fn sound(self) -> Result<Vec<u32>, Stop> {
+        let Err(refusal) = head::guard(&self.numbers) else {
+            return Ok(self.numbers);
+        };
+        let text = &self.texts[refusal.place as usize];
+        let rule = head::sentence(refusal.number);
+        Err(Stop::Usage(format!("'{text}': {refusal}: {rule}: {FAULTS}")))
+    }
+}
+
+/// Where a space begins in the store.
+fn start(space: u32) -> u32 {
+    match space {
+        0 => 0,
+        2 => 65_536,
+        6 => 65_664,
+        _ => 65_696,
     }
 }
 
 /// The two numbers of a guard for SPACE:FIRST-LAST.
-pub fn range(text: &str) -> Result<[u32; 2], String> {
+fn range(text: &str) -> Result<[u32; 2], String> {
     let parts = text
         .split_once(':')
         .and_then(|(space, range)| Some((space, range.split_once('-')?)))
@@ -26,7 +51,7 @@ pub fn range(text: &str) -> Result<[u32; 2], String> {
     let Some((named, first, last)) = parts else {
         return Err(format!("'{text}' is not SPACE:FIRST-LAST in numbers"));
     };
-    let Some((start, bytes)) = space(named) else {
+    let Some((_, bytes, _)) = u8::try_from(named).ok().and_then(space) else {
         return Err(format!("'{text}': a card has spaces 0, 2, 6 and 7"));
     };
     if first > last {
@@ -35,7 +60,7 @@ pub fn range(text: &str) -> Result<[u32; 2], String> {
     if last >= bytes {
         return Err(format!("'{text}': space {named} has {bytes} bytes"));
     }
-    Ok([start + first, last - first + 1])
+    Ok([start(named) + first, last - first + 1])
 }
 
 /// A number in decimal, or in hexadecimal behind 0x.
@@ -49,17 +74,5 @@ fn number(text: &str) -> Option<u32> {
     match plain {
         true => u32::from_str_radix(digits, radix).ok(),
         false => None,
-    }
-}
-
-/// Whether the library takes the guard; `texts` are its ranges as they were given.
-pub fn sound(guard: &[u32], texts: &[String]) -> Result<(), String> {
-    match head::guard(guard) {
-        Ok(_) => Ok(()),
-        Err(refusal) => {
-            let text = &texts[refusal.place as usize];
-            let rule = sentence(refusal.number);
-            Err(format!("'{text}': {refusal}: {rule}: {FAULTS}"))
-        }
     }
 }
