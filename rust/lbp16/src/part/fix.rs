@@ -51,11 +51,12 @@ fn fixed(file: &OsStr, strict: bool) -> Result<Answer, Stop> {
     }
     account.keep(at..input.bytes.len(), false);
     let _ = writeln!(account.lines, "kept records {}, bytes {}", account.records, account.kept.len());
-    let object = Object::new().text("file", &input.name).number("records", account.records);
+    let object = Object::new().flag("accepted", true).text("file", &input.name);
     Ok(Answer {
         yes: true,
         words: account.lines.into_bytes(),
         object: object
+            .number("records", account.records)
             .count("bytes", account.kept.len())
             .array("skipped", &account.skipped)
             .array(if strict { "left_out" } else { "look_at" }, &account.before),

@@ -1,6 +1,6 @@
 //! Starts the card as a process of its own. Every wait has a limit.
 
-use std::io::{BufRead, BufReader};
+use std::io::{BufRead, BufReader, Write};
 use std::path::{Path, PathBuf};
 use std::process::{Child, Command, Output, Stdio};
 use std::sync::mpsc::{self, Receiver};
@@ -103,4 +103,58 @@ pub fn file(name: &str) -> PathBuf {
     let path = Path::new(env!("CARGO_TARGET_TMPDIR")).join(name);
     let _ = std::fs::remove_file(&path);
     path
+}
+
+/// How the command ended, and what it wrote.
+pub struct Ended {
+    pub exit: i32,
+    pub out: Vec<u8>,
+    pub err: String,
+}
+
+/// Calls the command with this standard input.
+pub fn lbp16(words: &[&str], input: &[u8]) -> Ended {
+    let mut command = Command::new(env!("CARGO_BIN_EXE_lbp16"));
+    let command = command.args(words).stdin(Stdio::piped());
+    let command = command.stdout(Stdio::piped()).stderr(Stdio::piped());
+    let mut child = command.spawn().expect("the program");
+    let mut stdin = child.stdin.take().expect("its input");
+    let input = input.to_vec();
+    // It may end before it has read all.
+    let writer = thread::spawn(move || drop(stdin.write_all(&input)));
+    let output = child.wait_with_output().expect("its output");
+    writer.join().expect("the writer");
+    Ended {
+        exit: output.status.code().expect("an exit"),
+        out: output.stdout,
+        err: String::from_utf8(output.stderr).expect("text"),
+    }
+}
+
+/// An answer: the exit, and all of standard output. Nothing is on standard error.
+pub fn answers(words: &[&str], input: &[u8], exit: i32, out: &str) {
+    let ended = lbp16(words, input);
+    assert_eq!(ended.err, "", "{words:?}");
+    assert_eq!(String::from_utf8_lossy(&ended.out), out, "{words:?}");
+    assert_eq!(ended.exit, exit, "{words:?}");
+}
+
+/// A reason: the exit, and all of standard error. Nothing is on standard output.
+pub fn says(words: &[&str], input: &[u8], exit: i32, err: &str) {
+    let ended = lbp16(words, input);
+    assert_eq!(ended.err, err, "{words:?}");
+    assert_eq!(ended.out, b"", "{words:?}");
+    assert_eq!(ended.exit, exit, "{words:?}");
+}
+
+/// A file of this test alone with these bytes, by its name.
+pub fn filled(name: &str, bytes: &[u8]) -> String {
+    let path = file(name);
+    std::fs::write(&path, bytes).expect("a file");
+    path.to_str().expect("a plain name").to_string()
+}
+
+/// A part behind its mark and length.
+pub fn lb(part: &[u8]) -> Vec<u8> {
+    [b"LB", &(part.len() as u16).to_le_bytes()[..], part].concat()
 }

@@ -1,7 +1,12 @@
-//! Tests of the program as a whole.
+//! Tests of the command as a whole.
 
+mod calling;
 mod captures;
 mod common;
+mod json;
+mod lists;
 mod mesaflash;
+mod output;
+mod packets;
 mod serve;
 mod wire;
