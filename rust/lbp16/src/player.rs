@@ -48,6 +48,14 @@ enum Taken {
     Other,
 }
 
+/// Probes that were sent, and the counts that were heard.
+struct Probes {
+    sent: u16,
+    unheard: u16,
+    least: u16,
+    most: u16,
+}
+
 impl Player {
     pub fn new(wire: Wire, copy: State, tries: u64, recording: Option<Output>) -> Player {
         Player {
@@ -72,23 +80,20 @@ impl Player {
         }
     }
 
-    /// Asks for the count before anything is sent. Where the card's store is not known, its answer is.
+    /// Asks for the count before anything is sent. Where the card's store is not known, the answer says it.
     pub fn begin(&mut self, known: bool) -> Result<(), Stop> {
-        let probes = self.probes()?;
-        let value = value_of(&probes[probes.len() - 1]);
+        let probes = self.probes(self.count())?;
         if !known {
-            self.copy.store[COUNT..COUNT + 2].copy_from_slice(&value.to_le_bytes());
+            self.copy.store[COUNT..COUNT + 2].copy_from_slice(&probes.least.to_le_bytes());
         }
-        let unheard = probes.len() - 1;
-        let beyond = value.wrapping_sub(self.count());
-        if usize::from(beyond) > unheard {
+        if probes.most.wrapping_sub(self.count()) >= probes.sent {
             return Err(stop(format!(
-                "the card's packet count is {value} and the store's {}: this is not the card's store",
+                "the card's packet count is {} and the store's {}: this is not the card's store",
+                probes.least,
                 self.count()
             )));
         }
-        self.wire.keep(probes);
-        self.counted(value)
+        self.counted(&probes)
     }
 
     /// Sends a packet that the copy accepts.
@@ -105,27 +110,23 @@ impl Player {
     fn play_silent(&mut self, packet: &[u8], before: u16) -> Result<(), Stop> {
         let sent = self.wire.send(packet)?;
         self.record(packet, &[])?;
-        let probes = self.probes()?;
-        let first = probes.iter().position(|probe| probe.reply.is_some()).unwrap_or(0);
-        let taken = self.taken(before, value_of(&probes[first]), first);
-        let value = value_of(&probes[probes.len() - 1]);
+        let probes = self.probes(before)?;
         self.wire.keep(vec![sent]);
-        self.wire.keep(probes);
         self.nothing_late()?;
-        match taken {
-            Taken::Yes => self.counted(value),
-            Taken::No => Err(self.told_at_stop(value, "the card did not take it: it refused it, or it was lost")),
+        match self.taken(before, probes.least, probes.unheard) {
+            Taken::Yes => self.counted(&probes),
+            Taken::No => Err(self.told_at_stop(&probes, "the card did not take it: it refused it, or it was lost")),
             Taken::Unknown => {
-                Err(self.told_at_stop(value, "a probe was lost too: whether the card took it can't be told"))
+                Err(self.told_at_stop(&probes, "a probe was lost too: whether the card took it can't be told"))
             }
-            Taken::Other => Err(self.other_count(value)),
+            Taken::Other => Err(self.other_count(&probes)),
         }
     }
 
-    /// What a probe's count says of a packet, the count `before` it and the copy's after it being known. The probes before this
-    /// one, so many, were not answered, and each may have been taken.
-    fn taken(&self, before: u16, value: u16, unheard: usize) -> Taken {
-        let may_be = |count: u16| usize::from(value.wrapping_sub(count)) <= unheard;
+    /// What a probe's count says of a packet, the count `before` it and the copy's after it being known. So many others were not
+    /// answered, and each may have been taken before that probe.
+    fn taken(&self, before: u16, value: u16, unheard: u16) -> Taken {
+        let may_be = |count: u16| value.wrapping_sub(count) <= unheard;
         match (may_be(self.count()), may_be(before)) {
             (true, false) => Taken::Yes,
             (false, true) => Taken::No,
@@ -151,8 +152,7 @@ impl Player {
         };
         self.record(packet, &reply)?;
         if let Some(other) = sent.iter().filter_map(|one| one.reply.as_ref()).find(|reply| reply.len() != length) {
-            let found = other.len();
-            return Err(stop(format!("its reply has {}, where {length} are due", Count(found as u64, "byte"))));
+            return Err(another_length("its reply", other.len(), length));
         }
         self.told.replies += 1;
         self.told.reply_bytes += length as u64;
@@ -167,10 +167,8 @@ impl Player {
 
     /// A packet was sent several times. The count says how often it was taken.
     fn count_copies(&mut self, packet: &[u8], reply: &[u8], sent: Vec<Sent>) -> Result<(), Stop> {
-        let probes = self.probes()?;
-        let value = value_of(&probes[probes.len() - 1]);
-        let more = value.wrapping_sub(self.count()).min(sent.len() as u16 - 1);
-        let unheard = probes.len() as u16 - 1;
+        let probes = self.probes(self.count())?;
+        let more = probes.least.wrapping_sub(self.count()).min(sent.len() as u16 - 1);
         for _ in 0..more {
             // What was read by address reads the same again.
             self.record(packet, reply)?;
@@ -178,32 +176,31 @@ impl Player {
         }
         let (answered, silent) = sent.into_iter().partition(|one| one.reply.is_some());
         self.wire.keep(answered);
-        self.wire.keep(probes);
         self.nothing_late()?;
         self.late = self.wire.watched(mem::take(&mut self.late), silent)?;
-        match value.wrapping_sub(self.count()) > unheard {
-            true => Err(self.other_count(value)),
-            false => self.counted(value),
+        match probes.most.wrapping_sub(self.count()) < probes.sent {
+            true => self.counted(&probes),
+            false => Err(self.other_count(&probes)),
         }
     }
 
     /// No reply came to any of the packets sent.
     fn unanswered(&mut self, packet: &[u8], before: u16, sent: usize) -> Result<(), Stop> {
         self.record(packet, &[])?;
-        let probes = self.probes()?;
-        let value = value_of(&probes[probes.len() - 1]);
-        self.record(&PROBE, &value.to_le_bytes())?;
+        let probes = self.probes(before)?;
+        self.record(&PROBE, &probes.most.to_le_bytes())?;
         let times = Count(sent as u64, "time");
-        let unheard = sent - 1 + probes.len() - 1;
-        Err(stop(match self.taken(before, value, unheard) {
+        let unheard = sent as u16 - 1 + probes.unheard;
+        Err(stop(match self.taken(before, probes.least, unheard) {
             Taken::No => format!("sent {times} and not answered: the card refused it, or it was lost"),
             Taken::Yes => format!("sent {times} and not answered, but the card took it: its reply was lost"),
             _ => format!("sent {times} and not answered; whether the card took it can't be told"),
         }))
     }
 
-    /// Probes until the last one is answered. Those before it may have been taken or not.
-    fn probes(&mut self) -> Result<Vec<Sent>, Stop> {
+    /// Probes until one is answered in time. The others may be answered too, or have been taken, or not; the order in which the
+    /// card took them is that of their counts. `base` is a count that none is below.
+    fn probes(&mut self, base: u16) -> Result<Probes, Stop> {
         let mut sent = Vec::new();
         while sent.last().is_none_or(|last: &Sent| last.reply.is_none()) {
             if sent.len() as u64 == self.tries {
@@ -215,21 +212,32 @@ impl Player {
         if sent.len() > 1 {
             self.wire.settle(&mut sent)?;
         }
-        let lengths = sent.iter().filter_map(|probe| probe.reply.as_ref()).map(Vec::len);
-        match lengths.into_iter().find(|length| *length != 2) {
-            Some(length) => Err(stop(format!("a probe's reply has {}, where 2 are due", Count(length as u64, "byte")))),
-            None => Ok(sent),
+        let mut counts = Vec::new();
+        for reply in sent.iter().filter_map(|probe| probe.reply.as_deref()) {
+            match reply {
+                [low, high] => counts.push(u16::from_le_bytes([*low, *high])),
+                _ => return Err(another_length("a probe's reply", reply.len(), 2)),
+            }
         }
+        counts.sort_by_key(|count| count.wrapping_sub(base));
+        let probes = Probes {
+            sent: sent.len() as u16,
+            unheard: (sent.len() - counts.len()) as u16,
+            least: counts[0],
+            most: counts[counts.len() - 1],
+        };
+        self.wire.keep(sent);
+        Ok(probes)
     }
 
-    /// The last probe read this count: it and those taken before it are recorded, and done by the copy.
-    fn counted(&mut self, value: u16) -> Result<(), Stop> {
+    /// The probes up to the last count heard are recorded, and done by the copy.
+    fn counted(&mut self, probes: &Probes) -> Result<(), Stop> {
         loop {
             let count = self.count();
             self.record(&PROBE, &count.to_le_bytes())?;
             let _ = self.copy.run(&PROBE);
             self.told.probes += 1;
-            if count == value {
+            if count == probes.most {
                 return Ok(());
             }
         }
@@ -244,31 +252,30 @@ impl Player {
         }
     }
 
-    fn told_at_stop(&mut self, value: u16, what: &str) -> Stop {
-        match self.record(&PROBE, &value.to_le_bytes()) {
+    fn told_at_stop(&mut self, probes: &Probes, what: &str) -> Stop {
+        match self.record(&PROBE, &probes.most.to_le_bytes()) {
             Ok(()) => stop(what.into()),
             Err(lost) => lost,
         }
     }
 
-    fn other_count(&mut self, value: u16) -> Stop {
+    fn other_count(&mut self, probes: &Probes) -> Stop {
         let what = format!(
-            "the card's packet count is {value}, and {} was due: a packet came twice, somebody else \
+            "the card's packet count is {}, and {} was due: a packet came twice, somebody else \
              sends to the card, or it was started anew",
+            probes.least,
             self.count()
         );
-        self.told_at_stop(value, &what)
+        self.told_at_stop(probes, &what)
     }
 
     /// At the end: each packet was taken, and none twice.
     pub fn end(&mut self) -> Result<(), Stop> {
-        let probes = self.probes()?;
-        let value = value_of(&probes[probes.len() - 1]);
-        let beyond = usize::from(value.wrapping_sub(self.count()));
+        let probes = self.probes(self.count())?;
         self.nothing_late()?;
-        match beyond >= probes.len() {
-            true => Err(self.other_count(value)),
-            false => self.counted(value),
+        match probes.most.wrapping_sub(self.count()) < probes.sent {
+            true => self.counted(&probes),
+            false => Err(self.other_count(&probes)),
         }
     }
 }
@@ -277,11 +284,8 @@ fn heard(sent: &[Sent]) -> bool {
     sent.iter().any(|one| one.reply.is_some())
 }
 
-fn value_of(probe: &Sent) -> u16 {
-    match probe.reply.as_deref() {
-        Some([low, high]) => u16::from_le_bytes([*low, *high]),
-        _ => 0,
-    }
+fn another_length(what: &str, found: usize, due: usize) -> Stop {
+    stop(format!("{what} has {}, where {due} are due", Count(found as u64, "byte")))
 }
 
 fn stop(message: String) -> Stop {

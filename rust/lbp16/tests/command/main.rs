@@ -8,5 +8,7 @@ mod lists;
 mod mesaflash;
 mod output;
 mod packets;
+mod play;
+mod relay;
 mod serve;
 mod wire;

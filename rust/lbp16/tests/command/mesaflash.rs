@@ -20,12 +20,20 @@ fn installed() -> bool {
     env::split_paths(&path).any(|folder| folder.join("mesaflash").is_file())
 }
 
+/// How often the tool is called where it finds no board: it waits only shortly for a busy machine.
+const TRIES: usize = 10;
+
 /// What the tool writes when it is called with these words.
 fn mesaflash(address: &str, words: &[&str]) -> String {
     let mut command = Command::new("mesaflash");
-    let output = run(command
-        .args(["--device", "7I92", "--addr", address])
-        .args(words));
+    command.args(["--device", "7I92", "--addr", address]).args(words);
+    let mut output = run(&mut command);
+    for _ in 1..TRIES {
+        if !String::from_utf8_lossy(&output.stdout).contains("No 7I92 board found") {
+            break;
+        }
+        output = run(&mut command);
+    }
     let text = String::from_utf8_lossy(&output.stdout).into_owned();
     assert!(output.status.success(), "{words:?}: {text}");
     text
