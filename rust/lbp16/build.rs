@@ -8,8 +8,14 @@ fn main() {
     println!("cargo::rerun-if-changed=build.rs");
     let version = first_line("VERSION").or(env::var("CARGO_PKG_VERSION").ok());
     let kit = first_line(".ci/kit");
-    println!("cargo::rustc-env=LBP16_VERSION={}", version.unwrap_or_default());
-    println!("cargo::rustc-env=LBP16_KIT={}", kit.unwrap_or("a kit that was not named".into()));
+    println!(
+        "cargo::rustc-env=LBP16_VERSION={}",
+        version.unwrap_or_default()
+    );
+    println!(
+        "cargo::rustc-env=LBP16_KIT={}",
+        kit.unwrap_or("a kit that was not named".into())
+    );
 }
 
 /// Of a file at the top of the repository, if it is there.

@@ -63,7 +63,12 @@ impl Common {
     }
 
     fn put(&self, answered: Answer) -> Done {
-        let Answer { yes, words, object, made } = answered;
+        let Answer {
+            yes,
+            words,
+            object,
+            made,
+        } = answered;
         match made {
             Some(made) => self.put_made(made, &words, object)?,
             None if self.json => answer(object.line().as_bytes())?,

@@ -92,9 +92,17 @@ pub fn assembled(input: &Input) -> Result<(Vec<u8>, u64), Stop> {
 
 fn bad_line(input: &Input, refusal: Refusal) -> Refused {
     let Refusal { number, place, .. } = refusal;
-    let line = input.bytes.split(|byte| *byte == b'\n').nth(place as usize - 1);
+    let line = input
+        .bytes
+        .split(|byte| *byte == b'\n')
+        .nth(place as usize - 1);
     let line = String::from_utf8_lossy(line.unwrap_or_default());
-    let shown: String = line.trim().chars().filter(|letter| !letter.is_control()).take(100).collect();
+    let shown: String = line
+        .trim()
+        .chars()
+        .filter(|letter| !letter.is_control())
+        .take(100)
+        .collect();
     let said = format!("refused {number}: {}", head::sentence(number));
     Refused {
         message: format!("{}:{place}: {said}\n    {shown}\n", input.name),
@@ -134,7 +142,9 @@ impl List {
         match Record::number(&self.bytes, refusal.place) {
             Some((offset, record)) => (
                 format!("{refusal} (byte {offset}): {record}: {sentence}"),
-                object.count("byte", offset).text("record", record.to_string()),
+                object
+                    .count("byte", offset)
+                    .text("record", record.to_string()),
             ),
             None => (format!("{refusal}: {sentence}"), object),
         }

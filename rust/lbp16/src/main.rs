@@ -1,5 +1,6 @@
 //! One command for people, over the proved library: cue lists, packets, recordings, and a card on the wire.
 
+mod again;
 mod answer;
 mod card;
 mod ending;
@@ -11,6 +12,7 @@ mod list;
 mod output;
 mod part;
 mod player;
+mod probes;
 mod protect;
 mod reason;
 mod record;

@@ -38,13 +38,20 @@ impl Output {
         let Some((beside, place)) = &self.places else {
             return Ok(());
         };
-        let moved = self.file.sync_all().and_then(|()| fs::rename(beside, place));
+        let moved = self
+            .file
+            .sync_all()
+            .and_then(|()| fs::rename(beside, place));
         if let Err(error) = moved {
             return Err(lost(&self.name, &error));
         }
         // The file has its name; that the name lasts is the folder's doing.
         if let Some(folder) = place.parent() {
-            let folder = if folder.as_os_str().is_empty() { Path::new(".") } else { folder };
+            let folder = if folder.as_os_str().is_empty() {
+                Path::new(".")
+            } else {
+                folder
+            };
             let _ = File::open(folder).and_then(|folder| folder.sync_all());
         }
         self.places = None;
@@ -88,7 +95,10 @@ fn beside(place: &Path) -> io::Result<(File, (PathBuf, PathBuf))> {
     hidden.push(name);
     hidden.push(format!(".{}", process::id()));
     let beside = place.with_file_name(hidden);
-    let file = OpenOptions::new().write(true).create_new(true).open(&beside)?;
+    let file = OpenOptions::new()
+        .write(true)
+        .create_new(true)
+        .open(&beside)?;
     Ok((file, (beside, place.to_path_buf())))
 }
 

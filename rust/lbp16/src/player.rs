@@ -3,17 +3,15 @@
 //! Beside the card runs a copy of it, by the library's rules. It says how long a reply must be, and which number the card's packet
 //! count must have: the count tells whether a packet without a reply was taken.
 
-use crate::ending::{Refused, Stop};
+use crate::again::may_be_sent_again;
+use crate::ending::Stop;
 use crate::frames::framed;
-use crate::json::Object;
 use crate::output::Output;
+use crate::probes::{self, another_length, stop, Probes, PROBE};
 use crate::shown::Count;
 use crate::state::State;
 use crate::wire::{Sent, Wire};
 use std::mem;
-
-/// A read of the packet count, by its address.
-pub const PROBE: [u8; 4] = [0x01, 0x59, 0x0A, 0x00];
 
 /// Where the packet count stands in the store.
 const COUNT: usize = 65_664 + 0x0A;
@@ -48,14 +46,6 @@ enum Taken {
     Other,
 }
 
-/// Probes that were sent, and the counts that were heard.
-struct Probes {
-    sent: u16,
-    unheard: u16,
-    least: u16,
-    most: u16,
-}
-
 impl Player {
     pub fn new(wire: Wire, copy: State, tries: u64, recording: Option<Output>) -> Player {
         Player {
@@ -82,7 +72,7 @@ impl Player {
 
     /// Asks for the count before anything is sent. Where the card's store is not known, the answer says it.
     pub fn begin(&mut self, known: bool) -> Result<(), Stop> {
-        let probes = self.probes(self.count())?;
+        let probes = self.probes(known.then(|| self.count()))?;
         if !known {
             self.copy.store[COUNT..COUNT + 2].copy_from_slice(&probes.least.to_le_bytes());
         }
@@ -93,7 +83,7 @@ impl Player {
                 self.count()
             )));
         }
-        self.counted(&probes)
+        self.counted(probes)
     }
 
     /// Sends a packet that the copy accepts.
@@ -110,15 +100,19 @@ impl Player {
     fn play_silent(&mut self, packet: &[u8], before: u16) -> Result<(), Stop> {
         let sent = self.wire.send(packet)?;
         self.record(packet, &[])?;
-        let probes = self.probes(before)?;
+        let probes = self.probes(Some(before))?;
         self.wire.keep(vec![sent]);
         self.nothing_late()?;
-        match self.taken(before, probes.least, probes.unheard) {
-            Taken::Yes => self.counted(&probes),
-            Taken::No => Err(self.told_at_stop(&probes, "the card did not take it: it refused it, or it was lost")),
-            Taken::Unknown => {
-                Err(self.told_at_stop(&probes, "a probe was lost too: whether the card took it can't be told"))
-            }
+        match self.taken(before, probes.least, probes.unheard()) {
+            Taken::Yes => self.counted(probes),
+            Taken::No => Err(self.told_at_stop(
+                &probes,
+                "the card did not take it: it refused it, or it was lost",
+            )),
+            Taken::Unknown => Err(self.told_at_stop(
+                &probes,
+                "a probe was lost too: whether the card took it can't be told",
+            )),
             Taken::Other => Err(self.other_count(&probes)),
         }
     }
@@ -137,7 +131,11 @@ impl Player {
 
     /// A packet with a reply; one of reads that all give their address is sent again where none comes.
     fn play_answered(&mut self, packet: &[u8], before: u16, length: usize) -> Result<(), Stop> {
-        let tries = if may_be_sent_again(packet) { self.tries } else { 1 };
+        let tries = if may_be_sent_again(packet) {
+            self.tries
+        } else {
+            1
+        };
         let mut sent = Vec::new();
         while (sent.len() as u64) < tries && !heard(&sent) {
             sent.push(self.wire.send(packet)?);
@@ -151,7 +149,11 @@ impl Player {
             return self.unanswered(packet, before, sent.len());
         };
         self.record(packet, &reply)?;
-        if let Some(other) = sent.iter().filter_map(|one| one.reply.as_ref()).find(|reply| reply.len() != length) {
+        if let Some(other) = sent
+            .iter()
+            .filter_map(|one| one.reply.as_ref())
+            .find(|reply| reply.len() != length)
+        {
             return Err(another_length("its reply", other.len(), length));
         }
         self.told.replies += 1;
@@ -167,19 +169,24 @@ impl Player {
 
     /// A packet was sent several times. The count says how often it was taken.
     fn count_copies(&mut self, packet: &[u8], reply: &[u8], sent: Vec<Sent>) -> Result<(), Stop> {
-        let probes = self.probes(self.count())?;
-        let more = probes.least.wrapping_sub(self.count()).min(sent.len() as u16 - 1);
+        let probes = self.probes(Some(self.count()))?;
+        let more = probes
+            .least
+            .wrapping_sub(self.count())
+            .min(sent.len() as u16 - 1);
         for _ in 0..more {
             // What was read by address reads the same again.
             self.record(packet, reply)?;
             let _ = self.copy.run(packet);
         }
-        let (answered, silent) = sent.into_iter().partition(|one| one.reply.is_some());
-        self.wire.keep(answered);
         self.nothing_late()?;
-        self.late = self.wire.watched(mem::take(&mut self.late), silent)?;
+        let all = usize::from(more) + 1 == sent.len();
+        let (done, silent): (Vec<Sent>, Vec<Sent>) =
+            sent.into_iter().partition(|one| all || one.reply.is_some());
+        self.wire.keep(done);
+        self.watch(silent)?;
         match probes.most.wrapping_sub(self.count()) < probes.sent {
-            true => self.counted(&probes),
+            true => self.counted(probes),
             false => Err(self.other_count(&probes)),
         }
     }
@@ -187,67 +194,56 @@ impl Player {
     /// No reply came to any of the packets sent.
     fn unanswered(&mut self, packet: &[u8], before: u16, sent: usize) -> Result<(), Stop> {
         self.record(packet, &[])?;
-        let probes = self.probes(before)?;
+        let probes = self.probes(Some(before))?;
         self.record(&PROBE, &probes.most.to_le_bytes())?;
         let times = Count(sent as u64, "time");
-        let unheard = sent as u16 - 1 + probes.unheard;
+        let unheard = sent as u16 - 1 + probes.unheard();
         Err(stop(match self.taken(before, probes.least, unheard) {
-            Taken::No => format!("sent {times} and not answered: the card refused it, or it was lost"),
-            Taken::Yes => format!("sent {times} and not answered, but the card took it: its reply was lost"),
+            Taken::No => {
+                format!("sent {times} and not answered: the card refused it, or it was lost")
+            }
+            Taken::Yes => {
+                format!("sent {times} and not answered, but the card took it: its reply was lost")
+            }
             _ => format!("sent {times} and not answered; whether the card took it can't be told"),
         }))
     }
 
-    /// Probes until one is answered in time. The others may be answered too, or have been taken, or not; the order in which the
-    /// card took them is that of their counts. `base` is a count that none is below.
-    fn probes(&mut self, base: u16) -> Result<Probes, Stop> {
-        let mut sent = Vec::new();
-        while sent.last().is_none_or(|last: &Sent| last.reply.is_none()) {
-            if sent.len() as u64 == self.tries {
-                return Err(self.wire.silent(self.tries));
-            }
-            sent.push(self.wire.send(&PROBE)?);
-            self.wire.listen(&mut sent, true)?;
-        }
-        if sent.len() > 1 {
-            self.wire.settle(&mut sent)?;
-        }
-        let mut counts = Vec::new();
-        for reply in sent.iter().filter_map(|probe| probe.reply.as_deref()) {
-            match reply {
-                [low, high] => counts.push(u16::from_le_bytes([*low, *high])),
-                _ => return Err(another_length("a probe's reply", reply.len(), 2)),
-            }
-        }
-        counts.sort_by_key(|count| count.wrapping_sub(base));
-        let probes = Probes {
-            sent: sent.len() as u16,
-            unheard: (sent.len() - counts.len()) as u16,
-            least: counts[0],
-            most: counts[counts.len() - 1],
-        };
-        self.wire.keep(sent);
-        Ok(probes)
+    fn probes(&mut self, base: Option<u16>) -> Result<Probes, Stop> {
+        probes::send(&mut self.wire, self.tries, base)
     }
 
-    /// The probes up to the last count heard are recorded, and done by the copy.
-    fn counted(&mut self, probes: &Probes) -> Result<(), Stop> {
-        loop {
+    /// The probes up to the last count heard are recorded, and done by the copy. Those that are not among them may come late.
+    fn counted(&mut self, probes: Probes) -> Result<(), Stop> {
+        let taken = probes.most.wrapping_sub(self.count()) + 1;
+        for _ in 0..taken {
             let count = self.count();
             self.record(&PROBE, &count.to_le_bytes())?;
             let _ = self.copy.run(&PROBE);
             self.told.probes += 1;
-            if count == probes.most {
-                return Ok(());
+        }
+        match taken < probes.sent {
+            true => self.watch(probes.silent),
+            false => {
+                self.wire.keep(probes.silent);
+                Ok(())
             }
         }
+    }
+
+    /// From now on it is noticed if one of these is taken after all.
+    fn watch(&mut self, silent: Vec<Sent>) -> Result<(), Stop> {
+        self.late = self.wire.watched(mem::take(&mut self.late), silent)?;
+        Ok(())
     }
 
     /// Whether a packet that was taken for lost was taken late: then the order is not known.
     fn nothing_late(&mut self) -> Result<(), Stop> {
         self.wire.look(&mut self.late)?;
         match heard(&self.late) {
-            true => Err(stop("a packet sent earlier came late, so the order is not known".into())),
+            true => Err(stop(
+                "a packet sent earlier came late, so the order is not known".into(),
+            )),
             false => Ok(()),
         }
     }
@@ -271,10 +267,10 @@ impl Player {
 
     /// At the end: each packet was taken, and none twice.
     pub fn end(&mut self) -> Result<(), Stop> {
-        let probes = self.probes(self.count())?;
+        let probes = self.probes(Some(self.count()))?;
         self.nothing_late()?;
         match probes.most.wrapping_sub(self.count()) < probes.sent {
-            true => self.counted(&probes),
+            true => self.counted(probes),
             false => Err(self.other_count(&probes)),
         }
     }
@@ -282,32 +278,4 @@ impl Player {
 
 fn heard(sent: &[Sent]) -> bool {
     sent.iter().any(|one| one.reply.is_some())
-}
-
-fn another_length(what: &str, found: usize, due: usize) -> Stop {
-    stop(format!("{what} has {}, where {due} are due", Count(found as u64, "byte")))
-}
-
-fn stop(message: String) -> Stop {
-    let object = Object::new().flag("accepted", false).text("message", &message);
-    Stop::Refused(Refused { message, object })
-}
-
-/// Whether a packet only reads, each command by its address, and reads the same when it comes again: not the packet count, and not a
-/// pointer, which an info area shows at 6.
-pub fn may_be_sent_again(packet: &[u8]) -> bool {
-    let (commands, rest) = packet.as_chunks::<4>();
-    let good = |[low, high, address_low, address_high]: &[u8; 4]| {
-        let fields = head::fields(u16::from_le_bytes([*low, *high]));
-        let first = u32::from(u16::from_le_bytes([*address_low, *address_high]));
-        let elements = if fields.increment { u32::from(fields.count) } else { 1 };
-        let read = first..first + (elements << fields.size);
-        let changes = match (fields.info, fields.space) {
-            (true, _) => read.contains(&6),
-            (false, 6) => read.contains(&0x0A),
-            (false, _) => false,
-        };
-        fields.address && !fields.write && !changes
-    };
-    rest.is_empty() && commands.iter().all(good)
 }

@@ -28,7 +28,9 @@ impl Guard {
         };
         let text = &self.texts[refusal.place as usize];
         let rule = head::sentence(refusal.number);
-        Err(Stop::Usage(format!("'{text}': {refusal}: {rule}: {FAULTS}")))
+        Err(Stop::Usage(format!(
+            "'{text}': {refusal}: {rule}: {FAULTS}"
+        )))
     }
 }
 

@@ -20,9 +20,14 @@ pub fn of(packet: &[u8], state: &State) -> Option<(String, Object)> {
         let _ = writeln!(lines, "{}", command(packet, state, &reason));
         if place > 0 {
             let front = Hex(&packet[..place]);
-            let _ = writeln!(lines, "the {place} bytes before it are an accepted packet: {front}");
+            let _ = writeln!(
+                lines,
+                "the {place} bytes before it are an accepted packet: {front}"
+            );
         }
-        object = object.number("command", reason.index).object("fields", &fields(&reason.fields));
+        object = object
+            .number("command", reason.index)
+            .object("fields", &fields(&reason.fields));
     }
     Some((lines, object))
 }
@@ -46,7 +51,11 @@ fn command(packet: &[u8], state: &State, reason: &Reason) -> String {
     let bytes = 2 + 2 * usize::from(fields.address) + if fields.write { data } else { 0 };
     let shown = &rest[..rest.len().min(if rest.len() < 2 { 1 } else { bytes })];
     let last = place + shown.len().max(1) - 1;
-    let mut line = format!("command {}, bytes {place} to {last}, {}: ", reason.index, Hex(shown));
+    let mut line = format!(
+        "command {}, bytes {place} to {last}, {}: ",
+        reason.index,
+        Hex(shown)
+    );
     if rest.len() < 2 {
         return line + "word cut off";
     }
@@ -66,7 +75,9 @@ fn command(packet: &[u8], state: &State, reason: &Reason) -> String {
 
 fn address(rest: &[u8], fields: &Fields, pointers: &[u32]) -> String {
     match (fields.address, rest.get(2..4)) {
-        (true, Some(given)) => format!("address 0x{:04X}", u16::from_le_bytes([given[0], given[1]])),
+        (true, Some(given)) => {
+            format!("address 0x{:04X}", u16::from_le_bytes([given[0], given[1]]))
+        }
         (true, None) => "address cut off".to_string(),
         (false, _) => {
             let pointer = pointer(fields).map_or(0, |k| pointers[k]);

@@ -61,7 +61,11 @@ pub fn bytes_of(rest: &[u8]) -> Option<usize> {
 
 impl Display for Record<'_> {
     fn fmt(&self, f: &mut fmt::Formatter) -> fmt::Result {
-        let kind = if self.0[..2] == *WRITE { "write" } else { "read" };
+        let kind = if self.0[..2] == *WRITE {
+            "write"
+        } else {
+            "read"
+        };
         let address = self.address();
         let element = match space(self.space()) {
             Some((name, _, element)) => {

@@ -51,14 +51,19 @@ fn unreadable(memory: &[u8], record: usize) -> Option<String> {
         0xB0 if !has_strings(memory, record + 4, 1) => cut(),
         0xB0 if kind > 1 => Some(format!("there is no mode type {kind}")),
         0xA0 | 0xB0 => None,
-        mark => Some(format!("neither a field nor a mode begins with 0x{mark:02X}")),
+        mark => Some(format!(
+            "neither a field nor a mode begins with 0x{mark:02X}"
+        )),
     }
 }
 
 /// Whether so many strings stand there, each with its NUL.
 fn has_strings(memory: &[u8], at: usize, strings: usize) -> bool {
     let rest = memory.get(at..).unwrap_or_default();
-    rest.iter().filter(|byte| **byte == 0).nth(strings - 1).is_some()
+    rest.iter()
+        .filter(|byte| **byte == 0)
+        .nth(strings - 1)
+        .is_some()
 }
 
 /// For 42. The bits so far are carried on.
@@ -70,12 +75,19 @@ fn overfull(memory: &[u8], record: usize, inputs: &mut u32, outputs: &mut u32) -
     if byte(memory, record) != 0xA0 {
         return None;
     }
-    let (width, direction) = (u32::from(byte(memory, record + 1)), byte(memory, record + 3));
+    let (width, direction) = (
+        u32::from(byte(memory, record + 1)),
+        byte(memory, record + 3),
+    );
     *inputs += if direction != 0x80 { width } else { 0 };
     *outputs += if direction != 0x00 { width } else { 0 };
     match (width, *inputs, *outputs) {
-        (width, ..) if width == 0 || width > 64 => Some(format!("a field of {width} bits, not 1 to 64")),
-        (_, inputs, _) if inputs > 96 => Some(format!("the inputs have {inputs} bits with it, above 96")),
+        (width, ..) if width == 0 || width > 64 => {
+            Some(format!("a field of {width} bits, not 1 to 64"))
+        }
+        (_, inputs, _) if inputs > 96 => {
+            Some(format!("the inputs have {inputs} bits with it, above 96"))
+        }
         (.., outputs) if outputs > 96 => {
             Some(format!("the outputs have {outputs} bits with it, above 96"))
         }

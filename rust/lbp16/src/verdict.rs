@@ -68,7 +68,10 @@ pub fn said(
     let first = words.lines().next().unwrap_or_default();
     Answer {
         yes: false,
-        object: object.flag("accepted", false).number("refused", number).text("message", first),
+        object: object
+            .flag("accepted", false)
+            .number("refused", number)
+            .text("message", first),
         words: words.into_bytes(),
         made: None,
     }
@@ -97,7 +100,11 @@ fn at_packet(recording: &Recording, k: u64, object: Object) -> Object {
 
 fn refused(recording: &Recording, k: u64, state: &State, object: Object) -> (u64, String, Object) {
     let packet = recording.part(2 * k).unwrap_or_default();
-    let mut words = format!("{} is refused: {}\n", recording.placed("packet", k, k), shown(packet));
+    let mut words = format!(
+        "{} is refused: {}\n",
+        recording.placed("packet", k, k),
+        shown(packet)
+    );
     let mut object = at_packet(recording, k, object);
     if let Some((lines, reason)) = reason::of(packet, state) {
         words.push_str(&lines);
@@ -116,20 +123,29 @@ fn refused(recording: &Recording, k: u64, state: &State, object: Object) -> (u64
 
 /// Where a part ends in the recording.
 fn end_of(recording: &Recording, part: u64) -> usize {
-    (0..=part).filter_map(|k| recording.part(k)).map(|part| part.len() + 4).sum()
+    (0..=part)
+        .filter_map(|k| recording.part(k))
+        .map(|part| part.len() + 4)
+        .sum()
 }
 
 fn shown(packet: &[u8]) -> String {
     match packet.len() {
         length if length > PACKET_BYTES => {
-            format!("{length} bytes, the first {FIRST}: {}", Hex(&packet[..FIRST]))
+            format!(
+                "{length} bytes, the first {FIRST}: {}",
+                Hex(&packet[..FIRST])
+            )
         }
         _ => Hex(packet).to_string(),
     }
 }
 
 fn length(recording: &Recording, k: u64, object: Object) -> (u64, String, Object) {
-    let words = format!("{}: its reply has another length\n", recording.placed("packet", k, k));
+    let words = format!(
+        "{}: its reply has another length\n",
+        recording.placed("packet", k, k)
+    );
     (62, words, at_packet(recording, k, object))
 }
 
@@ -145,10 +161,15 @@ fn wrong(
     let found = recording.part(2 * k + 1).unwrap_or_default();
     let object = at_packet(recording, k, object).number("byte", byte);
     let expected = expected(recording, k, start);
-    let range = byte.saturating_sub(AROUND as u64) as usize..found.len().min(byte as usize + AROUND + 1);
+    let range =
+        byte.saturating_sub(AROUND as u64) as usize..found.len().min(byte as usize + AROUND + 1);
     let _ = writeln!(words, "expected {}", Hex(&expected[range.clone()]));
     let _ = writeln!(words, "found    {}", Hex(&found[range]));
-    (63, words, object.hex("expected", &expected).hex("found", found))
+    (
+        63,
+        words,
+        object.hex("expected", &expected).hex("found", found),
+    )
 }
 
 /// What the card would have replied to packet k.

@@ -52,7 +52,10 @@ impl Wire {
             Ok(socket)
         });
         match sent {
-            Ok(socket) => Ok(Sent { socket, reply: None }),
+            Ok(socket) => Ok(Sent {
+                socket,
+                reply: None,
+            }),
             Err(error) => Err(self.failed(&error)),
         }
     }
@@ -111,7 +114,9 @@ impl Wire {
     /// Packets that were not answered are listened for without waiting, the last ones of them.
     pub fn watched(&self, mut sent: Vec<Sent>, silent: Vec<Sent>) -> Result<Vec<Sent>, Stop> {
         for one in silent {
-            one.socket.set_nonblocking(true).map_err(|error| self.failed(&error))?;
+            one.socket
+                .set_nonblocking(true)
+                .map_err(|error| self.failed(&error))?;
             sent.push(one);
         }
         sent.drain(..sent.len().saturating_sub(KEPT));
@@ -128,7 +133,9 @@ impl Wire {
 
     pub fn silent(&self, times: u64) -> Stop {
         let (card, limit) = (self.card, self.limit.as_millis());
-        Stop::Failed(format!("no answer from {card} in {limit} ms, asked {times} times"))
+        Stop::Failed(format!(
+            "no answer from {card} in {limit} ms, asked {times} times"
+        ))
     }
 }
 

@@ -83,7 +83,10 @@ impl Words {
         let text = self.text(what)?;
         match text.parse() {
             Ok(number) if number > 0 => Ok(number),
-            _ => Err(Stop::Usage(format!("{} needs {what}, not '{text}'", self.option))),
+            _ => Err(Stop::Usage(format!(
+                "{} needs {what}, not '{text}'",
+                self.option
+            ))),
         }
     }
 

@@ -33,7 +33,9 @@ pub fn run(mut words: Words) -> Done {
 fn made(file: &OsStr) -> Result<Answer, Stop> {
     let input = input::read(file)?;
     let (list, records) = list::assembled(&input)?;
-    let object = Object::new().flag("accepted", true).text("file", &input.name);
+    let object = Object::new()
+        .flag("accepted", true)
+        .text("file", &input.name);
     Ok(Answer {
         yes: true,
         words: Vec::new(),

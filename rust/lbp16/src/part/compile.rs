@@ -34,7 +34,9 @@ pub fn packed(
     let packed = with_room(|room| pack(&list.bytes, room));
     let (compiled, mut output) = packed.map_err(|refusal| Stop::Refused(list.refused(refusal)))?;
     output.truncate(compiled.bytes);
-    let object = Object::new().flag("accepted", true).text("file", &list.name);
+    let object = Object::new()
+        .flag("accepted", true)
+        .text("file", &list.name);
     Ok(Answer {
         yes: true,
         words: Vec::new(),

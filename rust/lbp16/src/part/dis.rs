@@ -27,7 +27,9 @@ fn made(file: &OsStr) -> Result<Answer, Stop> {
     let list = list::read(file, Form::List)?;
     let text = with_room(|room| head::list_text(&list.bytes, room));
     let (written, text) = text.map_err(|refusal| Stop::Refused(list.refused(refusal)))?;
-    let object = Object::new().flag("accepted", true).text("file", &list.name);
+    let object = Object::new()
+        .flag("accepted", true)
+        .text("file", &list.name);
     Ok(Answer {
         yes: true,
         words: Vec::new(),

@@ -34,7 +34,10 @@ fn held(files: &[OsString; 2], form: Form) -> Result<Answer, Stop> {
             Ok(Answer {
                 yes: true,
                 words: format!("{first} and {second} may be run in either order\n").into_bytes(),
-                object: Object::new().flag("accepted", true).text("first", first).text("second", second),
+                object: Object::new()
+                    .flag("accepted", true)
+                    .text("first", first)
+                    .text("second", second),
                 made: None,
             })
         }

@@ -50,8 +50,15 @@ fn fixed(file: &OsStr, strict: bool) -> Result<Answer, Stop> {
         at = gap.end;
     }
     account.keep(at..input.bytes.len(), false);
-    let _ = writeln!(account.lines, "kept records {}, bytes {}", account.records, account.kept.len());
-    let object = Object::new().flag("accepted", true).text("file", &input.name);
+    let _ = writeln!(
+        account.lines,
+        "kept records {}, bytes {}",
+        account.records,
+        account.kept.len()
+    );
+    let object = Object::new()
+        .flag("accepted", true)
+        .text("file", &input.name);
     Ok(Answer {
         yes: true,
         words: account.lines.into_bytes(),
@@ -119,13 +126,22 @@ impl Account<'_> {
     }
 
     fn look_at(&mut self, at: usize, record: &[u8]) {
-        let what = if self.strict { "left out" } else { "look at it" };
+        let what = if self.strict {
+            "left out"
+        } else {
+            "look at it"
+        };
         let _ = writeln!(self.lines, "record at {at}, {}: {what}", Hex(record));
-        self.before.push(Object::new().count("byte", at).hex("record", record));
+        self.before
+            .push(Object::new().count("byte", at).hex("record", record));
     }
 
     fn skip(&mut self, gap: &Range<usize>) {
         let _ = writeln!(self.lines, "skipped {} at {}", gap.len(), gap.start);
-        self.skipped.push(Object::new().count("byte", gap.start).count("bytes", gap.len()));
+        self.skipped.push(
+            Object::new()
+                .count("byte", gap.start)
+                .count("bytes", gap.len()),
+        );
     }
 }

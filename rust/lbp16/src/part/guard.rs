@@ -29,7 +29,9 @@ pub fn run(mut words: Words) -> Done {
     }
     let guard = guard.sound()?;
     if guard.is_empty() {
-        return Err(Stop::Usage("say with --protect SPACE:FIRST-LAST what is protected".into()));
+        return Err(Stop::Usage(
+            "say with --protect SPACE:FIRST-LAST what is protected".into(),
+        ));
     }
     common.end(list::one(words, form).and_then(|list| held(&list, &guard)))
 }

@@ -63,14 +63,22 @@ fn recording(input: Input) -> Result<Recording, Stop> {
         )));
     }
     if !PCAP.iter().any(|magic| bytes.starts_with(magic)) {
-        return Ok(Recording { name, bytes, frames: None });
+        return Ok(Recording {
+            name,
+            bytes,
+            frames: None,
+        });
     }
     let (mut out, mut frames) = (vec![0; bytes.len()], vec![0; bytes.len() / 16]);
     match head::capture(&bytes, &mut out, &mut frames) {
         Ok(captured) => {
             out.truncate(captured.bytes);
             frames.truncate(captured.packets);
-            Ok(Recording { name, bytes: out, frames: Some(frames) })
+            Ok(Recording {
+                name,
+                bytes: out,
+                frames: Some(frames),
+            })
         }
         Err(refusal) => Err(Stop::Refused(unread(&name, refusal))),
     }

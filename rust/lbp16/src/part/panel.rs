@@ -111,7 +111,13 @@ fn string(memory: &[u8], at: usize) -> &[u8] {
 }
 
 fn reading(field: &Field, value: u64, unit: &[u8]) -> (Vec<u8>, Object) {
-    let Field { kind, width, minimum, maximum, .. } = *field;
+    let Field {
+        kind,
+        width,
+        minimum,
+        maximum,
+        ..
+    } = *field;
     let word = TYPES.get(kind as usize).unwrap_or(&"boolean");
     let signed = kind == 3 || kind == 5;
     let plain = match signed {

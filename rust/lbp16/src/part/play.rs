@@ -1,5 +1,6 @@
 //! Packets to a card, each after the reply of the one before, with a recording.
 
+use crate::again::may_be_sent_again;
 use crate::answer::{Answer, Common};
 use crate::card::Bytes;
 use crate::ending::{say, Done, Refused, Stop};
@@ -8,7 +9,7 @@ use crate::input::{self, Input};
 use crate::json::Object;
 use crate::output::Output;
 use crate::part::serve::PORT;
-use crate::player::{may_be_sent_again, Player, Told};
+use crate::player::{Player, Told};
 use crate::reason;
 use crate::shown::Count;
 use crate::signals;
@@ -78,9 +79,15 @@ pub fn run(mut words: Words) -> Done {
 fn played(words: Words, options: &Options) -> Result<Answer, Stop> {
     let card = match (&options.to, options.dry) {
         (Some(to), false) => Some(address(to)?),
-        (None, false) => return Err(Stop::Usage("say with --to HOST[:PORT] where the card is".into())),
+        (None, false) => {
+            return Err(Stop::Usage(
+                "say with --to HOST[:PORT] where the card is".into(),
+            ))
+        }
         (_, true) if options.common.output.is_some() => {
-            return Err(Stop::Usage("--dry-run records nothing: leave out -o".into()))
+            return Err(Stop::Usage(
+                "--dry-run records nothing: leave out -o".into(),
+            ))
         }
         (_, true) => None,
     };
@@ -106,7 +113,10 @@ fn address(text: &str) -> Result<SocketAddr, Stop> {
 fn refused(name: &str, said: String) -> Stop {
     Stop::Refused(Refused {
         message: format!("{name}: {said}\n"),
-        object: Object::new().flag("accepted", false).text("file", name).text("message", said),
+        object: Object::new()
+            .flag("accepted", false)
+            .text("file", name)
+            .text("message", said),
     })
 }
 
@@ -114,10 +124,14 @@ fn packets(input: &Input) -> Result<Vec<&[u8]>, Stop> {
     let mark = input.bytes.get(..2).unwrap_or_default();
     match frames::parts(&input.bytes) {
         Some(packets) => Ok(packets),
-        None if mark == b"RD" || mark == b"WR" => {
-            Err(refused(&input.name, "a cue list: lbp16 compile makes packets of it".into()))
-        }
-        None => Err(refused(&input.name, "not packets behind \"LB\" and their lengths, as lbp16 compile makes them".into())),
+        None if mark == b"RD" || mark == b"WR" => Err(refused(
+            &input.name,
+            "a cue list: lbp16 compile makes packets of it".into(),
+        )),
+        None => Err(refused(
+            &input.name,
+            "not packets behind \"LB\" and their lengths, as lbp16 compile makes them".into(),
+        )),
     }
 }
 
@@ -126,7 +140,10 @@ fn lengths(name: &str, packets: &[&[u8]], mut state: State) -> Result<Vec<usize>
     let mut lengths = Vec::new();
     for (k, packet) in packets.iter().enumerate() {
         if let Some((lines, _)) = reason::of(packet, &state) {
-            return Err(refused(name, format!("packet {k}: {}\nnothing was sent", lines.trim_end())));
+            return Err(refused(
+                name,
+                format!("packet {k}: {}\nnothing was sent", lines.trim_end()),
+            ));
         }
         lengths.push(state.run(packet).map_or(0, |ran| ran.length));
     }
@@ -143,13 +160,18 @@ fn dry(name: &str, packets: &[&[u8]], lengths: &[usize]) -> Answer {
             (length, false) => format!("reply of {length} bytes"),
         };
         let _ = writeln!(words, "packet {k}, {}: {then}", Bytes(packet));
-        let object = Object::new().hex("packet", packet).count("reply_bytes", *length);
+        let object = Object::new()
+            .hex("packet", packet)
+            .count("reply_bytes", *length);
         objects.push(object.flag("sent_again", again));
     }
     Answer {
         yes: true,
         words: words.into_bytes(),
-        object: Object::new().flag("accepted", true).text("file", name).array("packets", &objects),
+        object: Object::new()
+            .flag("accepted", true)
+            .text("file", name)
+            .array("packets", &objects),
         made: None,
     }
 }
@@ -163,7 +185,9 @@ fn send(
 ) -> Result<Answer, Stop> {
     // A recording that can't be written is found out before the show.
     let recording = match options.common.output.as_deref() {
-        Some(file) if file == "-" => return Err(Stop::Usage("a recording needs a file: -o FILE".into())),
+        Some(file) if file == "-" => {
+            return Err(Stop::Usage("a recording needs a file: -o FILE".into()))
+        }
         Some(file) => Some(Output::begin(file)?),
         None => None,
     };
@@ -204,7 +228,10 @@ fn at_packet(name: &str, k: usize, packets: usize, stop: Stop) -> Stop {
     match stop {
         Stop::Refused(Refused { message, object }) => Stop::Refused(Refused {
             message: format!("{name}: {at}: {message}\n"),
-            object: object.text("file", name).count("packet", k).count("packets", packets),
+            object: object
+                .text("file", name)
+                .count("packet", k)
+                .count("packets", packets),
         }),
         Stop::Failed(problem) => Stop::Failed(format!("{name}: {at}: {problem}")),
         stop => stop,
@@ -220,7 +247,11 @@ fn done(name: &str, packets: usize, told: &Told) -> Answer {
     let words = format!(
         "{name}: {} played, {} of {}{again}\n",
         Count(packets, "packet"),
-        if told.replies == 1 { "1 reply".to_string() } else { format!("{} replies", told.replies) },
+        if told.replies == 1 {
+            "1 reply".to_string()
+        } else {
+            format!("{} replies", told.replies)
+        },
         Count(told.reply_bytes, "byte"),
     );
     Answer {

@@ -119,7 +119,8 @@ fn serve(mut card: Card, options: &Options) -> Done {
                 let packet = &datagram[..length];
                 let ending = card.ending(packet);
                 answer(&socket, packet, &ending, sender, options.quiet);
-                log.as_mut().map_or(Ok(()), |log| log.put(packet, ending.reply()))?;
+                log.as_mut()
+                    .map_or(Ok(()), |log| log.put(packet, ending.reply()))?;
             }
             Err(error) if waits(&error) => log.as_mut().map_or(Ok(()), Log::flush)?,
             // What came can't be read; the next may.
@@ -150,7 +151,9 @@ fn bind(options: &Options) -> Result<UdpSocket, Stop> {
 }
 
 fn address_of(socket: &UdpSocket) -> Result<SocketAddr, Stop> {
-    socket.local_addr().map_err(|error| Stop::Failed(plain(&error)))
+    socket
+        .local_addr()
+        .map_err(|error| Stop::Failed(plain(&error)))
 }
 
 /// Sends the reply, if there is one, and says a line.
@@ -162,7 +165,10 @@ fn answer(socket: &UdpSocket, packet: &[u8], ending: &Ending, sender: SocketAddr
     match lost {
         None if quiet => {}
         None => line(format_args!("{}: {ending}", Bytes(packet))),
-        Some(error) => line(format_args!("{}: {ending}, not sent: {error}", Bytes(packet))),
+        Some(error) => line(format_args!(
+            "{}: {ending}, not sent: {error}",
+            Bytes(packet)
+        )),
     }
 }
 
@@ -182,7 +188,10 @@ impl Log {
     fn begin(file: &OsStr) -> Result<Log, Stop> {
         let name = file.display().to_string();
         match File::create(file) {
-            Ok(file) => Ok(Log { name, file: BufWriter::new(file) }),
+            Ok(file) => Ok(Log {
+                name,
+                file: BufWriter::new(file),
+            }),
             Err(error) => Err(lost(&name, &error)),
         }
     }
@@ -200,12 +209,16 @@ impl Log {
 
 fn save(file: &OsStr, store: &[u8]) -> Done {
     output::write(file, store)?;
-    line(format_args!("lbp16 serve: store written to {}", file.display()));
+    line(format_args!(
+        "lbp16 serve: store written to {}",
+        file.display()
+    ));
     Ok(())
 }
 
 /// Finds out before anything is answered.
 fn can_write(file: &OsStr) -> Done {
     let open = OpenOptions::new().create(true).append(true).open(file);
-    open.map(drop).map_err(|error| lost(&file.display().to_string(), &error))
+    open.map(drop)
+        .map_err(|error| lost(&file.display().to_string(), &error))
 }

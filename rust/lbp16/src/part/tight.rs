@@ -37,14 +37,18 @@ pub fn run(mut words: Words) -> Done {
     }
     let list = words.one_file()?;
     if list == "-" && output == "-" {
-        return Err(Stop::Usage("standard input can be only one of the two".into()));
+        return Err(Stop::Usage(
+            "standard input can be only one of the two".into(),
+        ));
     }
     common.end(list::read(&list, form).and_then(|list| checked(&list, &output)))
 }
 
 fn checked(list: &List, output: &OsStr) -> Result<Answer, Stop> {
     let output = input::read(output)?;
-    let object = Object::new().text("file", &list.name).text("output", &output.name);
+    let object = Object::new()
+        .text("file", &list.name)
+        .text("output", &output.name);
     let (yes, words, object) = match head::tight_check(&list.bytes, &output.bytes) {
         Ok(packets) => (
             true,
@@ -56,7 +60,10 @@ fn checked(list: &List, output: &OsStr) -> Result<Answer, Stop> {
             (
                 false,
                 format!("{}: {said}\n", output.name),
-                object.flag("accepted", false).number("refused", REJECTED).text("message", said),
+                object
+                    .flag("accepted", false)
+                    .number("refused", REJECTED)
+                    .text("message", said),
             )
         }
         Err(refusal) => return Err(Stop::Refused(list.refused(refusal))),

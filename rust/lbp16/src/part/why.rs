@@ -41,7 +41,8 @@ pub fn run(mut words: Words) -> Done {
             "--hex" => options.hex = true,
             "--raw" => options.raw = true,
             "--packet" => options.packet = Some(words.text("hexadecimal digits")?),
-            _ if options.common.take_json(&option)? || options.from.take(&option, &mut words)? => {}
+            _ if options.common.take_json(&option)?
+                || options.from.take(&option, &mut words)? => {}
             _ => return words.unknown(),
         }
     }
@@ -88,11 +89,16 @@ fn bytes_of(text: &[u8], name: &str) -> Result<Vec<u8>, Stop> {
         .map(|digit| char::from(*digit).to_digit(16).map(|digit| digit as u8))
         .collect();
     match digits {
-        Some(digits) if digits.len() % 2 == 0 => {
-            Ok(digits.chunks(2).map(|pair| 16 * pair[0] + pair[1]).collect())
-        }
-        Some(_) => Err(Stop::Failed(format!("{name}: an odd number of hexadecimal digits"))),
-        None => Err(Stop::Failed(format!("{name}: something else than hexadecimal digits"))),
+        Some(digits) if digits.len() % 2 == 0 => Ok(digits
+            .chunks(2)
+            .map(|pair| 16 * pair[0] + pair[1])
+            .collect()),
+        Some(_) => Err(Stop::Failed(format!(
+            "{name}: an odd number of hexadecimal digits"
+        ))),
+        None => Err(Stop::Failed(format!(
+            "{name}: something else than hexadecimal digits"
+        ))),
     }
 }
 

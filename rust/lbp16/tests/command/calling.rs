@@ -5,7 +5,8 @@ use std::io::Read;
 use std::process::{Command, Stdio};
 
 const PARTS: [&str; 12] = [
-    "asm", "dis", "compile", "tight", "fix", "why", "judge", "guard", "either", "panel", "serve", "play",
+    "asm", "dis", "compile", "tight", "fix", "why", "judge", "guard", "either", "panel", "serve",
+    "play",
 ];
 
 #[test]
@@ -34,25 +35,39 @@ fn version_names_the_kit() {
 #[test]
 fn called_wrongly() {
     says(&[], b"", 2, "lbp16: say which part; see lbp16 --help\n");
-    says(&["send"], b"", 2, "lbp16: there is no part 'send'; see lbp16 --help\n");
+    says(
+        &["send"],
+        b"",
+        2,
+        "lbp16: there is no part 'send'; see lbp16 --help\n",
+    );
     for part in PARTS {
         let said = format!("lbp16 {part}: no option '--wrong' here; see lbp16 {part} --help\n");
         says(&[part, "--wrong"], b"", 2, &said);
     }
-    for part in ["asm", "dis", "compile", "tight", "fix", "why", "judge", "panel"] {
+    for part in [
+        "asm", "dis", "compile", "tight", "fix", "why", "judge", "panel",
+    ] {
         let said = format!("lbp16 {part}: 'two' is a file too many; see lbp16 {part} --help\n");
         says(&[part, "one", "two"], b"", 2, &said);
         let said = format!("lbp16 {part}: --json takes no value; see lbp16 {part} --help\n");
         says(&[part, "--json=yes"], b"", 2, &said);
     }
-    says(&["asm", "-o"], b"", 2, "lbp16 asm: -o needs a file; see lbp16 asm --help\n");
+    says(
+        &["asm", "-o"],
+        b"",
+        2,
+        "lbp16 asm: -o needs a file; see lbp16 asm --help\n",
+    );
     let said = "lbp16 play: --tries needs a number, not '0'; see lbp16 play --help\n";
     says(&["play", "--tries", "0"], b"", 2, said);
 }
 
 #[test]
 fn a_file_that_cannot_be_read() {
-    for part in ["asm", "dis", "compile", "tight", "fix", "why", "judge", "panel"] {
+    for part in [
+        "asm", "dis", "compile", "tight", "fix", "why", "judge", "panel",
+    ] {
         let said = format!("lbp16 {part}: cannot read /nowhere: No such file or directory\n");
         says(&[part, "/nowhere"], b"", 2, &said);
         let said = format!("lbp16 {part}: cannot read /: Is a directory\n");
@@ -81,7 +96,12 @@ fn nobody_reads_the_answer() {
         .expect("the program");
     drop(child.stdout.take());
     let mut err = String::new();
-    child.stderr.take().expect("its messages").read_to_string(&mut err).unwrap();
+    child
+        .stderr
+        .take()
+        .expect("its messages")
+        .read_to_string(&mut err)
+        .unwrap();
     assert_eq!((child.wait().unwrap().code(), &err[..]), (Some(2), ""));
 }
 
@@ -89,7 +109,9 @@ fn nobody_reads_the_answer() {
 fn an_answer_that_cannot_be_written() {
     let command = "exec \"$0\" dis \"$1\" > /dev/full";
     let list = filled("calling-full.cue", b"RD\0\0\0\0");
-    let output = Command::new("sh").args(["-c", command, env!("CARGO_BIN_EXE_lbp16"), &list]).output();
+    let output = Command::new("sh")
+        .args(["-c", command, env!("CARGO_BIN_EXE_lbp16"), &list])
+        .output();
     let output = output.expect("a shell");
     let said = "lbp16 dis: cannot write standard output: No space left on device\n";
     assert_eq!(String::from_utf8_lossy(&output.stderr), said);

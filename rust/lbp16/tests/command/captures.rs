@@ -18,7 +18,9 @@ fn read(capture: &[u8]) -> (Vec<u8>, Vec<u32>) {
 fn store(name: &str) -> Vec<u8> {
     let path = file(name);
     let mut command = Command::new(env!("CARGO_BIN_EXE_lbp16"));
-    let command = command.args(["serve", "--hostmot2", "--save-start"]).arg(&path);
+    let command = command
+        .args(["serve", "--hostmot2", "--save-start"])
+        .arg(&path);
     assert!(run(command).status.success());
     fs::read(path).expect("the store")
 }

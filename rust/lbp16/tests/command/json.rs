@@ -9,8 +9,17 @@ fn object(words: &[&str], input: &[u8], exit: i32) -> String {
     let ended = lbp16(words, input);
     assert_eq!((ended.exit, &ended.err[..]), (exit, ""), "{words:?}");
     let check = "import json,sys; o=json.load(sys.stdin); assert type(o) is dict and type(o['accepted']) is bool";
-    let mut python = Command::new("python3").args(["-c", check]).stdin(Stdio::piped()).spawn().expect("python3");
-    python.stdin.take().expect("its input").write_all(&ended.out).unwrap();
+    let mut python = Command::new("python3")
+        .args(["-c", check])
+        .stdin(Stdio::piped())
+        .spawn()
+        .expect("python3");
+    python
+        .stdin
+        .take()
+        .expect("its input")
+        .write_all(&ended.out)
+        .unwrap();
     let text = String::from_utf8(ended.out).expect("text");
     assert!(python.wait().unwrap().success(), "{words:?}: {text}");
     assert_eq!(text.lines().count(), 1);
@@ -22,7 +31,8 @@ const LIST: &[u8] = b"WR\0\0\x08\0\x01\0\0\0";
 #[test]
 fn of_what_is_made() {
     let made = object(&["compile", "--json"], LIST, 0);
-    let expected = "{\"accepted\": true, \"file\": \"(standard input)\", \"packets\": 1, \"bytes\": 12, \
+    let expected =
+        "{\"accepted\": true, \"file\": \"(standard input)\", \"packets\": 1, \"bytes\": 12, \
                     \"hex\": \"4C42080081C2080001000000\"}\n";
     assert_eq!(made, expected);
     let output = filled("json-output.lb", b"old");
@@ -31,14 +41,24 @@ fn of_what_is_made() {
     let made = object(&["dis", "--json"], LIST, 0);
     assert!(made.contains("\"text\": \"write registers 0x0008 0x00000001\\n\""));
     object(&["asm", "--json"], b"read registers 4\n", 0);
-    let made = object(&["fix", "--json", "--strict"], &[LIST, b"x", LIST].concat(), 0);
-    assert!(made.contains("\"skipped\": [{\"byte\": 10, \"bytes\": 1}], \"left_out\": [{\"byte\": 0, "), "{made}");
+    let made = object(
+        &["fix", "--json", "--strict"],
+        &[LIST, b"x", LIST].concat(),
+        0,
+    );
+    assert!(
+        made.contains("\"skipped\": [{\"byte\": 10, \"bytes\": 1}], \"left_out\": [{\"byte\": 0, "),
+        "{made}"
+    );
 }
 
 #[test]
 fn of_refusals() {
     let refused = object(&["compile", "--json"], b"RD\x09\0\0\0", 1);
-    assert!(refused.contains("\"accepted\": false") && refused.contains("\"refused\": 23, \"place\": 0, \"byte\": 0"));
+    assert!(
+        refused.contains("\"accepted\": false")
+            && refused.contains("\"refused\": 23, \"place\": 0, \"byte\": 0")
+    );
     let refused = object(&["asm", "--json"], b"\n\"\\\xFF\x01 x\n", 1);
     assert!(refused.contains("\"refused\": 81, \"line\": 2"));
     object(&["dis", "--json"], b"\xFF\xFE", 1);
@@ -53,10 +73,14 @@ fn of_verdicts() {
     object(&["why", "--json"], &[0x81, 0x42, 0, 0], 0);
     let refused = object(&["why", "--json"], &[0x80, 0x42, 0, 0], 1);
     assert!(refused.contains("\"reason\": {\"refused\": 7, \"place\": 0, "));
-    assert!(refused.contains("\"space\": 0, \"element_bytes\": 4, \"increment\": true, \"count\": 0}"));
+    assert!(
+        refused.contains("\"space\": 0, \"element_bytes\": 4, \"increment\": true, \"count\": 0}")
+    );
     let recording = [lb(&[0x81, 0x42, 0, 0]), lb(&[0, 0, 0, 7])].concat();
     let refused = object(&["judge", "--json"], &recording, 1);
-    assert!(refused.contains("\"packet\": 0, \"byte\": 3, \"expected\": \"00000000\", \"found\": \"00000007\""));
+    assert!(refused.contains(
+        "\"packet\": 0, \"byte\": 3, \"expected\": \"00000000\", \"found\": \"00000007\""
+    ));
     object(&["judge", "--json"], &recording[..8], 1);
     object(&["judge", "--json"], b"", 0);
     object(&["judge", "--json"], &[0xD4, 0xC3, 0xB2, 0xA1], 1);
@@ -71,8 +95,13 @@ fn of_verdicts() {
 #[test]
 fn of_a_daughter_card() {
     let mut card = vec![0; 14];
-    card.extend([4, 0, 0, 0, 0xA0, 8, 2, 0, 0, 0, 0, 0, 0, 0, 0x80, 0x3F, 0, 0, 0xFF, 0, b'"', 0x1F, 0]);
+    card.extend([
+        4, 0, 0, 0, 0xA0, 8, 2, 0, 0, 0, 0, 0, 0, 0, 0x80, 0x3F, 0, 0, 0xFF, 0, b'"', 0x1F, 0,
+    ]);
     let shown = object(&["panel", "--json"], &card, 0);
-    assert!(shown.contains("\"reading\": 0e0, \"unit\": \"\u{FFFD}\", \"name\": \"\\\"\\u001f\""), "{shown}");
+    assert!(
+        shown.contains("\"reading\": 0e0, \"unit\": \"\u{FFFD}\", \"name\": \"\\\"\\u001f\""),
+        "{shown}"
+    );
     object(&["panel", "--json"], &[0xEE; 20], 1);
 }

@@ -75,7 +75,12 @@ fn a_list_of_any_length() {
     assert_eq!(ended.exit, 0);
     let more = [&most[..], b"RD"].concat();
     let line = "refused 21 at 100000 (byte 1000000): a list has at most 100,000 records";
-    says(&["compile"], &more, 1, &format!("(standard input): {line}\n"));
+    says(
+        &["compile"],
+        &more,
+        1,
+        &format!("(standard input): {line}\n"),
+    );
     // A text may be longer than a list.
     let text = b"write registers 8 1 # a comment\n".repeat(100_000);
     assert_eq!(lbp16(&["compile"], &text).out, ended.out);
@@ -108,7 +113,9 @@ fn a_damaged_list() {
     assert_eq!((ended.exit, ended.out), (0, [&LIST[..6], LIST].concat()));
     assert_eq!(
         ended.err,
-        account.replace("look at it", "left out").replace("4, bytes 32", "3, bytes 22")
+        account
+            .replace("look at it", "left out")
+            .replace("4, bytes 32", "3, bytes 22")
     );
     let log = filled("lists-log", b"old");
     let ended = lbp16(&["fix", "--log", &log], &damaged);
@@ -124,7 +131,12 @@ fn protected_cells() {
     let held = format!(
         "{name}: refused 71 at 1 (byte 6): write registers 0x0008 0x00000001: a write to a protected cell\n"
     );
-    answers(&["guard", "--protect", "0:4-7", "--protect=0:0xB-0xB", &name], b"", 1, &held);
+    answers(
+        &["guard", "--protect", "0:4-7", "--protect=0:0xB-0xB", &name],
+        b"",
+        1,
+        &held,
+    );
     let usage = "lbp16 guard: say with --protect SPACE:FIRST-LAST what is protected; see lbp16 guard --help\n";
     says(&["guard", &name], b"", 2, usage);
 }
@@ -141,5 +153,10 @@ fn two_lists() {
          a record of the second list writes a cell that the first names, or names one that it writes\n"
     );
     answers(&["either", &lamps, &tilt], b"", 1, &clash);
-    says(&["either", &lamps], b"", 2, "lbp16 either: give two files; see lbp16 either --help\n");
+    says(
+        &["either", &lamps],
+        b"",
+        2,
+        "lbp16 either: give two files; see lbp16 either --help\n",
+    );
 }

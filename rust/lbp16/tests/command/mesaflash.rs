@@ -26,7 +26,9 @@ const TRIES: usize = 10;
 /// What the tool writes when it is called with these words.
 fn mesaflash(address: &str, words: &[&str]) -> String {
     let mut command = Command::new("mesaflash");
-    command.args(["--device", "7I92", "--addr", address]).args(words);
+    command
+        .args(["--device", "7I92", "--addr", address])
+        .args(words);
     let mut output = run(&mut command);
     for _ in 1..TRIES {
         if !String::from_utf8_lossy(&output.stdout).contains("No 7I92 board found") {

@@ -21,7 +21,9 @@ fn folder(name: &str) -> (PathBuf, String) {
 
 fn names(folder: &PathBuf) -> Vec<String> {
     let entries = fs::read_dir(folder).expect("the folder");
-    entries.map(|entry| entry.unwrap().file_name().into_string().unwrap()).collect()
+    entries
+        .map(|entry| entry.unwrap().file_name().into_string().unwrap())
+        .collect()
 }
 
 #[test]
@@ -33,7 +35,10 @@ fn a_good_list_replaces_the_file() {
         assert_eq!((ended.exit, ended.out.len(), &ended.err[..]), (0, 0, ""));
         assert_eq!(fs::read(&old).unwrap(), PACKETS);
     }
-    assert_eq!(fs::metadata(&old).unwrap().permissions().mode() & 0o777, 0o640);
+    assert_eq!(
+        fs::metadata(&old).unwrap().permissions().mode() & 0o777,
+        0o640
+    );
     assert_eq!(names(&folder), ["show.lb"]);
     let new = folder.join("new.lb");
     let word = format!("-o{}", new.display());
@@ -96,8 +101,14 @@ fn what_is_no_plain_file_is_written_as_it_stands() {
 /// Under a terminal that `script` makes.
 fn on_a_terminal(words: &str) -> (i32, String) {
     let command = format!("{} {words}", env!("CARGO_BIN_EXE_lbp16"));
-    let output = Command::new("script").args(["-qec", &command, "/dev/null"]).output().expect("script");
-    (output.status.code().unwrap(), String::from_utf8_lossy(&output.stdout).into_owned())
+    let output = Command::new("script")
+        .args(["-qec", &command, "/dev/null"])
+        .output()
+        .expect("script");
+    (
+        output.status.code().unwrap(),
+        String::from_utf8_lossy(&output.stdout).into_owned(),
+    )
 }
 
 #[test]
@@ -105,7 +116,10 @@ fn bytes_are_not_put_on_a_terminal_unless_asked() {
     let list = filled("output-terminal.cue", LIST);
     let (exit, out) = on_a_terminal(&format!("compile {list}"));
     assert_eq!(exit, 2);
-    assert!(out.starts_with("lbp16 compile: the output is bytes, not text: give -o FILE, or -o - "), "{out}");
+    assert!(
+        out.starts_with("lbp16 compile: the output is bytes, not text: give -o FILE, or -o - "),
+        "{out}"
+    );
     let (exit, out) = on_a_terminal(&format!("compile {list} -o -"));
     assert!(exit == 0 && out.starts_with("LB"), "{out}");
     // Text is.

@@ -33,7 +33,10 @@ fn packets_behind_marks() {
     let both = [first, lb(&PAST[4..])].concat();
     let ended = lbp16(&["why"], &both);
     let out = String::from_utf8(ended.out).unwrap();
-    assert!(ended.exit == 1 && out.starts_with("packet 1: refused 8 at 0: "), "{out}");
+    assert!(
+        ended.exit == 1 && out.starts_with("packet 1: refused 8 at 0: "),
+        "{out}"
+    );
     // 4C 42 is a word too: the same bytes as one packet.
     let ended = lbp16(&["why", "--raw"], &both);
     assert!(ended.exit == 1 && ended.out.starts_with(b"refused "));
@@ -45,14 +48,24 @@ fn a_packet_in_a_state() {
     numbers[0] = 0xFC;
     numbers[1] = 0xFF;
     let pointers = filled("packets-pointers", &numbers);
-    answers(&["why", "--pointers", &pointers], &[0x81, 0x02], 0, "accepted\n");
+    answers(
+        &["why", "--pointers", &pointers],
+        &[0x81, 0x02],
+        0,
+        "accepted\n",
+    );
     let ended = lbp16(&["why", "--pointers", &pointers], &[0x82, 0x02]);
     assert!(ended.exit == 1 && ended.out.starts_with(b"refused 8 at 0: "));
     numbers[2] = 1;
     let pointers = filled("packets-pointers-above", &numbers);
     let line = "refused 1 at 0: the store is not whole, or a pointer stands above the size of its space or info area\n";
     answers(&["why", "--pointers", &pointers], &[0x81, 0x02], 1, line);
-    says(&["judge", "--pointers", &pointers], b"", 2, &format!("lbp16 judge: (standard input): {line}"));
+    says(
+        &["judge", "--pointers", &pointers],
+        b"",
+        2,
+        &format!("lbp16 judge: (standard input): {line}"),
+    );
 }
 
 #[test]
@@ -65,9 +78,15 @@ fn a_recording() {
     answers(&["judge"], &read, 1, "part 1 is cut\n");
     answers(&["judge"], &yes[1..], 1, "part 0 has no mark\n");
     let short = [&read[..], &lb(&[0; 3])].concat();
-    answers(&["judge"], &short, 1, "packet 0: its reply has another length\n");
+    answers(
+        &["judge"],
+        &short,
+        1,
+        "packet 0: its reply has another length\n",
+    );
     let wrong = [&yes[..], &read, &lb(&[0, 0, 0, 7])].concat();
-    let said = "packet 1, byte 3 of its reply is wrong\nexpected 00 00 00 00\nfound    00 00 00 07\n";
+    let said =
+        "packet 1, byte 3 of its reply is wrong\nexpected 00 00 00 00\nfound    00 00 00 07\n";
     answers(&["judge"], &wrong, 1, said);
     let refused = [lb(&[0x80, 0x42, 0, 0]), lb(&[])].concat();
     let said = "packet 0 is refused: 80 42 00 00\nrefused 7 at 0: count 0, no element is named\n\
@@ -78,7 +97,12 @@ fn a_recording() {
     store[3] = 7;
     let store = filled("packets-store", &store);
     let answered = [&read[..], &lb(&[0, 0, 0, 7])].concat();
-    answers(&["judge", "--store", &store], &answered, 0, "yes, 1 packet\n");
+    answers(
+        &["judge", "--store", &store],
+        &answered,
+        0,
+        "yes, 1 packet\n",
+    );
 }
 
 #[test]
@@ -96,7 +120,9 @@ fn what_is_no_capture() {
 fn card(kind: u8) -> Vec<u8> {
     let mut card = vec![0, 0, 0xFF, 0x80, 0, 0];
     card.extend([0; 8]);
-    card.extend([6, 0, 6, 0, 0, 0, 0xA0, 8, kind, 0, 0, 0, 0, 0, 0, 0, 0xC8, 0x42, 0, 0]);
+    card.extend([
+        6, 0, 6, 0, 0, 0, 0xA0, 8, kind, 0, 0, 0, 0, 0, 0, 0, 0xC8, 0x42, 0, 0,
+    ]);
     card.extend(b"%\0LAMP\0");
     card
 }
@@ -104,7 +130,12 @@ fn card(kind: u8) -> Vec<u8> {
 #[test]
 fn readings_of_a_daughter_card() {
     answers(&["panel"], &card(2), 0, "LAMP: 100.000 %\nLAMP: 50.196 %\n");
-    answers(&["panel"], &card(3), 0, "LAMP: -1 (signed, width 8)\nLAMP: -128 (signed, width 8)\n");
+    answers(
+        &["panel"],
+        &card(3),
+        0,
+        "LAMP: -1 (signed, width 8)\nLAMP: -128 (signed, width 8)\n",
+    );
     let said = "(standard input): the table is refused with 41: entry 0 at 0x0000, record at 0x0006: there is no type 8\n";
     says(&["panel"], &card(8), 1, said);
     let said = "lbp16 panel: (standard input): no table address and three registers\n";

@@ -54,7 +54,13 @@ fn play_within(
     let store = filled(&name("store"), &[0; 65_728]);
     let card = Card::start(&["--port", "0", "--log", &log, "--save", &save]);
     let relay = Relay::start(&card.address, fate);
-    let to = ["play", "--to", &relay.address, "--timeout", &limit.to_string()];
+    let to = [
+        "play",
+        "--to",
+        &relay.address,
+        "--timeout",
+        &limit.to_string(),
+    ];
     let rest = ["--store", &store, "-o", &recording, &output];
     let ended = lbp16(&[&to[..], &rest].concat(), b"");
     drop(relay);
@@ -72,9 +78,17 @@ impl Played {
     fn good(&self) {
         assert_eq!(self.ended.err, "");
         assert_eq!(self.ended.exit, 0);
-        assert!(self.recording == self.log, "the recording is not the card's log");
+        assert!(
+            self.recording == self.log,
+            "the recording is not the card's log"
+        );
         let packets = self.parts() / 2;
-        answers(&["judge"], &self.recording, 0, &format!("yes, {packets} packets\n"));
+        answers(
+            &["judge"],
+            &self.recording,
+            0,
+            &format!("yes, {packets} packets\n"),
+        );
         assert_eq!(self.store[0x1000..0x1004], [9, 9, 9, 9]);
     }
 
@@ -89,7 +103,11 @@ impl Played {
 
     fn stopped(&self, said: &str) {
         assert_eq!(self.ended.exit, 1);
-        assert!(self.ended.err.ends_with(&format!(": {said}\n")), "{}", self.ended.err);
+        assert!(
+            self.ended.err.ends_with(&format!(": {said}\n")),
+            "{}",
+            self.ended.err
+        );
         assert!(self.ended.out.is_empty() && !self.recording.is_empty());
     }
 }
@@ -105,7 +123,11 @@ fn nth(
     move |of, _, bytes| match of == way && bytes == packet {
         true => {
             met += 1;
-            if met == n + 1 { fate } else { Fate::Pass }
+            if met == n + 1 {
+                fate
+            } else {
+                Fate::Pass
+            }
         }
         false => Fate::Pass,
     }
@@ -116,7 +138,10 @@ fn all_is_well() {
     let played = play("well", &show(), |_, _, _| Fate::Pass);
     played.good();
     let out = String::from_utf8_lossy(&played.ended.out).into_owned();
-    assert!(out.ends_with("-output: 5 packets played, 3 replies of 12 bytes\n"), "{out}");
+    assert!(
+        out.ends_with("-output: 5 packets played, 3 replies of 12 bytes\n"),
+        "{out}"
+    );
     // Five packets, a probe before, one behind each packet without a reply, and one at the end.
     assert_eq!(played.parts(), 2 * (5 + 4));
 }
@@ -136,10 +161,29 @@ fn doubled_replies_are_no_replies_to_what_follows() {
 #[test]
 fn reads_are_sent_again() {
     let read = show()[1].clone();
-    play("lost", &show(), nth(Way::ToCard, read.clone(), 0, Fate::Drop)).good();
-    play("late", &show(), nth(Way::ToCard, read, 0, Fate::Delay(LATE))).good();
-    play("unheard", &show(), nth(Way::FromCard, vec![1, 2, 3, 4], 0, Fate::Drop)).good();
-    let played = play("heard-late", &show(), nth(Way::FromCard, vec![5, 6, 7, 8], 0, Fate::Delay(LATE)));
+    play(
+        "lost",
+        &show(),
+        nth(Way::ToCard, read.clone(), 0, Fate::Drop),
+    )
+    .good();
+    play(
+        "late",
+        &show(),
+        nth(Way::ToCard, read, 0, Fate::Delay(LATE)),
+    )
+    .good();
+    play(
+        "unheard",
+        &show(),
+        nth(Way::FromCard, vec![1, 2, 3, 4], 0, Fate::Drop),
+    )
+    .good();
+    let played = play(
+        "heard-late",
+        &show(),
+        nth(Way::FromCard, vec![5, 6, 7, 8], 0, Fate::Delay(LATE)),
+    );
     played.good();
     assert!(played.ended.out.ends_with(b"; reads sent again: 1\n"));
 }
@@ -150,13 +194,26 @@ fn a_probe_that_is_not_heard() {
     let mut probes = 0;
     let lost = move |way: Way, _: usize, bytes: &[u8]| {
         probes += usize::from(way == Way::FromCard && bytes.len() == 2);
-        if way == Way::FromCard && bytes.len() == 2 && probes == 2 { Fate::Drop } else { Fate::Pass }
+        if way == Way::FromCard && bytes.len() == 2 && probes == 2 {
+            Fate::Drop
+        } else {
+            Fate::Pass
+        }
     };
     play("probe-unheard", &show(), lost).good();
     // It is late, but not too late.
-    play("probe-late", &show(), nth(Way::ToCard, PROBE.to_vec(), 1, Fate::Delay(LATE))).good();
+    play(
+        "probe-late",
+        &show(),
+        nth(Way::ToCard, PROBE.to_vec(), 1, Fate::Delay(LATE)),
+    )
+    .good();
     // It is lost on its way: whether the write before it was taken can't be told.
-    let played = play("probe-lost", &show(), nth(Way::ToCard, PROBE.to_vec(), 1, Fate::Drop));
+    let played = play(
+        "probe-lost",
+        &show(),
+        nth(Way::ToCard, PROBE.to_vec(), 1, Fate::Drop),
+    );
     played.stopped("packet 0 of 5: a probe was lost too: whether the card took it can't be told");
 }
 
@@ -164,24 +221,47 @@ fn a_probe_that_is_not_heard() {
 fn a_write_is_sent_once() {
     let write = show()[2].clone();
     let said = "packet 2 of 5: the card did not take it: it refused it, or it was lost";
-    play("write-lost", &show(), nth(Way::ToCard, write.clone(), 0, Fate::Drop)).stopped(said);
-    let twice = play("write-twice", &show(), nth(Way::ToCard, write, 0, Fate::Double));
+    play(
+        "write-lost",
+        &show(),
+        nth(Way::ToCard, write.clone(), 0, Fate::Drop),
+    )
+    .stopped(said);
+    let twice = play(
+        "write-twice",
+        &show(),
+        nth(Way::ToCard, write, 0, Fate::Double),
+    );
     twice.stopped(
         "packet 2 of 5: the card's packet count is 6, and 5 was due: a packet came twice, \
          somebody else sends to the card, or it was started anew",
     );
     let mixed = show()[4].clone();
-    let lost = play("mixed-lost", &show(), nth(Way::ToCard, mixed, 0, Fate::Drop));
-    lost.stopped("packet 4 of 5: sent 1 time and not answered: the card refused it, or it was lost");
-    let unheard = play("mixed-unheard", &show(), nth(Way::FromCard, vec![9, 9, 9, 9], 0, Fate::Drop));
-    unheard.stopped("packet 4 of 5: sent 1 time and not answered, but the card took it: its reply was lost");
+    let lost = play(
+        "mixed-lost",
+        &show(),
+        nth(Way::ToCard, mixed, 0, Fate::Drop),
+    );
+    lost.stopped(
+        "packet 4 of 5: sent 1 time and not answered: the card refused it, or it was lost",
+    );
+    let unheard = play(
+        "mixed-unheard",
+        &show(),
+        nth(Way::FromCard, vec![9, 9, 9, 9], 0, Fate::Drop),
+    );
+    unheard.stopped(
+        "packet 4 of 5: sent 1 time and not answered, but the card took it: its reply was lost",
+    );
 }
 
 #[test]
 fn what_the_card_refuses() {
     let card = Card::start(&["--port", "0", "--protect", "0:0x1000-0x1003"]);
     let output = filled("play-protected", &lb(&show()[0]));
-    let said = format!("{output}: packet 0 of 1: the card did not take it: it refused it, or it was lost\n");
+    let said = format!(
+        "{output}: packet 0 of 1: the card did not take it: it refused it, or it was lost\n"
+    );
     says(&["play", "--to", &card.address, &output], b"", 1, &said);
 }
 
@@ -191,11 +271,28 @@ fn nobody_is_there() {
     let recording = filled("play-nobody-recording", b"old");
     let ended = lbp16(&["play", "--to", "127.0.0.1:9", &output], b"");
     assert_eq!(ended.exit, 2);
-    assert!(ended.err.ends_with("127.0.0.1:9: Connection refused: no card is there\n"), "{}", ended.err);
+    assert!(
+        ended
+            .err
+            .ends_with("127.0.0.1:9: Connection refused: no card is there\n"),
+        "{}",
+        ended.err
+    );
     let silent = std::net::UdpSocket::bind("127.0.0.1:0").unwrap();
     let to = silent.local_addr().unwrap().to_string();
-    let words = ["play", "--timeout", "10", "--to", &to, &output, "-o", &recording];
-    let said = format!("lbp16 play: {output}: packet 0 of 1: no answer from {to} in 10 ms, asked 3 times\n");
+    let words = [
+        "play",
+        "--timeout",
+        "10",
+        "--to",
+        &to,
+        &output,
+        "-o",
+        &recording,
+    ];
+    let said = format!(
+        "lbp16 play: {output}: packet 0 of 1: no answer from {to} in 10 ms, asked 3 times\n"
+    );
     says(&words, b"", 2, &said);
 }
 
@@ -207,20 +304,32 @@ fn what_is_not_sent() {
     let refused = [lb(&show()[0]), lb(&[0x80, 0x42, 0, 0])].concat();
     let ended = lbp16(&["play", "--to", "127.0.0.1:9"], &refused);
     assert_eq!(ended.exit, 1);
-    assert!(ended.err.starts_with("(standard input): packet 1: refused 7 at 0: "));
+    assert!(ended
+        .err
+        .starts_with("(standard input): packet 1: refused 7 at 0: "));
     assert!(ended.err.ends_with("\nnothing was sent\n"));
     let said = "lbp16 play: say with --to HOST[:PORT] where the card is; see lbp16 play --help\n";
     says(&["play"], b"", 2, said);
     let store = filled("play-other-store", &[1; 65_728]);
     let card = Card::start(&["--port", "0"]);
-    let said = "(standard input): packet 0 of 1: the card's packet count is 0 and the store's 257: \
+    let said =
+        "(standard input): packet 0 of 1: the card's packet count is 0 and the store's 257: \
                 this is not the card's store\n";
-    says(&["play", "--to", &card.address, "--store", &store], &lb(&show()[0]), 1, said);
+    says(
+        &["play", "--to", &card.address, "--store", &store],
+        &lb(&show()[0]),
+        1,
+        said,
+    );
 }
 
 #[test]
 fn a_dry_run() {
-    let output: Vec<u8> = show()[..2].iter().chain(&show()[4..]).flat_map(|packet| lb(packet)).collect();
+    let output: Vec<u8> = show()[..2]
+        .iter()
+        .chain(&show()[4..])
+        .flat_map(|packet| lb(packet))
+        .collect();
     let lines = "packet 0, 8 bytes, 81 C2 00 10 01 02 03 04: no reply, then a probe\n\
                  packet 1, 4 bytes, 81 42 00 10: reply of 4 bytes, sent again if none comes\n\
                  packet 2, 12 bytes, 81 C2 00 10 09 09 09 09 81 42 00 10: reply of 4 bytes\n";
@@ -228,9 +337,16 @@ fn a_dry_run() {
     let json = lbp16(&["play", "--dry-run", "--json"], &output);
     assert!(json.out.starts_with(b"{\"accepted\": true, ") && json.exit == 0);
     // The packet count, a pointer and a read from a pointer are not read the same twice.
-    for packet in [&PROBE[..], &[0x01, 0x61, 0x06, 0], &[0x81, 0x59, 0x08, 0, 0x81, 0x19]] {
+    for packet in [
+        &PROBE[..],
+        &[0x01, 0x61, 0x06, 0],
+        &[0x81, 0x59, 0x08, 0, 0x81, 0x19],
+    ] {
         let ended = lbp16(&["play", "--dry-run"], &lb(packet));
-        assert!(!String::from_utf8_lossy(&ended.out).contains("sent again"), "{packet:?}");
+        assert!(
+            !String::from_utf8_lossy(&ended.out).contains("sent again"),
+            "{packet:?}"
+        );
     }
 }
 

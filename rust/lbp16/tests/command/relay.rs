@@ -46,19 +46,35 @@ struct Late {
 
 impl Relay {
     /// `fate` is asked of each datagram, with its number in its way, from 0.
-    pub fn start(card: &str, fate: impl FnMut(Way, usize, &[u8]) -> Fate + Send + 'static) -> Relay {
+    pub fn start(
+        card: &str,
+        fate: impl FnMut(Way, usize, &[u8]) -> Fate + Send + 'static,
+    ) -> Relay {
         let socket = UdpSocket::bind("127.0.0.1:0").expect("a socket");
-        socket.set_read_timeout(Some(Duration::from_millis(1))).expect("a limit");
+        socket
+            .set_read_timeout(Some(Duration::from_millis(1)))
+            .expect("a limit");
         let address = socket.local_addr().expect("its address").to_string();
         let (card, stop) = (card.to_string(), Arc::new(AtomicBool::new(false)));
         let told = stop.clone();
         let thread = thread::spawn(move || {
-            let mut inside = Inside { socket, card, pairs: Vec::new(), late: Vec::new(), seen: [0; 2], fate };
+            let mut inside = Inside {
+                socket,
+                card,
+                pairs: Vec::new(),
+                late: Vec::new(),
+                seen: [0; 2],
+                fate,
+            };
             while !told.load(Ordering::Relaxed) {
                 inside.turn();
             }
         });
-        Relay { address, stop, thread: Some(thread) }
+        Relay {
+            address,
+            stop,
+            thread: Some(thread),
+        }
     }
 }
 
@@ -94,7 +110,8 @@ impl<F: FnMut(Way, usize, &[u8]) -> Fate> Inside<F> {
         let (due, late) = self.late.drain(..).partition(|late| late.at <= now);
         self.late = late;
         let due: Vec<Late> = due;
-        due.iter().for_each(|late| self.pass(late.way, late.pair, &late.bytes));
+        due.iter()
+            .for_each(|late| self.pass(late.way, late.pair, &late.bytes));
     }
 
     fn pair(&mut self, host: SocketAddr) -> usize {
@@ -120,7 +137,12 @@ impl<F: FnMut(Way, usize, &[u8]) -> Fate> Inside<F> {
         (0..times).for_each(|_| self.pass(way, pair, bytes));
         if let Fate::Delay(by) | Fate::Again(by) = fate {
             let at = Instant::now() + Duration::from_millis(by);
-            self.late.push(Late { at, way, pair, bytes: bytes.to_vec() });
+            self.late.push(Late {
+                at,
+                way,
+                pair,
+                bytes: bytes.to_vec(),
+            });
         }
     }
 

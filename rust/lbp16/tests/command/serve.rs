@@ -6,7 +6,9 @@ use std::process::Command;
 
 /// Calls the program, which must fail, and answers its exit and the first line that it wrote.
 fn fails(words: &[&str]) -> (i32, String) {
-    let output = run(Command::new(env!("CARGO_BIN_EXE_lbp16")).arg("serve").args(words));
+    let output = run(Command::new(env!("CARGO_BIN_EXE_lbp16"))
+        .arg("serve")
+        .args(words));
     assert!(output.stdout.is_empty());
     let text = String::from_utf8(output.stderr).expect("text");
     let line = text.lines().next().expect("a line").to_string();
@@ -15,22 +17,35 @@ fn fails(words: &[&str]) -> (i32, String) {
 
 #[test]
 fn called_wrongly() {
-    let wrong = |words: &[&str], line: &str| assert_eq!(fails(words), (2, format!("{line}; see lbp16 serve --help")));
+    let wrong = |words: &[&str], line: &str| {
+        assert_eq!(fails(words), (2, format!("{line}; see lbp16 serve --help")))
+    };
     wrong(&["--wrong"], "lbp16 serve: no option '--wrong' here");
     wrong(&["word"], "lbp16 serve: 'word' is a file too many");
     wrong(&["--port"], "lbp16 serve: --port needs a number");
     wrong(&["--port", "70000"], "lbp16 serve: '70000' is no port");
     wrong(&["--address"], "lbp16 serve: --address needs an IP address");
-    wrong(&["--address", "here"], "lbp16 serve: 'here' is no IP address");
+    wrong(
+        &["--address", "here"],
+        "lbp16 serve: 'here' is no IP address",
+    );
     wrong(&["--store"], "lbp16 serve: --store needs a file");
-    wrong(&["--hostmot2", "--save"], "lbp16 serve: --save needs a file");
+    wrong(
+        &["--hostmot2", "--save"],
+        "lbp16 serve: --save needs a file",
+    );
     wrong(&["--save-start"], "lbp16 serve: --save-start needs a file");
 }
 
 #[test]
 fn cells_that_cannot_be_protected() {
-    let wrong = |words: &[&str], line: &str| assert_eq!(fails(words), (2, format!("{line}; see lbp16 serve --help")));
-    wrong(&["--protect"], "lbp16 serve: --protect needs SPACE:FIRST-LAST");
+    let wrong = |words: &[&str], line: &str| {
+        assert_eq!(fails(words), (2, format!("{line}; see lbp16 serve --help")))
+    };
+    wrong(
+        &["--protect"],
+        "lbp16 serve: --protect needs SPACE:FIRST-LAST",
+    );
     for text in [
         "here", "0:", "0:1", "0:1-", "0:-2", ":1-2", "0:1-2-3", "0:+1-2", "0:1 - 2",
     ] {
@@ -55,7 +70,8 @@ fn cells_that_cannot_be_protected() {
 fn guards_that_are_not_sound() {
     let refused = |words: &[&str], text: &str, place: usize| {
         let (exit, line) = fails(words);
-        let expected = format!("lbp16 serve: '{text}': refused 70 at {place}: the guard is not sound: ");
+        let expected =
+            format!("lbp16 serve: '{text}': refused 70 at {place}: the guard is not sound: ");
         assert_eq!(exit, 2);
         assert!(line.starts_with(&expected), "{line}");
     };
@@ -81,7 +97,10 @@ fn store_to_begin_with() {
     let name = path.to_str().expect("a plain name");
     let start = |words: &[&str]| {
         let mut command = Command::new(env!("CARGO_BIN_EXE_lbp16"));
-        let output = run(command.arg("serve").args(words).args(["--save-start", name]));
+        let output = run(command
+            .arg("serve")
+            .args(words)
+            .args(["--save-start", name]));
         assert!(output.status.success());
         let line = format!("lbp16 serve: store written to {name}\n");
         assert_eq!(output.stdout, line.as_bytes());
@@ -135,7 +154,10 @@ fn files_that_are_not_to_be_had() {
     let name = missing.to_str().expect("a plain name");
     let (exit, line) = fails(&["--port", "0", "--store", name]);
     assert_eq!(exit, 2);
-    assert!(line.starts_with(&format!("lbp16 serve: cannot read {name}: ")), "{line}");
+    assert!(
+        line.starts_with(&format!("lbp16 serve: cannot read {name}: ")),
+        "{line}"
+    );
     let below = missing.join("store");
     let name = below.to_str().expect("a plain name");
     for words in [
@@ -144,6 +166,9 @@ fn files_that_are_not_to_be_had() {
     ] {
         let (exit, line) = fails(words);
         assert_eq!(exit, 2);
-        assert!(line.starts_with(&format!("lbp16 serve: cannot write {name}: ")), "{line}");
+        assert!(
+            line.starts_with(&format!("lbp16 serve: cannot write {name}: ")),
+            "{line}"
+        );
     }
 }

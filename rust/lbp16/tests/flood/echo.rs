@@ -15,7 +15,9 @@ pub struct Echo {
 impl Echo {
     pub fn start() -> Echo {
         let socket = UdpSocket::bind("127.0.0.1:0").expect("a socket");
-        socket.set_read_timeout(Some(Duration::from_millis(100))).expect("a limit");
+        socket
+            .set_read_timeout(Some(Duration::from_millis(100)))
+            .expect("a limit");
         let address = socket.local_addr().expect("its address").to_string();
         let stop = Arc::new(AtomicBool::new(false));
         let told = stop.clone();
@@ -27,7 +29,11 @@ impl Echo {
                 }
             }
         });
-        Echo { address, stop, thread: Some(thread) }
+        Echo {
+            address,
+            stop,
+            thread: Some(thread),
+        }
     }
 }
 

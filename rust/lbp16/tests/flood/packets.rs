@@ -33,7 +33,14 @@ pub fn mark(sender: u32, burst: u32) -> Vec<u8> {
 /// The last packet of a burst: writes its mark to a register of the sender and reads it back, so that its reply is met once.
 pub fn marker(sender: u32, burst: u32) -> Vec<u8> {
     let register = (0xFFF0 + 4 * sender as u16).to_le_bytes();
-    [&[0x81, 0xC2][..], &register, &mark(sender, burst), &[0x81, 0x42], &register].concat()
+    [
+        &[0x81, 0xC2][..],
+        &register,
+        &mark(sender, burst),
+        &[0x81, 0x42],
+        &register,
+    ]
+    .concat()
 }
 
 /// A burst's packets, the marker last. No two senders have the same one: below 12 bytes only the first one sends.
@@ -88,10 +95,20 @@ fn valid(random: &mut Random) -> Vec<u8> {
 }
 
 fn command(random: &mut Random) -> Vec<u8> {
-    let (space, size, bytes) = [(0, 2, 65_536), (0, 2, 65_536), (2, 1, 128), (6, 1, 32), (7, 1, 32)][random.below(5) as usize];
+    let (space, size, bytes) = [
+        (0, 2, 65_536),
+        (0, 2, 65_536),
+        (2, 1, 128),
+        (6, 1, 32),
+        (7, 1, 32),
+    ][random.below(5) as usize];
     let (write, info) = (random.below(2) == 0 && space != 7, random.below(12) == 0);
     let (address, increment) = (random.below(8) > 0, random.below(3) > 0);
-    let count = if random.below(40) == 0 { random.below(128) } else { 1 + random.below(6) };
+    let count = if random.below(40) == 0 {
+        random.below(128)
+    } else {
+        1 + random.below(6)
+    };
     let size = if info { 1 } else { size };
     let word = u16::from(write && !info) << 15
         | u16::from(address) << 14

@@ -31,7 +31,10 @@ struct Follower<'a> {
 pub fn replay(log: &Path, senders: &[Sender]) -> Found {
     let mut log = BufReader::with_capacity(1 << 20, File::open(log).expect("the log"));
     let mut followers: Vec<Follower> = senders.iter().zip(0..).map(Follower::new).collect();
-    let mut found = Found { store: vec![0; 65_728], ..Found::default() };
+    let mut found = Found {
+        store: vec![0; 65_728],
+        ..Found::default()
+    };
     let (mut pointers, mut room) = (vec![0; 8], vec![0; 1_472]);
     while let Some(packet) = part(&mut log) {
         let reply = part(&mut log).expect("a reply behind each packet");
@@ -45,7 +48,9 @@ pub fn replay(log: &Path, senders: &[Sender]) -> Found {
             }
         }
         found.replies += u64::from(!reply.is_empty());
-        let taken = followers.iter_mut().any(|follower| follower.take(&packet, &reply, &mut found.bursts));
+        let taken = followers
+            .iter_mut()
+            .any(|follower| follower.take(&packet, &reply, &mut found.bursts));
         assert!(taken, "nobody sent packet {k}");
     }
     found
@@ -53,12 +58,22 @@ pub fn replay(log: &Path, senders: &[Sender]) -> Found {
 
 impl<'a> Follower<'a> {
     fn new((sender, number): (&'a Sender, u32)) -> Follower<'a> {
-        Follower { number, sender, burst: 0, packets: burst(number, 0), at: 0, replies: Replies::default() }
+        Follower {
+            number,
+            sender,
+            burst: 0,
+            packets: burst(number, 0),
+            at: 0,
+            replies: Replies::default(),
+        }
     }
 
     /// Whether the packet is of this sender's burst, or of one of the next. Packets before it were lost.
     fn take(&mut self, packet: &[u8], reply: &[u8], bursts: &mut u64) -> bool {
-        if let Some(ahead) = self.packets[self.at..].iter().position(|sent| sent == packet) {
+        if let Some(ahead) = self.packets[self.at..]
+            .iter()
+            .position(|sent| sent == packet)
+        {
             self.at += ahead + 1;
             if !reply.is_empty() {
                 self.replies.add(reply);
@@ -80,7 +95,12 @@ impl<'a> Follower<'a> {
 
     fn ended(&mut self, bursts: &mut u64) {
         if let Some(heard) = self.sender.bursts[self.burst] {
-            assert!(heard == self.replies.number(), "sender {} heard other replies to burst {}", self.number, self.burst);
+            assert!(
+                heard == self.replies.number(),
+                "sender {} heard other replies to burst {}",
+                self.number,
+                self.burst
+            );
             *bursts += 1;
         }
         self.next();

@@ -38,14 +38,23 @@ pub fn flood(address: &str, time: Duration, last: fn(u32, u32) -> Vec<u8>) -> Ve
         thread::spawn(move || send(sender, &address, until, last))
     };
     let threads: Vec<_> = (0..SENDERS).map(start).collect();
-    threads.into_iter().map(|thread| thread.join().expect("a sender")).collect()
+    threads
+        .into_iter()
+        .map(|thread| thread.join().expect("a sender"))
+        .collect()
 }
 
 fn send(sender: u32, address: &str, until: Instant, last: fn(u32, u32) -> Vec<u8>) -> Sender {
     let socket = UdpSocket::bind("127.0.0.1:0").expect("a socket");
     socket.connect(address).expect("the server");
-    socket.set_read_timeout(Some(Duration::from_secs(2))).expect("a limit");
-    let mut done = Sender { bursts: Vec::new(), packets: 0, replies: 0 };
+    socket
+        .set_read_timeout(Some(Duration::from_secs(2)))
+        .expect("a limit");
+    let mut done = Sender {
+        bursts: Vec::new(),
+        packets: 0,
+        replies: 0,
+    };
     while Instant::now() < until {
         let number = done.bursts.len() as u32;
         for packet in burst(sender, number) {
