@@ -1,0 +1,96 @@
+"""A firmware image on QEMU's board: its networks, its text and its memory."""
+import json
+import pathlib
+import socket
+import subprocess
+import tempfile
+
+ROOT = pathlib.Path(__file__).resolve().parents[2]
+# A machine that has much else to do may take long to answer.
+PATIENCE = 60
+
+
+class Failed(Exception):
+    """What the firmware did wrong, or why it can't be tried."""
+
+
+def made(words):
+    """Runs a command of the repository, and answers what it writes."""
+    done = subprocess.run(words, cwd=ROOT, capture_output=True, text=True, check=False)
+    if done.returncode:
+        raise Failed(f"{' '.join(map(str, words))}: {done.stderr or done.stdout}")
+    return done.stdout
+
+
+class Board:
+    def __init__(self, image, net, words=()):
+        self.folder = tempfile.TemporaryDirectory()
+        self.path = pathlib.Path(self.folder.name)
+        self.symbols = {}
+        for line in made(["arm-none-eabi-nm", image]).splitlines():
+            address, _, name = line.split()
+            self.symbols[name] = int(address, 16)
+        self.process = subprocess.Popen(
+            ["qemu-system-arm", "-M", "mps2-an386", "-display", "none", "-monitor", "none", "-serial", f"file:{self.path}/text",
+             "-qmp", f"unix:{self.path}/control,server=on,wait=off", *self.net(net), *words, "-kernel", image], cwd=ROOT)
+        self.control = self.connected()
+        self.asked("qmp_capabilities")
+
+    def net(self, net):
+        if net != "frames":
+            return ["-nic", f"user,model=lan9118,hostfwd=udp:{net}-:27181"]
+        self.frames = socket.socket(socket.AF_UNIX, socket.SOCK_DGRAM)
+        self.frames.bind(f"{self.path}/here")
+        self.frames.settimeout(PATIENCE)
+        ends = f"local.type=unix,local.path={self.path}/there,remote.type=unix,remote.path={self.path}/here"
+        return ["-netdev", f"dgram,id=net,{ends}", "-net", "nic,netdev=net,model=lan9118"]
+
+    def connected(self):
+        for _ in range(10 * PATIENCE):
+            try:
+                line = socket.socket(socket.AF_UNIX)
+                line.settimeout(PATIENCE)
+                line.connect(f"{self.path}/control")
+                return line.makefile("rw")
+            except OSError:
+                try:
+                    self.process.wait(0.1)
+                    raise Failed("QEMU ended")
+                except subprocess.TimeoutExpired:
+                    pass
+        raise Failed("QEMU does not answer")
+
+    def asked(self, command, **arguments):
+        """A command of QEMU's control, to its end."""
+        self.control.write(json.dumps({"execute": command, "arguments": arguments}) + "\n")
+        self.control.flush()
+        while True:
+            answer = json.loads(self.control.readline())
+            if "error" in answer:
+                raise Failed(f"QEMU: {answer['error']['desc']}")
+            if "return" in answer:
+                return
+
+    def memory(self, first, end):
+        """The bytes between two of the image's symbols, or so many from a symbol on."""
+        start = self.symbols[first]
+        size = end if isinstance(end, int) else self.symbols[end] - start
+        self.asked("pmemsave", val=start, size=size, filename=f"{self.path}/memory")
+        return (self.path / "memory").read_bytes()
+
+    def send(self, frame):
+        self.frames.sendto(frame, f"{self.path}/there")
+
+    def receive(self):
+        try:
+            return self.frames.recv(4096)
+        except TimeoutError as late:
+            raise Failed("no answer: it stopped") from late
+
+    def text(self):
+        return (self.path / "text").read_text()
+
+    def stop(self):
+        self.process.kill()
+        self.process.wait()
+        self.folder.cleanup()
