@@ -4,6 +4,7 @@ import pathlib
 import socket
 import subprocess
 import tempfile
+import time
 
 ROOT = pathlib.Path(__file__).resolve().parents[2]
 # A machine that has much else to do may take long to answer.
@@ -26,13 +27,15 @@ class Board:
     def __init__(self, image, net, words=()):
         self.folder = tempfile.TemporaryDirectory()
         self.path = pathlib.Path(self.folder.name)
+        self.read = 0
         self.symbols = {}
         for line in made(["arm-none-eabi-nm", image]).splitlines():
             address, _, name = line.split()
             self.symbols[name] = int(address, 16)
         self.process = subprocess.Popen(
             ["qemu-system-arm", "-M", "mps2-an386", "-display", "none", "-monitor", "none", "-serial", f"file:{self.path}/text",
-             "-qmp", f"unix:{self.path}/control,server=on,wait=off", *self.net(net), *words, "-kernel", image], cwd=ROOT)
+             "-qmp", f"unix:{self.path}/control,server=on,wait=off", *self.net(net), *words, "-kernel", image],
+            cwd=ROOT, stderr=open(self.path / "errors", "wb"))
         self.control = self.connected()
         self.asked("qmp_capabilities")
 
@@ -55,7 +58,7 @@ class Board:
             except OSError:
                 try:
                     self.process.wait(0.1)
-                    raise Failed("QEMU ended")
+                    raise Failed(f"QEMU ended: {(self.path / 'errors').read_text()}")
                 except subprocess.TimeoutExpired:
                     pass
         raise Failed("QEMU does not answer")
@@ -78,6 +81,15 @@ class Board:
         self.asked("pmemsave", val=start, size=size, filename=f"{self.path}/memory")
         return (self.path / "memory").read_bytes()
 
+    def wait_for_line(self):
+        """Until it says its first line, and a little longer, in which it tells QEMU its address."""
+        late = time.monotonic() + PATIENCE
+        while not self.new_lines():
+            if time.monotonic() > late:
+                raise Failed("it does not start")
+            time.sleep(0.1)
+        time.sleep(1)
+
     def send(self, frame):
         self.frames.sendto(frame, f"{self.path}/there")
 
@@ -85,10 +97,26 @@ class Board:
         try:
             return self.frames.recv(4096)
         except TimeoutError as late:
-            raise Failed("no answer: it stopped") from late
+            raise Failed(f"no answer within {PATIENCE} s") from late
 
-    def text(self):
-        return (self.path / "text").read_text()
+    def replies(self, seconds):
+        """Frames that come, until none came for so long."""
+        self.frames.settimeout(seconds)
+        try:
+            while True:
+                yield self.frames.recv(4096)
+        except TimeoutError:
+            return
+        finally:
+            self.frames.settimeout(PATIENCE)
+
+    def new_lines(self):
+        """The lines that it wrote since this was last asked."""
+        with open(self.path / "text", encoding="ascii") as text:
+            text.seek(self.read)
+            lines = text.read()
+            self.read = text.tell()
+        return lines.splitlines()
 
     def stop(self):
         self.process.kill()

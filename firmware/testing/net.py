@@ -58,10 +58,12 @@ def arp(target=ALL, source=HOST_MAC, **given):
 
 
 class Net:
-    """The firmware's rules: what a frame is counted as, and the frame that goes back."""
+    """The firmware's rules: what a frame is counted as, and the frame that goes back. Frames for others are filtered by the chip,
+    where there is one."""
 
-    def __init__(self, card, names):
+    def __init__(self, card, names, filtered=True):
         self.card = card
+        self.filtered = filtered
         self.counters = dict.fromkeys(names, 0)
         self.lines = []
         self.numbers = {}
@@ -70,11 +72,11 @@ class Net:
         self.counters[name] += 1
 
     def answer(self, frame):
-        target, source = frame[:6], frame[6:12]
-        if target not in (MAC, ALL):
-            return None     # the chip does not take it in
+        """The reply to a frame, None if there is none. A frame that is None is a damaged one."""
+        if self.filtered and frame[:6] not in (MAC, ALL):
+            return None
         self.count("FRAMES")
-        found = self.found(frame, target, source)
+        found = "DROPPED_DAMAGED" if frame is None else self.found(frame)
         if isinstance(found, str):
             self.count(found)
             return None
@@ -82,12 +84,14 @@ class Net:
             self.count("REPLIES")
         return found
 
-    def found(self, frame, target, source):
+    def found(self, frame):
         if len(frame) > 1514:
             return "DROPPED_LONG"
-        if source == MAC or source[0] & 1:
+        if len(frame) < 14:
+            return "DROPPED_CUT"
+        target, source, kind = frame[:6], frame[6:12], frame[12:14]
+        if target not in (MAC, ALL) or source == MAC or source[0] & 1:
             return "DROPPED_ADDRESS"
-        kind = frame[12:14]
         if kind == b"\x08\x06":
             return self.arp(frame[14:], source)
         if kind == b"\x08\x00":

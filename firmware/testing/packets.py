@@ -26,12 +26,12 @@ def command(random, protected):
     if write and space == 2:
         count = min(count, 48)
     address = random.randrange(low, size - width * count + 1, width)
-    if write and random.random() < 0.1 and space == 0:
+    if write and random.random() < 0.04 and space == 0:
         address = random.choice(protected)
         count = random.choice([1, 2])
     increment = random.random() < 0.8
     head = word(write, 1, info, space, 2 if width == 4 else 1, increment, count) + struct.pack("<H", address)
-    unlock = UNLOCK if write and space == 2 and random.random() < 0.7 else b""
+    unlock = UNLOCK if write and space == 2 and random.random() < 0.95 else b""
     return unlock + head + (random.randbytes(count * width) if write else b"")
 
 
