@@ -25,7 +25,8 @@ int32_t frame_in(uint8_t frame[FRAME_ROOM]);
  * room for it now. */
 int frame_out(const uint8_t frame[FRAME_ROOM], uint32_t length);
 
-/* Writes a line of at most LINE_BYTES, its newline included. Answers 0 where the line before is not yet out. */
+/* Writes a line of at most LINE_BYTES, its newline included, or as much of it as can go now; the rest goes at later calls of this
+ * function or of frame_in. Answers 0 where the line before is not yet out. */
 int line_out(const char *line, uint32_t length);
 
 #endif

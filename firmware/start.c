@@ -11,17 +11,19 @@ extern uint32_t stack_bottom[], stack_top[], bss_start[], bss_end[];
 int main(void);
 void reset(void);
 
-/* There is nothing to go on with: the store may be half written. */
-static void stop(void)
+/* There is nothing to go on with; a line that is on its way is brought out. */
+static _Noreturn void stop(void)
 {
     for (;;)
-        ;
+        (void)line_out("", 0);
 }
 
+/* The store may be half written. */
 static void fault(void)
 {
     static const char line[] = "a fault of the processor\n";
-    (void)line_out(line, sizeof line - 1);
+    while (!line_out(line, sizeof line - 1))
+        ;
     stop();
 }
 

@@ -81,14 +81,17 @@ class Board:
         self.asked("pmemsave", val=start, size=size, filename=f"{self.path}/memory")
         return (self.path / "memory").read_bytes()
 
-    def wait_for_line(self):
-        """Until it says its first line, and a little longer, in which it tells QEMU its address."""
+    def wait_for_lines(self):
+        """What it says at its start; a little later it has told QEMU its address, too."""
         late = time.monotonic() + PATIENCE
-        while not self.new_lines():
+        lines = []
+        while not lines:
             if time.monotonic() > late:
                 raise Failed("it does not start")
             time.sleep(0.1)
+            lines = self.new_lines()
         time.sleep(1)
+        return lines + self.new_lines()
 
     def send(self, frame):
         self.frames.sendto(frame, f"{self.path}/there")

@@ -108,6 +108,21 @@ def other(random, packet):
     ])()
 
 
+def special():
+    """Frames that chance seldom makes."""
+    # An empty cell of space 7, asked from the one port for which the reply's checksum is 0 and has to be sent as 0xFFFF.
+    empty = bytes.fromhex("815D1C00")
+    for port in range(1, 65536):
+        reply = udp(bytes(2), source=IP, target=HOST_IP, source_port=PORT, port=port)
+        if reply[6:8] == b"\xFF\xFF":
+            yield datagram(empty, source_port=port)
+    yield echo(bytes(1476))
+    yield datagram(b"")
+    yield datagram(bytes(1472))
+    yield datagram(empty) + bytes(1514 - 46)
+    yield datagram(empty) + bytes(1515 - 46)
+
+
 def random_frame(random, protected=(0x1000,)):
     packet = random_packet(random, protected)
     kind = random.random()

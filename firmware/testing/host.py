@@ -4,7 +4,7 @@ import struct
 import subprocess
 
 from board import ROOT, Failed, made
-from frames import random_frame
+from frames import random_frame, special
 from library import Card
 from net import Net
 from talk import NAMES, agree
@@ -26,7 +26,7 @@ def host_run(calls, seed, count):
     made(["gcc", "-std=c11", "-O1", "-g", "-Wall", "-Wextra", "-Werror", "-fsanitize=address,undefined", "-fno-sanitize-recover=all",
           "-DHOSTMOT2", "-Iinclude", *(f"firmware/{source}" for source in SOURCES), "target/x86_64-linux/libhead.a", "-o", IMAGE])
     draw = random.Random(seed)
-    frames = [frame for frame in (some_frame(draw) for _ in range(count)) if frame != b""]
+    frames = [*special(), *(some_frame(draw) for _ in range(count))]
     sent = b"".join(b"\xFF\xFF" if frame is None else struct.pack("<H", len(frame)) + frame for frame in frames)
     done = subprocess.run([ROOT / IMAGE], input=sent, capture_output=True, check=False)
     if done.returncode:
