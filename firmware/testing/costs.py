@@ -1,7 +1,8 @@
 """What the firmware costs: flash, RAM, stack and instructions."""
 import re
+import time
 
-from board import ROOT, Board, Failed, made
+from board import PATIENCE, ROOT, Board, Failed, made
 from library import Card
 from net import Net, datagram
 from packets import word
@@ -48,6 +49,16 @@ def deepest(image):
     return below("reset", [])
 
 
+def counted(board):
+    """What it says of the last answers, which it says behind each."""
+    lines, late = [], time.monotonic() + PATIENCE
+    while len(lines) < TIMES:
+        if time.monotonic() > late:
+            raise Failed(f"instructions of {TIMES} answers are said as {lines}")
+        lines += board.new_lines()
+    return sum(int(line.removeprefix("instructions ")) for line in lines) // TIMES
+
+
 def instructions(calls):
     """From the look at the chip that finds a frame to the last word of the reply, by packet."""
     image = made(["firmware/build", "--ticks", "target/firmware/ticks.elf"]).strip()
@@ -57,14 +68,12 @@ def instructions(calls):
     board = Board(image, "frames", ["-icount", "shift=0"])
     try:
         board.receive()
+        board.wait_for_lines()
         talk = Frames(board, Net(Card(calls), NAMES))
         for name, packet in (("1 read", small[:1]), ("368 reads", reads), ("368 small commands", small)):
-            board.new_lines()
             for _ in range(TIMES):
                 talk.frame(datagram(b"".join(packet)))
-            talk.frame(datagram(b"".join(packet)))
-            counts = [int(line.split()[1]) for line in board.new_lines() if line.startswith("instructions ")][:TIMES]
-            found[name] = sum(counts) // len(counts)
+            found[name] = counted(board)
     finally:
         board.stop()
     return found
