@@ -1,6 +1,8 @@
 """A firmware image on QEMU's board: its networks, its text and its memory."""
 import json
+import os
 import pathlib
+import select
 import socket
 import subprocess
 import tempfile
@@ -24,19 +26,24 @@ def made(words):
 
 
 class Board:
-    def __init__(self, image, net, words=()):
+    """Its text goes to a file, or to a pipe that somebody has to read."""
+
+    def __init__(self, image, net, words=(), text="file"):
         self.folder = tempfile.TemporaryDirectory()
         self.path = pathlib.Path(self.folder.name)
+        if text == "pipe":
+            os.mkfifo(self.path / "text.in")
+            os.mkfifo(self.path / "text.out")
         self.read = 0
         self.symbols = {}
         for line in made(["arm-none-eabi-nm", image]).splitlines():
             address, _, name = line.split()
             self.symbols[name] = int(address, 16)
         self.process = subprocess.Popen(
-            ["qemu-system-arm", "-M", "mps2-an386", "-display", "none", "-monitor", "none", "-serial", f"file:{self.path}/text",
+            ["qemu-system-arm", "-M", "mps2-an386", "-display", "none", "-monitor", "none", "-serial", f"{text}:{self.path}/text",
              "-qmp", f"unix:{self.path}/control,server=on,wait=off", *self.net(net), *words, "-kernel", image],
             cwd=ROOT, stderr=open(self.path / "errors", "wb"))
-        self.control = self.connected()
+        self.control = self.connected().makefile("rw")
         self.asked("qmp_capabilities")
 
     def net(self, net):
@@ -54,7 +61,7 @@ class Board:
                 line = socket.socket(socket.AF_UNIX)
                 line.settimeout(PATIENCE)
                 line.connect(f"{self.path}/control")
-                return line.makefile("rw")
+                return line
             except OSError:
                 try:
                     self.process.wait(0.1)
@@ -120,6 +127,15 @@ class Board:
             lines = text.read()
             self.read = text.tell()
         return lines.splitlines()
+
+    def piped_lines(self, count):
+        """So many lines from the pipe."""
+        pipe = os.open(self.path / "text.out", os.O_RDONLY | os.O_NONBLOCK)
+        text = b""
+        while text.count(b"\n") < count and select.select([pipe], [], [], PATIENCE)[0]:
+            text += os.read(pipe, 65536)
+        os.close(pipe)
+        return text.decode("ascii").splitlines()
 
     def stop(self):
         self.process.kill()

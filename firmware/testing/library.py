@@ -1,6 +1,5 @@
 """The proved library on this machine, as the firmware uses it."""
 import ctypes
-import pathlib
 
 from board import ROOT, made
 
@@ -9,7 +8,7 @@ BUILT = ROOT / "target/firmware/libhead.so"
 
 
 def library():
-    pathlib.Path(BUILT).parent.mkdir(parents=True, exist_ok=True)
+    BUILT.parent.mkdir(parents=True, exist_ok=True)
     made(["gcc", "-shared", "-fPIC", "-O2", "-Iinclude", "firmware/hostmot2.c", "-Wl,--whole-archive", "target/x86_64-linux/libhead.a",
           "-Wl,--no-whole-archive", "-o", str(BUILT)])
     return ctypes.CDLL(str(BUILT))
@@ -29,7 +28,7 @@ class Card:
         self.store = (ctypes.c_uint8 * STORE_BYTES)()
         self.pointers = (ctypes.c_uint32 * POINTERS)()
         self.reply = (ctypes.c_uint8 * REPLY_BYTES)()
-        self.guard = lent(guard, ctypes.c_uint32)
+        self.guard = lent(guard, ctypes.c_uint32) if guard else ()
         self.hostmot2 = hostmot2
         if hostmot2:
             calls.hostmot2_fill(self.store)
@@ -37,12 +36,12 @@ class Card:
     def run(self, packet):
         """The number of the refusal, 0 if accepted; its place; and the reply."""
         value, elements = ctypes.c_uint64(), ctypes.c_uint64()
-        number = self.calls.head_guarded_run(
-            *lent(packet), *lent(self.store), *lent(self.pointers), *lent(self.reply), *self.guard,
-            ctypes.byref(value), ctypes.byref(elements))
+        call = self.calls.head_guarded_run if self.guard else self.calls.head_run
+        number = call(*lent(packet), *lent(self.store), *lent(self.pointers), *lent(self.reply), *self.guard,
+                      ctypes.byref(value), ctypes.byref(elements))
         return number, value.value, b"" if number else bytes(self.reply[:value.value])
 
     def sentence(self, number):
-        room, length = ctypes.c_uint64(), lent(bytes(100))
-        self.calls.head_sentence(number, *length, ctypes.byref(room))
-        return bytes(length[0][:room.value]).decode()
+        length, room = ctypes.c_uint64(), lent(bytes(100))
+        self.calls.head_sentence(number, *room, ctypes.byref(length))
+        return bytes(room[0][:length.value]).decode()

@@ -58,12 +58,13 @@ def arp(target=ALL, source=HOST_MAC, **given):
 
 
 class Net:
-    """The firmware's rules: what a frame is counted as, and the frame that goes back. Frames for others are filtered by the chip,
-    where there is one."""
+    """The firmware's rules: what a frame is counted as, and the frame that goes back. Where there is a chip, it filters frames for
+    others. While the board is busy, nothing goes out."""
 
     def __init__(self, card, names, filtered=True):
         self.card = card
         self.filtered = filtered
+        self.busy = False
         self.counters = dict.fromkeys(names, 0)
         self.lines = []
         self.numbers = {}
@@ -80,9 +81,16 @@ class Net:
         if isinstance(found, str):
             self.count(found)
             return None
-        if found is not None:
-            self.count("REPLIES")
-        return found
+        if found is None:
+            return None
+        self.count("UNSENT" if self.busy else "REPLIES")
+        return None if self.busy else found
+
+    def say(self, line):
+        if self.busy:
+            self.count("LINES_LOST")
+        else:
+            self.lines.append(line)
 
     def found(self, frame):
         if len(frame) > 1514:
@@ -165,13 +173,13 @@ class Net:
         self.count("PACKETS")
         if self.card.hostmot2 and packet == bytes.fromhex("014E0800"):
             self.count("OUTSIDE")
-            self.lines.append("answered outside the library: the flash chip's id")
+            self.say("answered outside the library: the flash chip's id")
             return bytes.fromhex("14000000")
         number, place, reply = self.card.run(packet)
         self.numbers[number] = self.numbers.get(number, 0) + 1
         if number:
             self.count("REFUSED")
-            self.lines.append(f"refused {number} at {place}: {self.card.sentence(number)}")
+            self.say(f"refused {number} at {place}: {self.card.sentence(number)}")
         return reply
 
 
