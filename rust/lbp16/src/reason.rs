@@ -6,14 +6,24 @@ use crate::state::State;
 use head::{Fields, Reason};
 use std::fmt::Write;
 
+/// The rule that a packet breaks. 1 means other things too, but not of a packet.
+pub fn rule(number: u32) -> String {
+    match number {
+        1 => "the store is not whole, or a pointer stands above the size of its space or info area"
+            .to_string(),
+        _ => head::sentence(number),
+    }
+}
+
 /// A packet's refusal in lines, and for scripts; nothing if it is accepted.
 pub fn of(packet: &[u8], state: &State) -> Option<(String, Object)> {
     let reason = head::why(packet, &state.store, &state.pointers)?;
-    let mut lines = format!("{reason}\n");
+    let said = format!("{}: {}", reason.refusal, rule(reason.refusal.number));
+    let mut lines = format!("{said}\n");
     let mut object = Object::new()
         .number("refused", reason.refusal.number)
         .number("place", reason.refusal.place)
-        .text("message", reason.to_string());
+        .text("message", said);
     // 1 and 2 are of no command.
     if reason.refusal.number > 2 {
         let place = reason.refusal.place as usize;

@@ -4,6 +4,7 @@ use crate::answer::{Answer, Common};
 use crate::ending::{Done, Refused, Stop};
 use crate::input::{self, Input};
 use crate::json::Object;
+use crate::reason;
 use crate::state::{From, State};
 use crate::verdict::{self, Recording};
 use crate::words::Words;
@@ -48,7 +49,7 @@ fn judged(file: &OsStr, mut state: State) -> Result<Answer, Stop> {
     match judged {
         Ok(verdict) => Ok(verdict::said(&recording, verdict, start, &state, object)),
         Err(refusal) => {
-            let said = format!("{refusal}: {}", head::why::sentence(refusal.number));
+            let said = format!("{refusal}: {}", reason::rule(refusal.number));
             Err(Stop::Failed(format!("{}: {said}", recording.name)))
         }
     }

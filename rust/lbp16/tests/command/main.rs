@@ -11,4 +11,5 @@ mod packets;
 mod play;
 mod relay;
 mod serve;
+mod shell;
 mod wire;
