@@ -1,20 +1,17 @@
 -- How long the texts are.
 use Prim.Native.Nat.{ℕ, _+_, _^_, _≤_, _<_}
-use mathlib.Core.Path.{_≡_, refl}
 use mathlib.Core.List.{List, [], _++_}
 use native.Mathlib.Omega.{arith}
-use lib.ListN.{length, take, length-append, length-take}
-use borrow.Author.Tests.{lt-ltb, le-ltb}
+use lib.ListN.{length, take, length-append}
 use Rattle.lbp16.specs.declared.pointer.Pointers.{Pointers}
-use Rattle.packet.specs.Command.{limit}
 use Rattle.cue.specs.Output.{frontOf}
-use Rattle.text.specs.Number.{ascii, bytesOfHex}
-use Rattle.text.proofs.HexLaws.{bytes-length}
+use Rattle.text.specs.Number.{ascii}
 use Rattle.why_output.specs.Wording.{said}
+use Rattle.why_output.specs.Packets.{shownBytes}
 use Rattle.text.proofs.LineLaws.{numbered-length, cond-length}
 use Rattle.why_output.proofs.RoomLaws.{said-fits}
 use Rattle.showcheck_output.specs.Findings.{between, frameText, named, bothReplies, repliesText, bytesOfFront, behindFront, badByteText}
-use Rattle.showcheck_output.specs.Findings.{shownBytes, shownText, unanswered, unansweredText, refusedText}
+use Rattle.showcheck_output.specs.Findings.{shownText, unanswered, unansweredText, refusedText}
 use Rattle.showcheck_output.proofs.AroundLaws.{line-length}
 
 -- a number between two texts
@@ -46,29 +43,6 @@ unfolding badByteText repliesText
 bad-byte-length frames i k rest reply a b =
     let c = both-length (bytesOfFront (behindFront rest)) reply k in
     simp length-append (omega arith)
-
--- a packet's bytes, few or many
-module _ (packet : List ℕ) where
-  pub few-shown : length packet ≤ limit → bytesOfHex packet ≡ shownBytes packet
-  unfolding shownBytes
-  few-shown h = rw (le-ltb limit (length packet) h) refl
-
-  pub few-length : length packet ≤ limit → length (shownBytes packet) ≤ 4416
-  few-length h =
-      let e = bytes-length packet in
-      rw (← few-shown h) (omega arith)
-
-  pub many-shown : limit < length packet
-      → between (ascii " ") (length packet) (ascii " bytes, the first 16:") ++ bytesOfHex (take 16 packet) ≡ shownBytes packet
-  unfolding shownBytes
-  many-shown h = rw (lt-ltb limit (length packet) h) refl
-
-  pub many-length : limit < length packet → length (between (ascii " ") (length packet) (ascii " bytes, the first 16:")) ≤ 42
-      → length (shownBytes packet) ≤ 4416
-  many-length h b =
-      let t : length (take 16 packet) ≤ 16 = rw length-take (omega arith) in
-      let e = bytes-length (take 16 packet) in
-      rw (← many-shown h, length-append) (omega arith)
 
 -- what `why` says
 pub said-room : (packet store : List ℕ) (p : Pointers) → length (said packet store p) ≤ 24576

@@ -14,6 +14,7 @@ use Rattle.recording.specs.declared.Judgment.{Judgment}
 use Rattle.text.specs.Number.{ascii, bytesOfHex}
 use Rattle.text.specs.Line.{numbered, tooLongLine}
 use Rattle.why_output.specs.Wording as why
+use Rattle.why_output.specs.Packets.{shownBytes}
 
 -- the most bytes that a recording or a capture may have
 abbrev pub mostBytes : ℕ
@@ -67,13 +68,6 @@ repliesText rest reply k = bothReplies (bytesOfFront (behindFront rest)) reply k
 unfoldable pub badByteText : List ℕ → ℕ → ℕ → List ℕ → List ℕ → List ℕ
 badByteText frames i k rest reply =
     named (ascii "packet ") i frames i ++ between (ascii ", byte ") k (ascii " of its reply is wrong\n") ++ repliesText rest reply k
-
--- a packet's bytes; of one above 1,472 their number and the first 16
-unfoldable pub shownBytes : List ℕ → List ℕ
-shownBytes packet =
-    cond (ltb limit (length packet))
-    (between (ascii " ") (length packet) (ascii " bytes, the first 16:") ++ bytesOfHex (take 16 packet))
-    (bytesOfHex packet)
 
 unfoldable pub shownText : List ℕ → ℕ → List ℕ → List ℕ
 shownText frames i packet = named (ascii "packet ") i frames i ++ ascii " is refused:" ++ shownBytes packet ++ ascii "\n"

@@ -4,42 +4,24 @@ use crate::replies;
 use cue::frame;
 use cue::frame::Frame;
 use lbp16::pointer::Pointers;
-use packet::command::LIMIT;
 use text::least;
-use text::number;
 use text::pick;
+use why_output::packets;
 ghost use mathlib.Core.Path.{_≡_};
 ghost use Prim.Native.Nat.{_≤_};
 ghost use lib.ListN.{length};
 ghost use Rattle.cue.specs.Output.{frontOf};
 ghost use Rattle.text.specs.Room.{filled, putAt};
-ghost use Rattle.showcheck_output.specs.Findings.{shownBytes, shownText, unanswered, unansweredText, refusedText, badPacketText};
+ghost use Rattle.showcheck_output.specs.Findings.{shownText, unanswered, unansweredText, refusedText, badPacketText};
 
 // Each answers the place behind what it put.
-fn put_bytes(room: &mut [u8], at: usize, packet: &[u8]) -> usize
-    ensures { λ r. ⌜ filled r (now (room .exit)) ≡ putAt (shownBytes (now (packet .entry))) at (now (room .entry)) ⌝ }
-    ensures { λ r. ⌜ length (shownBytes (now (packet .entry))) ≤ 4416 ⌝ }
-{
-    if packet.len() <= LIMIT {
-        return number::bytes(room, at, packet);
-    }
-    let next = named::put_between(
-        room,
-        at,
-        b" ",
-        packet.len() as u64,
-        b" bytes, the first 16:",
-    );
-    number::bytes(room, next, &packet[..16])
-}
-
 fn put_shown(room: &mut [u8], frames: &[u32], i: u64, packet: &[u8]) -> usize
     ensures { λ r. ⌜ filled r (now (room .exit)) ≡ putAt (shownText (now (frames .entry)) i (now (packet .entry))) 0 (now (room .entry)) ⌝ }
     ensures { λ r. ⌜ length (shownText (now (frames .entry)) i (now (packet .entry))) ≤ 4485 ⌝ }
 {
     let next = named::put_named(room, 0, b"packet ", i, frames, i);
     let next = text::put(room, next, b" is refused:");
-    let next = put_bytes(room, next, packet);
+    let next = packets::put_bytes(room, next, packet);
     text::put(room, next, b"\n")
 }
 

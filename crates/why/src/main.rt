@@ -1,9 +1,10 @@
-// Why a packet is refused: a captured packet on standard input, from a fresh card or from the pointers in the file named.
-use card::check::STORE_BYTES;
+// Why a packet is refused: a captured packet on standard input, or packets behind "LB", or hexadecimal text of these, from a fresh card or
+// from the pointers in the file named.
+use input::Taken;
 use libc::STDIN_FILENO;
 use libc::STDOUT_FILENO;
-use packet::command::LIMIT;
-use why_output::given;
+use why_output::words;
+use why_output::words::Words;
 
 fn put(room: &[u8], said: usize) {
     if said <= room.len() {
@@ -11,26 +12,71 @@ fn put(room: &[u8], said: usize) {
     }
 }
 
-fn say(found: bool, file: &[u8], packet: &[u8], store: &[u8], room: &mut [u8; 16384]) {
-    let given = given::given_by(os::arg_count(), found);
-    let said = why_output::whole(given, file, packet, store, room);
-    put(room, said);
+fn take(w: Words, found: bool, bytes: &mut [u8]) -> Taken {
+    let most = words::most_read(w, found);
+    if bytes.len() < most {
+        return Taken::Failed;
+    }
+    input::all(STDIN_FILENO, &mut bytes[..most])
 }
 
-// Of each input one byte more is read than it may have, so that a longer one is noticed.
+fn answer(w: Words, found: bool, file: &[u8], bytes: &[u8], n: usize, room: &mut [u8; 16384]) {
+    if n <= bytes.len() {
+        let said = why_output::whole(w, found, file, &bytes[..n], room);
+        put(room, said);
+    }
+}
+
+// `bytes` has room for one byte more than the input may have, so that a longer one is noticed.
+fn serve(w: Words, found: bool, file: &[u8], bytes: &mut [u8; 3000001], room: &mut [u8; 16384]) {
+    let taken = take(w, found, bytes);
+    match taken {
+        Taken::Failed => input::cannot_read(),
+        Taken::Bytes(n) => answer(w, found, file, bytes, n, room),
+    }
+}
+
+// A file that cannot be opened has nothing to read.
+fn read_file(fd: i32, file: &mut [u8]) -> Taken {
+    if fd < 0 {
+        return Taken::Bytes(0);
+    }
+    input::all(fd, file)
+}
+
+fn open(w: Words, first: &[u8], second: &[u8], third: &[u8]) -> i32 {
+    let name = w.name;
+    match name {
+        1 => os::open_read(first),
+        2 => os::open_read(second),
+        3 => os::open_read(third),
+        _ => -1,
+    }
+}
+
+// `k`: how many bytes the file has.
+fn judge(w: Words, found: bool, file: &[u8], k: usize) {
+    if k <= file.len() {
+        serve(w, found, &file[..k], &mut [0; 3000001], &mut [0; 16384]);
+    }
+}
+
+fn start(w: Words, fd: i32, file: &mut [u8; 33]) {
+    let had = read_file(fd, file);
+    match had {
+        Taken::Failed => input::cannot_read(),
+        Taken::Bytes(k) => judge(w, 0 <= fd, file, k),
+    }
+}
+
 fn main() {
-    let mut path = io::buffer();
-    let n = os::arg(1, &mut path);
-    let fd = os::open_read(&path[..n]);
-    let mut file = [0u8; 33];
-    let k = io::read_full(fd, &mut file);
-    let mut packet = [0u8; LIMIT + 1];
-    let taken = io::read_full(STDIN_FILENO, &mut packet);
-    say(
-        0 <= fd,
-        &file[..k],
-        &packet[..taken],
-        &[0; STORE_BYTES],
-        &mut [0; 16384],
-    );
+    let mut first = io::buffer();
+    let n = os::arg(1, &mut first);
+    let mut second = io::buffer();
+    let m = os::arg(2, &mut second);
+    let mut third = io::buffer();
+    let k = os::arg(3, &mut third);
+    let w = words::words_of(os::arg_count(), &first[..n], &second[..m], &third[..k]);
+    let fd = open(w, &first[..n], &second[..m], &third[..k]);
+    start(w, fd, &mut [0; 33]);
 }

@@ -1,32 +1,11 @@
-// What the program is given besides the packet.
+// The file of the card's pointers.
 use lbp16::pointer::Pointer;
 use lbp16::pointer::Pointers;
 use lbp16::pointer::SpacePointers;
 use packet::bytes;
 ghost use mathlib.Core.Path.{_≡_};
 ghost use Prim.Native.Nat.{_+_, _*_, _≤_};
-ghost use Rattle.why_output.specs.Given.{quadAt, spacesIn, pointersIn, givenBy};
-
-// Nothing, so that the card is fresh; a file of pointers, or the name of one that cannot be opened; other arguments.
-pub enum Given {
-    Nothing,
-    File,
-    NoFile,
-    Others,
-}
-
-// `count`: the words that the program was started with, its name among them; `found`: whether the file named can be opened.
-pub fn given_by(count: usize, found: bool) -> Given
-    ensures { λ r. ⌜ r ≡ givenBy count found ⌝ }
-{
-    if count == 1 {
-        return Given::Nothing;
-    }
-    if count != 2 {
-        return Given::Others;
-    }
-    if found { Given::File } else { Given::NoFile }
-}
+ghost use Rattle.why_output.specs.Given.{quadAt, spacesIn, pointersIn};
 
 fn joined(low: u16, high: u16) -> u32
     ensures { λ r. ⌜ r ≡ low + 65536 * high ⌝ }

@@ -1,21 +1,34 @@
-use borrow.Author.Tests.{eq-eqb, ne-eqb}
+use borrow.Author.Tests.{not-true, not-false}
 use Rattle.text.specs.Number.{ascii}
-use Rattle.why_output.specs.Given.{wholeText}
+use Rattle.why_output.proofs.WholeLaws.{whole-wrong, whole-fresh, whole-lost, whole-short, whole-given}
 use borrow.Author.Needs.{needs}
 use Rattle.why_output.proofs.written.Statement.{statement}
 use Rattle.why_output.proofs.written.Tie as tie
 
-enum-told : tie.Need-enum-told
-enum-told c = search needs
+put-usage-requires : tie.Need-put-usage-requires
+put-usage-requires c κs = search needs
+
+same-length : tie.Need-same-length
+same-length c = search needs
+
+returns : tie.Need-returns
+returns c =
+    let a = c .before .before .before .before .before .before .before .before .args in
+    rw (whole-wrong (a .w) (a .found) (a .file .now) (a .input .now) (c .before .before .before .before .if1 .taken)) (c .before .before .put-usage .ensures)
 
 fresh-requires : tie.Need-fresh-requires
 fresh-requires c κs = search needs
 
-put-said-requires : tie.Need-put-said-requires
-put-said-requires c κs = search needs
+put-input-requires : tie.Need-put-input-requires
+put-input-requires c κs = search needs
 
-enum-told-2 : tie.Need-enum-told-2
-enum-told-2 c = search needs
+same-length-2 : tie.Need-same-length-2
+same-length-2 c = search needs
+
+returns-2 : tie.Need-returns-2
+returns-2 c =
+    let a = c .before .before .before .before .before .before .before .before .before .before .before .args in
+    rw (whole-fresh (a .w) (a .found) (a .file .now) (a .input .now) (c .before .before .before .before .before .before .before .if1 .left) (c .before .before .before .before .before .if2 .taken)) (rw (c .before .before .before .fresh .ensures) at (c .before .before .put-input .ensures))
 
 slice-aggregate-put : tie.Need-slice-aggregate-put
 slice-aggregate-put c = search needs
@@ -23,23 +36,14 @@ slice-aggregate-put c = search needs
 put-requires : tie.Need-put-requires
 put-requires c κs = search needs
 
-same-length : tie.Need-same-length
-same-length c = search needs
+same-length-3 : tie.Need-same-length-3
+same-length-3 c = search needs
 
-returns : tie.Need-returns
-unfolding wholeText ascii
-returns c =
-    let b = c .before .before .before .before .before in
-    rw (b .before .enum-told2 .given .1, ne-eqb _ 32 (b .if1 .taken)) (c .before .before .put .ensures)
-
-pointers-in-requires : tie.Need-pointers-in-requires
-pointers-in-requires c κs = search needs
-
-put-said-requires-2 : tie.Need-put-said-requires-2
-put-said-requires-2 c κs = search needs
-
-enum-told-3 : tie.Need-enum-told-3
-enum-told-3 c = search needs
+returns-3 : tie.Need-returns-3
+unfolding ascii
+returns-3 c =
+    let a = c .before .before .before .before .before .before .before .before .before .before .before .before .args in
+    rw (whole-lost (a .w) (a .found) (a .file .now) (a .input .now) (c .before .before .before .before .before .before .before .before .if1 .left) (c .before .before .before .before .before .before .if2 .left) (not-true _ (c .before .before .before .before .before .if3 .taken))) (c .before .before .put .ensures)
 
 slice-aggregate-put-2 : tie.Need-slice-aggregate-put-2
 slice-aggregate-put-2 c = search needs
@@ -47,73 +51,53 @@ slice-aggregate-put-2 c = search needs
 put-requires-2 : tie.Need-put-requires-2
 put-requires-2 c κs = search needs
 
-enum-told-4 : tie.Need-enum-told-4
-enum-told-4 c = search needs
-
-slice-aggregate-put-3 : tie.Need-slice-aggregate-put-3
-slice-aggregate-put-3 c = search needs
-
-put-requires-3 : tie.Need-put-requires-3
-put-requires-3 c κs = search needs
-
-same-length-2 : tie.Need-same-length-2
-same-length-2 c = search needs
-
-returns-2 : tie.Need-returns-2
-unfolding wholeText ascii
-returns-2 c =
-    let b = c .before .before .before in
-    rw (b .before .before .enum-told .given .1) (rw (b .fresh .ensures) at (c .before .before .put-said .ensures))
-
-same-length-3 : tie.Need-same-length-3
-same-length-3 c = search needs
-
-returns-3 : tie.Need-returns-3
-unfolding wholeText ascii
-returns-3 c =
-    let b = c .before .before .before in
-    rw (b .before .before .before .enum-told2 .given .1, eq-eqb _ 32 (b .before .before .if1 .left))
-    (rw (b .pointers-in .ensures) at (c .before .before .put-said2 .ensures))
-
 same-length-4 : tie.Need-same-length-4
 same-length-4 c = search needs
 
 returns-4 : tie.Need-returns-4
-unfolding wholeText ascii
-returns-4 c = rw (c .before .before .before .before .before .enum-told3 .given .1) (c .before .before .put2 .ensures)
+unfolding ascii
+returns-4 c =
+    let a = c .before .before .before .before .before .before .before .before .before .before .before .before .before .args in
+    let z = c .before .before .before .before .before in
+    rw (whole-short (a .w) (a .found) (a .file .now) (a .input .now) (z .before .before .before .before .if1 .left) (z .before .before .if2 .left) (not-false _ (z .before .if3 .left)) (z .if4 .taken))
+    (c .before .before .put2 .ensures)
+
+pointers-in-requires : tie.Need-pointers-in-requires
+pointers-in-requires c κs = search needs
+
+put-input-requires-2 : tie.Need-put-input-requires-2
+put-input-requires-2 c κs = search needs
 
 same-length-5 : tie.Need-same-length-5
 same-length-5 c = search needs
 
 returns-5 : tie.Need-returns-5
-unfolding wholeText ascii
-returns-5 c = rw (c .before .before .before .before .before .enum-told4 .given .1) (c .before .before .put3 .ensures)
+returns-5 c =
+    let a = c .before .before .before .before .before .before .before .before .before .before .before .before .before .args in
+    let z = c .before .before .before .before .before in
+    rw (whole-given (a .w) (a .found) (a .file .now) (a .input .now) (z .before .before .before .before .if1 .left) (z .before .before .if2 .left) (not-false _ (z .before .if3 .left)) (z .if4 .left))
+    (rw (c .before .before .before .pointers-in .ensures) at (c .before .before .put-input2 .ensures))
 
 pub written-spec : {M : Type 1} → statement M
 written-spec =
     tie.close
     (tie.spec
-    enum-told
-    fresh-requires
-    put-said-requires
-    enum-told-2
-    slice-aggregate-put
-    put-requires
+    put-usage-requires
     same-length
     returns
-    pointers-in-requires
-    put-said-requires-2
-    enum-told-3
-    slice-aggregate-put-2
-    put-requires-2
-    enum-told-4
-    slice-aggregate-put-3
-    put-requires-3
+    fresh-requires
+    put-input-requires
     same-length-2
     returns-2
+    slice-aggregate-put
+    put-requires
     same-length-3
     returns-3
+    slice-aggregate-put-2
+    put-requires-2
     same-length-4
     returns-4
+    pointers-in-requires
+    put-input-requires-2
     same-length-5
     returns-5)

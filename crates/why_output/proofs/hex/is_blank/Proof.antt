@@ -1,0 +1,11 @@
+use mathlib.Core.Path.{refl}
+use Rattle.why_output.specs.Hex.{isBlank}
+use Rattle.why_output.proofs.hex.is_blank.Statement.{statement}
+use Rattle.why_output.proofs.hex.is_blank.Tie as tie
+
+returns : tie.Need-returns
+unfolding isBlank
+returns c = refl
+
+pub is-blank-spec : {M : Type 1} → statement M
+is-blank-spec = tie.close (tie.spec returns)
