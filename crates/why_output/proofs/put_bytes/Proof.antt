@@ -31,7 +31,10 @@ same-length-2 c = search needs
 
 returns-2 : tie.Need-returns-2
 unfolding bytesText
-returns-2 c = rw (c .before .before .before .before .before .before .before .before .before .if1 .left) (put-then _ _ _ _ (c .before .before .before .before .before .before .put-judged .ensures) (c .before .before .put-framed-hint .ensures))
+returns-2 c =
+    let p = c .before .before .before .before .before .before in
+    let q = p .before .before .before in
+    rw (q .if1 .left) (put-then _ _ _ _ (p .put-judged .ensures) (c .before .before .put-framed-hint .ensures))
 
 pub put-bytes-spec : {M : Type 1} → statement M
 put-bytes-spec =

@@ -30,7 +30,10 @@ same-length c = search needs
 
 returns : tie.Need-returns
 unfolding hexText
-returns c = rw (read-bad _ _ _ _ (rw (c .before .before .before .before .before .found .given .1) at (c .before .before .before .before .before .before .before .read .ensures))) (c .before .before .put-bad .ensures)
+returns c =
+    let p = c .before .before .before .before .before in
+    let q = p .before .before in
+    rw (read-bad _ _ _ _ (rw (p .found .given .1) at (q .read .ensures))) (c .before .before .put-bad .ensures)
 
 same-length-2 : tie.Need-same-length-2
 same-length-2 c = search needs
@@ -38,11 +41,13 @@ same-length-2 c = search needs
 returns-2 : tie.Need-returns-2
 unfolding hexText
 returns-2 c =
-    let r = c .before .before .before .before .before .before .before .before .before .before in
-    let a = r .before .before .before .before in
+    let p = c .before .before .before in
+    let q = p .before .before .before .before .before in
+    let s = q .before .before in
+    let a = s .before .before .before .before in
     let l : length (a .args .bytes .now) ≡ 1500000 = search needs in
-    rw (read-whole _ _ _ _ (rw (c .before .before .before .before .before .before .before .before .found2 .given .1) at (r .read .ensures)) (omega (arith, a .pre)))
-    (rw (c .before .before .before .front .ensures) at (c .before .before .put-bytes .ensures))
+    rw (read-whole _ _ _ _ (rw (q .found2 .given .1) at (s .read .ensures)) (omega (arith, a .pre)))
+    (rw (p .front .ensures) at (c .before .before .put-bytes .ensures))
 
 pub put-hex-spec : {M : Type 1} → statement M
 put-hex-spec =

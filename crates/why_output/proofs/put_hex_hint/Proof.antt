@@ -24,7 +24,10 @@ same-length c = search needs
 
 returns : tie.Need-returns
 unfolding hexHint ascii
-returns c = rw (c .before .before .before .before .pick .ensures, c .before .before .before .before .before .before .before .looks-hex .ensures) at (c .before .before .put .ensures)
+returns c =
+    let p = c .before .before .before .before in
+    let q = p .before .before .before in
+    rw (p .pick .ensures, q .looks-hex .ensures) at (c .before .before .put .ensures)
 
 pub put-hex-hint-spec : {M : Type 1} → statement M
 put-hex-hint-spec =

@@ -23,8 +23,11 @@ same-length-2 c = search needs
 
 returns-2 : tie.Need-returns-2
 returns-2 c =
-    let a = c .before .before .before .before .before .before .before .before .before .args in
-    rw (input-hex (a .w) (a .input .now) (a .p) (c .before .before .before .before .before .before .if1 .left) (c .before .before .before .before .before .if2 .taken)) (c .before .before .put-hex .ensures)
+    let p = c .before .before .before .before .before in
+    let q = p .before in
+    let r = q .before .before .before in
+    let a = r .args in
+    rw (input-hex (a .w) (a .input .now) (a .p) (q .if1 .left) (p .if2 .taken)) (c .before .before .put-hex .ensures)
 
 put-bytes-requires : tie.Need-put-bytes-requires
 put-bytes-requires c κs = search needs
@@ -37,9 +40,13 @@ same-length-3 c = search needs
 
 returns-3 : tie.Need-returns-3
 returns-3 c =
-    let a = c .before .before .before .before .before .before .before .before .before .before .before .before .args in
-    rw (input-bytes (a .w) (a .input .now) (a .p) (c .before .before .before .before .before .before .before .before .before .if1 .left) (c .before .before .before .before .before .before .before .before .if2 .left))
-    (put-then _ _ _ _ (c .before .before .before .before .before .before .put-bytes .ensures) (c .before .before .put-hex-hint .ensures))
+    let p = c .before .before .before .before .before .before in
+    let q = p .before .before in
+    let r = q .before in
+    let s = r .before .before .before in
+    let a = s .args in
+    rw (input-bytes (a .w) (a .input .now) (a .p) (r .if1 .left) (q .if2 .left))
+    (put-then _ _ _ _ (p .put-bytes .ensures) (c .before .before .put-hex-hint .ensures))
 
 pub put-input-spec : {M : Type 1} → statement M
 put-input-spec =

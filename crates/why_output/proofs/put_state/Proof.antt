@@ -27,7 +27,10 @@ same-length c = search needs
 
 returns : tie.Need-returns
 unfolding stateText ascii
-returns c = rw (c .before .before .before .pick2 .ensures, c .before .before .before .before .before .before .pick .ensures) at (c .before .before .put .ensures)
+returns c =
+    let p = c .before .before .before in
+    let q = p .before .before .before in
+    rw (p .pick2 .ensures, q .pick .ensures) at (c .before .before .put .ensures)
 
 pub put-state-spec : {M : Type 1} → statement M
 put-state-spec =

@@ -27,8 +27,13 @@ same-length-2 c = search needs
 
 returns-2 : tie.Need-returns-2
 returns-2 c =
-    let a = c .before .before .before .before .before .before .before .before .before .before .before .args in
-    rw (whole-fresh (a .w) (a .found) (a .file .now) (a .input .now) (c .before .before .before .before .before .before .before .if1 .left) (c .before .before .before .before .before .if2 .taken)) (rw (c .before .before .before .fresh .ensures) at (c .before .before .put-input .ensures))
+    let p = c .before .before .before in
+    let q = p .before .before in
+    let r = q .before .before in
+    let s = r .before .before .before .before in
+    let a = s .args in
+    rw (whole-fresh (a .w) (a .found) (a .file .now) (a .input .now) (r .if1 .left) (q .if2 .taken))
+    (rw (p .fresh .ensures) at (c .before .before .put-input .ensures))
 
 slice-aggregate-put : tie.Need-slice-aggregate-put
 slice-aggregate-put c = search needs
@@ -42,8 +47,13 @@ same-length-3 c = search needs
 returns-3 : tie.Need-returns-3
 unfolding ascii
 returns-3 c =
-    let a = c .before .before .before .before .before .before .before .before .before .before .before .before .args in
-    rw (whole-lost (a .w) (a .found) (a .file .now) (a .input .now) (c .before .before .before .before .before .before .before .before .if1 .left) (c .before .before .before .before .before .before .if2 .left) (not-true _ (c .before .before .before .before .before .if3 .taken))) (c .before .before .put .ensures)
+    let p = c .before .before .before .before .before in
+    let q = p .before in
+    let r = q .before .before in
+    let s = r .before .before .before .before in
+    let a = s .args in
+    rw (whole-lost (a .w) (a .found) (a .file .now) (a .input .now) (r .if1 .left) (q .if2 .left) (not-true _ (p .if3 .taken)))
+    (c .before .before .put .ensures)
 
 slice-aggregate-put-2 : tie.Need-slice-aggregate-put-2
 slice-aggregate-put-2 c = search needs
@@ -57,9 +67,12 @@ same-length-4 c = search needs
 returns-4 : tie.Need-returns-4
 unfolding ascii
 returns-4 c =
-    let a = c .before .before .before .before .before .before .before .before .before .before .before .before .before .args in
-    let z = c .before .before .before .before .before in
-    rw (whole-short (a .w) (a .found) (a .file .now) (a .input .now) (z .before .before .before .before .if1 .left) (z .before .before .if2 .left) (not-false _ (z .before .if3 .left)) (z .if4 .taken))
+    let p = c .before .before .before .before .before in
+    let q = p .before .before .before .before .before .before .before .before in
+    let a = q .args in
+    rw
+    (whole-short (a .w) (a .found) (a .file .now) (a .input .now)
+    (p .before .before .before .before .if1 .left) (p .before .before .if2 .left) (not-false _ (p .before .if3 .left)) (p .if4 .taken))
     (c .before .before .put2 .ensures)
 
 pointers-in-requires : tie.Need-pointers-in-requires
@@ -73,10 +86,14 @@ same-length-5 c = search needs
 
 returns-5 : tie.Need-returns-5
 returns-5 c =
-    let a = c .before .before .before .before .before .before .before .before .before .before .before .before .before .args in
-    let z = c .before .before .before .before .before in
-    rw (whole-given (a .w) (a .found) (a .file .now) (a .input .now) (z .before .before .before .before .if1 .left) (z .before .before .if2 .left) (not-false _ (z .before .if3 .left)) (z .if4 .left))
-    (rw (c .before .before .before .pointers-in .ensures) at (c .before .before .put-input2 .ensures))
+    let p = c .before .before .before in
+    let q = p .before .before in
+    let r = q .before .before .before .before .before .before .before .before in
+    let a = r .args in
+    rw
+    (whole-given (a .w) (a .found) (a .file .now) (a .input .now)
+    (q .before .before .before .before .if1 .left) (q .before .before .if2 .left) (not-false _ (q .before .if3 .left)) (q .if4 .left))
+    (rw (p .pointers-in .ensures) at (c .before .before .put-input2 .ensures))
 
 pub written-spec : {M : Type 1} → statement M
 written-spec =

@@ -25,7 +25,11 @@ same-length : tie.Need-same-length Inv-loop μ-loop
 same-length c = c .before .before .before .before .before .loop .inv .room-bytes
 
 returns : tie.Need-returns Inv-loop μ-loop
-returns c = reading-bad (c .before .before .before .before .before .loop .inv) (c .before .before .before .before .loop-test .taken) (c .before .before .before .turn-at .ensures) _ (c .before .turn .given .1) _
+returns c =
+    let p = c .before .before .before in
+    let q = p .before in
+    let r = q .before in
+    reading-bad (r .loop .inv) (q .loop-test .taken) (p .turn-at .ensures) _ (c .before .turn .given .1) _
 
 enum-told : tie.Need-enum-told Inv-loop μ-loop
 enum-told c = search needs
@@ -37,7 +41,10 @@ loop-less : tie.Need-loop-less Inv-loop μ-loop
 loop-less c = search needs
 
 loop-again : tie.Need-loop-again Inv-loop μ-loop
-loop-again c = reading-blank (c .before .before .before .before .loop .inv) (c .before .before .before .loop-test .taken) (c .before .before .turn-at .ensures) (c .enum-told .given .1)
+loop-again c =
+    let p = c .before .before .before in
+    let q = p .before in
+    reading-blank (q .loop .inv) (p .loop-test .taken) (c .before .before .turn-at .ensures) (c .enum-told .given .1)
 
 enum-known-turn-2 : tie.Need-enum-known-turn-2 Inv-loop μ-loop
 enum-known-turn-2 c = search needs
@@ -49,13 +56,22 @@ put-requires : tie.Need-put-requires Inv-loop μ-loop
 put-requires c κs = search needs
 
 add-i-2 : tie.Need-add-i-2 Inv-loop μ-loop
-add-i-2 c = let w = byte-within _ _ (c .before .before .before .before .before .before .before .before .before .loop-test .taken) (c .before .before .before .before .before .before .before .before .turn-at .ensures) _ (c .before .before .before .before .before .before .turn2 .given .1) in omega arith
+add-i-2 c =
+    let p = c .before .before .before .before .before .before in
+    let q = p .before .before in
+    let r = q .before in
+    let w = byte-within _ _ (r .loop-test .taken) (q .turn-at .ensures) _ (p .turn2 .given .1) in omega arith
 
 loop-less-2 : tie.Need-loop-less-2 Inv-loop μ-loop
 loop-less-2 c = search needs
 
 loop-again-2 : tie.Need-loop-again-2 Inv-loop μ-loop
-loop-again-2 c = reading-byte (c .before .before .before .before .before .before .before .before .before .before .loop .inv) (c .before .before .before .before .before .before .before .before .before .loop-test .taken) (c .before .before .before .before .before .before .before .before .turn-at .ensures) _ (c .before .before .before .before .before .before .turn2 .given .1) (c .before .before .put .ensures)
+loop-again-2 c =
+    let p = c .before .before .before .before .before .before in
+    let q = p .before .before in
+    let r = q .before in
+    let s = r .before in
+    reading-byte (s .loop .inv) (r .loop-test .taken) (q .turn-at .ensures) _ (p .turn2 .given .1) (c .before .before .put .ensures)
 
 same-length-2 : tie.Need-same-length-2 Inv-loop μ-loop
 same-length-2 c = c .before .loop .inv .room-bytes

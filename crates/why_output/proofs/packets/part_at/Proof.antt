@@ -35,7 +35,10 @@ same-length : tie.Need-same-length
 same-length c = search needs
 
 returns-4 : tie.Need-returns-4
-returns-4 c = c .before .before .ran-at .ensures ∙ part-whole _ _ _ _ (c .before .before .before .before .before .before .before .frame-at .ensures) _ (c .before .before .before .before .before .frame .given .1)
+returns-4 c =
+    let p = c .before .before .before .before .before in
+    let q = p .before .before in
+    c .before .before .ran-at .ensures ∙ part-whole _ _ _ _ (q .frame-at .ensures) _ (p .frame .given .1)
 
 pub part-at-spec : {M : Type 1} → statement M
 part-at-spec =

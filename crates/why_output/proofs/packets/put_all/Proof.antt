@@ -43,8 +43,11 @@ same-length-2 c = search needs
 returns-2 : tie.Need-returns-2
 unfolding allText ascii
 returns-2 c =
-    rw (ne-eqb _ 0 (c .before .before .before .before .before .before .before .before .before .before .before .before .if1 .left))
-    (put-then _ _ _ _ (c .before .before .before .before .before .before .before .before .before .numbered .ensures) (rw (c .before .before .before .pick .ensures) at (c .before .before .put2 .ensures)))
+    let p = c .before .before .before in
+    let q = p .before .before .before .before .before .before in
+    let r = q .before .before .before in
+    rw (ne-eqb _ 0 (r .if1 .left))
+    (put-then _ _ _ _ (q .numbered .ensures) (rw (p .pick .ensures) at (c .before .before .put2 .ensures)))
 
 pub put-all-spec : {M : Type 1} → statement M
 put-all-spec =

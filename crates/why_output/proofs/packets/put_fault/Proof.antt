@@ -23,7 +23,9 @@ same-length c = search needs
 returns : tie.Need-returns
 unfolding faultText ascii
 returns c =
-    put-then _ _ _ _ (put-then _ _ _ _ (c .before .before .before .before .before .before .before .before .before .before .numbered .ensures) (c .before .before .before .before .before .before .put .ensures)) (c .before .before .put-state .ensures)
+    let p = c .before .before .before .before .before .before in
+    let q = p .before .before .before .before in
+    put-then _ _ _ _ (put-then _ _ _ _ (q .numbered .ensures) (p .put .ensures)) (c .before .before .put-state .ensures)
 
 pub put-fault-spec : {M : Type 1} → statement M
 put-fault-spec =

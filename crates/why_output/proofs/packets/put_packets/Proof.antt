@@ -8,7 +8,8 @@ use Rattle.why_output.proofs.packets.put_packets.Statement.{statement}
 use Rattle.why_output.proofs.packets.put_packets.Tie as tie
 
 abbrev Inv-loop : tie.InvT-loop
-Inv-loop room₀ given bytes store₀ pointers₀ used₀ i₀ rest₀ room store pointers used i rest = Judging given bytes store₀ pointers₀ store pointers used i rest × (room ≡ room₀)
+Inv-loop room₀ given bytes store₀ pointers₀ used₀ i₀ rest₀ room store pointers used i rest =
+    Judging given bytes store₀ pointers₀ store pointers used i rest × (room ≡ room₀)
 
 abbrev μ-loop : tie.MeasureT-loop
 μ-loop room₀ given bytes store₀ pointers₀ used₀ i₀ rest₀ room store pointers used i rest = length rest
@@ -26,16 +27,26 @@ put-stop-requires : tie.Need-put-stop-requires Inv-loop μ-loop
 put-stop-requires c κs = search needs
 
 same-length : tie.Need-same-length Inv-loop μ-loop
-same-length c = put-within _ _ _ (c .before .before .put-stop .ensures) .1 ∙ ap length (c .before .before .before .before .before .before .before .before .before .before .before .before .loop .inv .1)
+same-length c =
+    let p = c .before .before .before .before .before .before .before .before .before .before .before .before in
+    put-within _ _ _ (c .before .before .put-stop .ensures) .1 ∙ ap length (p .loop .inv .1)
 
 same-length-2 : tie.Need-same-length-2 Inv-loop μ-loop
-same-length-2 c = c .before .before .before .before .before .before .before .before .before .before .part-at .kept .1 .0 ∙ c .before .before .before .before .before .before .before .before .before .before .before .before .loop .inv .0 .store-bytes
+same-length-2 c =
+    let p = c .before .before .before .before .before .before .before .before .before .before in
+    let q = p .before .before in
+    p .part-at .kept .1 .0 ∙ q .loop .inv .0 .store-bytes
 
 returns : tie.Need-returns Inv-loop μ-loop
 returns c =
     let p = c .before .before .before .before .before .before .before .before .before .before in
     let l = p .before .before .loop .inv in
-    rw (judging-stop (l .0) (p .part-at .ensures) (c .before .before .before .before .before .before .is-stop .ensures) (c .before .before .before .before .before .if1 .taken), l .1) at (c .before .before .put-stop .ensures)
+    rw (
+      judging-stop (l .0) (p .part-at .ensures)
+          (c .before .before .before .before .before .before .is-stop .ensures) (c .before .before .before .before .before .if1 .taken),
+      l .1,
+    )
+    at (c .before .before .put-stop .ensures)
 
 accepted-bytes-requires : tie.Need-accepted-bytes-requires Inv-loop μ-loop
 accepted-bytes-requires c κs = search needs
@@ -50,20 +61,28 @@ add-i : tie.Need-add-i Inv-loop μ-loop
 add-i c =
     let p = c .before .before .before .before .before .before .before .before in
     let s = p .before .before .loop .inv .0 in
-    let w = judging-within s (p .part-at .ensures) (c .before .before .before .before .is-stop .ensures) (c .before .before .before .if1 .left) _ (c .before .before .accepted-bytes .ensures) in
+    let w =
+    judging-within s (p .part-at .ensures)
+    (c .before .before .before .before .is-stop .ensures) (c .before .before .before .if1 .left) _
+    (c .before .before .accepted-bytes .ensures) in
     omega (arith, s .few, w)
 
 add-end : tie.Need-add-end Inv-loop μ-loop
 add-end c =
     let p = c .before .before .before .before .before .before .before .before in
     let s = p .before .before .loop .inv .0 in
-    let w = judging-within s (p .part-at .ensures) (c .before .before .before .before .is-stop .ensures) (c .before .before .before .if1 .left) _ (c .before .before .accepted-bytes .ensures) in
+    let w =
+    judging-within s (p .part-at .ensures)
+    (c .before .before .before .before .is-stop .ensures) (c .before .before .before .if1 .left) _
+    (c .before .before .accepted-bytes .ensures) in
     omega (arith, s .few, w)
 
 sub-rest : tie.Need-sub-rest Inv-loop μ-loop
 sub-rest c =
     let p = c .before .before .before .before .before .before .before .before in
-    judging-within (p .before .before .loop .inv .0) (p .part-at .ensures) (c .before .before .before .before .is-stop .ensures) (c .before .before .before .if1 .left) _ (c .before .before .accepted-bytes .ensures)
+    judging-within (p .before .before .loop .inv .0) (p .part-at .ensures)
+    (c .before .before .before .before .is-stop .ensures) (c .before .before .before .if1 .left) _
+    (c .before .before .accepted-bytes .ensures)
 
 part-rest-start : tie.Need-part-rest-start Inv-loop μ-loop
 part-rest-start c = sub-rest c
@@ -75,14 +94,18 @@ loop-less : tie.Need-loop-less Inv-loop μ-loop
 loop-less c =
     let p = c .before .before .before .before .before .before .before .before .before in
     let w =
-    judging-within (p .before .before .loop .inv .0) (p .part-at .ensures) (c .before .before .before .before .before .is-stop .ensures) (c .before .before .before .before .if1 .left) _ (c .before .before .before .accepted-bytes .ensures) in
+    judging-within (p .before .before .loop .inv .0) (p .part-at .ensures)
+    (c .before .before .before .before .before .is-stop .ensures) (c .before .before .before .before .if1 .left) _
+    (c .before .before .before .accepted-bytes .ensures) in
     simp (length-take, length-drop) (omega (arith, w))
 
 loop-again : tie.Need-loop-again Inv-loop μ-loop
 loop-again c =
     let p = c .before .before .before .before .before .before .before .before .before in
     let l = p .before .before .loop .inv in (
-      judging-next (l .0) (p .part-at .ensures) (c .before .before .before .before .before .is-stop .ensures) (c .before .before .before .before .if1 .left) _ (c .before .before .before .accepted-bytes .ensures) _ _
+      judging-next (l .0) (p .part-at .ensures)
+          (c .before .before .before .before .before .is-stop .ensures) (c .before .before .before .before .if1 .left) _
+          (c .before .before .before .accepted-bytes .ensures) _ _
           (c .before .before .in-frame .ensures)
           (c .before .pointed-in .ensures)
           (p .part-at .kept .1 .0),

@@ -79,9 +79,10 @@ same-length-4 c = search needs
 returns-4 : tie.Need-returns-4
 unfolding stopText
 returns-4 c =
-    let z = c .before .before .before .before .before .before .before .before in
-    rw (z .before .before .part .given .1)
-    (put-then _ _ _ _ (rw (z .in-frame .ensures) at (c .before .before .before .before .before .before .put-shown .ensures)) (rw (z .in-frame .ensures) at (c .before .before .put-judged .ensures)))
+    let p = c .before .before .before .before .before .before in
+    let q = p .before .before in
+    rw (q .before .before .part .given .1)
+    (put-then _ _ _ _ (rw (q .in-frame .ensures) at (p .put-shown .ensures)) (rw (q .in-frame .ensures) at (c .before .before .put-judged .ensures)))
 
 same-length-5 : tie.Need-same-length-5
 same-length-5 c = search needs

@@ -22,13 +22,19 @@ same-length : tie.Need-same-length
 same-length c = search needs
 
 returns : tie.Need-returns
-returns c = ran-accepted _ _ _ _ _ (rw (c .before .before .before .before .before .before .before .before .before .in-frame .ensures) at (c .before .before .before .before .before .before .run .ensures .0)) _ (c .enum-told .given .1)
+returns c =
+    let p = c .before .before .before .before .before .before in
+    let q = p .before .before .before in
+    ran-accepted _ _ _ _ _ (rw (q .in-frame .ensures) at (p .run .ensures .0)) _ (c .enum-told .given .1)
 
 same-length-2 : tie.Need-same-length-2
 same-length-2 c = search needs
 
 returns-2 : tie.Need-returns-2
-returns-2 c = ran-refused _ _ _ _ _ (rw (c .before .before .before .before .before .before .before .before .before .in-frame .ensures) at (c .before .before .before .before .before .before .run .ensures .0)) _ (c .enum-told2 .given .1)
+returns-2 c =
+    let p = c .before .before .before .before .before .before in
+    let q = p .before .before .before in
+    ran-refused _ _ _ _ _ (rw (q .in-frame .ensures) at (p .run .ensures .0)) _ (c .enum-told2 .given .1)
 
 pub ran-at-spec : {M : Type 1} → statement M
 ran-at-spec =

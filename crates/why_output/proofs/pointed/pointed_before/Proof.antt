@@ -47,7 +47,12 @@ part-rest-end : tie.Need-part-rest-end Inv-loop μ-loop
 part-rest-end c = search needs
 
 loop-less : tie.Need-loop-less Inv-loop μ-loop
-loop-less c = looking-less (c .before .before .before .before .before .before .before .before .loop .inv) (c .before .before .before .before .before .before .before .loop-test .taken) (rw (c .before .before .before .before .fields-at .ensures) at (c .before .before .before .command-bytes .ensures)) (c .before .before .least .ensures)
+loop-less c =
+    let p = c .before .before .before in
+    let q = p .before in
+    let r = q .before .before .before in
+    let s = r .before in
+    looking-less (s .loop .inv) (r .loop-test .taken) (rw (q .fields-at .ensures) at (p .command-bytes .ensures)) (c .before .before .least .ensures)
 
 loop-again : tie.Need-loop-again Inv-loop μ-loop
 loop-again c =

@@ -23,7 +23,10 @@ same-requires-2 c κs = search needs
 
 returns-2 : tie.Need-returns-2
 unfolding withWord ascii
-returns-2 c = rw (← c .before .before .before .before .before .same .ensures, c .before .before .before .before .if1 .left, ← c .before .before .same2 .ensures, c .before .if2 .taken) refl
+returns-2 c =
+    let p = c .before .before .before .before in
+    let q = p .before in
+    rw (← q .same .ensures, p .if1 .left, ← c .before .before .same2 .ensures, c .before .if2 .taken) refl
 
 is-option-requires : tie.Need-is-option-requires
 is-option-requires c κs = search needs
@@ -31,8 +34,10 @@ is-option-requires c κs = search needs
 returns-3 : tie.Need-returns-3
 unfolding withWord ascii
 returns-3 c =
-    let a = c .before .before .before .before in
-    rw (← a .before .before .before .same .ensures, a .before .before .if1 .left, ← a .same2 .ensures, c .before .before .before .if2 .left, c .before .is-option .ensures) refl
+    let p = c .before .before .before in
+    let q = p .before in
+    rw
+    (← q .before .before .before .same .ensures, q .before .before .if1 .left, ← q .same2 .ensures, p .if2 .left, c .before .is-option .ensures) refl
 
 pub with-word-spec : {M : Type 1} → statement M
 with-word-spec =

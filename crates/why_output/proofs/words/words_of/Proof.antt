@@ -27,7 +27,10 @@ with-word-requires-2 : tie.Need-with-word-requires-2
 with-word-requires-2 c κs = search needs
 
 returns-4 : tie.Need-returns-4
-returns-4 c = c .before .with-word2 .ensures ∙ rw (c .before .before .before .with-word .ensures, c .before .before .before .before .before .no-words2 .ensures) (words-two _ _ _ _ (c .if4 .taken))
+returns-4 c =
+    let p = c .before .before .before in
+    let q = p .before .before in
+    c .before .with-word2 .ensures ∙ rw (p .with-word .ensures, q .no-words2 .ensures) (words-two _ _ _ _ (c .if4 .taken))
 
 with-word-requires-3 : tie.Need-with-word-requires-3
 with-word-requires-3 c κs = search needs
