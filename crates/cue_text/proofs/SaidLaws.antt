@@ -1,12 +1,12 @@
 -- Laws of what a line says.
-use Prim.Native.Nat.{ℕ, zero, suc, _+_, _-_, min, _≤_}
+use Prim.Native.Nat.{ℕ, zero, suc, _+_, _-_, min, _≤_, _<_}
 use mathlib.Core.Path.{_≡_, refl, sym, ap, _∙_}
 use mathlib.Core.Logic.{_≢_}
 use mathlib.Core.List.{List, [], _∷_, _++_}
 use mathlib.Core.Bool.{Bool, true, false, not, _||_, cond}
 use native.Mathlib.Omega.{arith}
-use lib.ListN.{length, getD, take, drop, length-drop}
-use lib.Seq.{drop-drop, getD-drop}
+use lib.ListN.{length, getD, take, drop, length-drop, length-take}
+use lib.Seq.{drop-drop, getD-drop, take-take, take-length}
 use lib.Dec.{eqb}
 use Rattle.text.specs.Number.{ascii}
 use Rattle.text.specs.Find.{sameBytes}
@@ -19,7 +19,8 @@ use Rattle.cue_text.specs.Numbers.{Value, none, value, spaceOf, addressO
 use Rattle.cue_text.specs.Text.{Form, unknown, formOf, readForm, writeForm, nameForm, Place, nowhere, place, placeBy, placeOf, isKnown}
 use Rattle.cue_text.specs.Text.{Name, mostNames, bytesOfCue, readOf, writeOf, Meaning, refused, defines, does, unless, recordMeaning}
 use Rattle.cue_text.specs.Text.{readMeaning, writeMeaning, nameMeaning, formMeaning, lineMeaning}
-use Rattle.cue_text.specs.Inside.{lineAt, wordsHere, wordIn, HoldsWords, LineHere, given, valueIn, located, placeIn, nameBy, nameAt}
+use Rattle.cue_text.specs.Inside.{lineAt, wordsHere, wordIn, HoldsWords, LineHere, given, valueIn, located, placeIn, nameBy}
+use Rattle.cue_text.specs.Inside.{definedAt, far, kept, nameAt}
 use Rattle.cue_text.specs.Inside.{readShape, writeShape, nameShape, shapeOf, formed, tenBytes}
 use Rattle.cue_text.specs.declared.word.Words.{Words}
 use Rattle.cue_text.specs.declared.number.Number.{Number}
@@ -27,6 +28,8 @@ use Rattle.cue_text.specs.declared.known.Located.{Located}
 use Rattle.cue_text.specs.declared.line.Cue.{Cue}
 use Rattle.cue_text.specs.declared.line.Shape.{Shape}
 use Rattle.cue_text.proofs.WordLaws.{words-at}
+use Rattle.cue_text.proofs.NumberLaws.{address-small}
+use Rattle.cue_text.proofs.KnownLaws.{kept-name}
 
 -- one of three first words, or none of them
 pick-form : (r w n : Bool) (b c d : List ℕ) (p q s : Shape) {x y z : Form} → x ≡ formed p b c d → y ≡ formed q b c d → z ≡ formed s b c d
@@ -63,20 +66,54 @@ form-is (a ∷ b ∷ c ∷ d ∷ e ∷ ws) =
 pub line-here : (text : List ℕ) (k : ℕ) (rest : List ℕ) (w : Words) → rest ≡ drop k text → HoldsWords rest w → k ≤ length text → LineHere text k rest w
 line-here text k rest w e h l = record { rest-is = e; words = h; within = l }
 
+-- a place that was found has its two numbers
+module _ (s a : Value) where
+  pub found-none : located (placeBy s a) .found ≡ false → placeBy s a ≡ nowhere
+  unfolding located
+  found-none e = go (placeBy s a) e
+    where
+      go : (p : Place) → located p .found ≡ false → p ≡ nowhere
+      go nowhere e = refl
+      go (place x y) e = let z : _≡_ {A = ℕ} 0 1 = cc in absurd (omega arith)
+
+  pub found-some : located (placeBy s a) .found ≡ true → placeBy s a ≡ place (located (placeBy s a) .space) (located (placeBy s a) .address)
+  unfolding located
+  found-some e = go (placeBy s a) e
+    where
+      go : (p : Place) → located p .found ≡ true → p ≡ place (located p .space) (located p .address)
+      go nowhere e = let z : _≡_ {A = ℕ} 0 1 = cc in absurd (omega arith)
+      go (place x y) e = refl
+
+  pub found-numbers : located (placeBy s a) .found ≡ true
+      → (located (placeBy s a) .space ≡ given s .value) × (located (placeBy s a) .address ≡ given a .value)
+  unfolding located placeBy given
+  found-numbers e = go s a e
+    where
+      go : (s a : Value) → located (placeBy s a) .found ≡ true
+          → (located (placeBy s a) .space ≡ given s .value) × (located (placeBy s a) .address ≡ given a .value)
+      go none a e = let z : _≡_ {A = ℕ} 0 1 = cc in absurd (omega arith)
+      go (value s) none e = let z : _≡_ {A = ℕ} 0 1 = cc in absurd (omega arith)
+      go (value s) (value a) e = (refl, refl)
+
+take-taken : (m : ℕ) (l : List ℕ) → take (length (take m l)) l ≡ take m l
+take-taken m l = sym (take-take (length (take m l)) m l (omega (arith, length-take m l))) ∙ take-length (take m l)
+
 -- a line by the words that are held of it
 module _ (text : List ℕ) (k : ℕ) (rest : List ℕ) (w : Words) (h : LineHere text k rest w) where
+  behind : drop (k + w .second .from) text ≡ drop (w .second .from) rest
+  behind = rw (h .rest-is) (sym (drop-drop (w .second .from) k text))
+
   -- the name that it defines, read again
-  pub defined-name : nameAt text (k + w .second .from)
+  defined-name : definedAt text (k + w .second .from)
       ≡ record {
         name = wordIn rest (w .second);
         space = given (spaceOf (wordIn rest (w .third))) .value;
         address = given (addressOf (wordIn rest (w .fourth))) .value;
       }
-  unfolding nameAt nameBy
+  unfolding definedAt nameBy
   defined-name =
       let q = h .words in
-      let d : drop (k + w .second .from) text ≡ drop (w .second .from) rest = rw (h .rest-is) (sym (drop-drop (w .second .from) k text)) in
-      let b : wordsHere [] (drop (k + w .second .from) text) ≡ drop 1 (wordsHere [] rest) = ap (wordsHere []) d ∙ q .behind in
+      let b : wordsHere [] (drop (k + w .second .from) text) ≡ drop 1 (wordsHere [] rest) = ap (wordsHere []) behind ∙ q .behind in
       rw (b, q .second, q .third, q .fourth, getD-drop 1 (wordsHere [] rest) 0 [], getD-drop 1 (wordsHere [] rest) 1 [], getD-drop 1 (wordsHere [] rest) 2 [])
       refl
 
@@ -84,6 +121,28 @@ module _ (text : List ℕ) (k : ℕ) (rest : List ℕ) (w : Words) (h : LineHere
   name-within =
       let l : length rest ≡ length text - k = ap length (h .rest-is) ∙ length-drop k text in
       omega (arith, h .words .within, h .within)
+
+  -- and as it is kept
+  pub kept-defined : length text < far → (p : Located) → p ≡ located (placeBy (spaceOf (wordIn rest (w .third))) (addressOf (wordIn rest (w .fourth))))
+      → p .found ≡ true → (name : List ℕ) → name ≡ wordIn rest (w .second) → {x : ℕ}
+      → x ≡ kept (k + w .second .from) (length name) (p .space) (p .address)
+      → nameAt text x
+      ≡ record {
+        name = wordIn rest (w .second);
+        space = given (spaceOf (wordIn rest (w .third))) .value;
+        address = given (addressOf (wordIn rest (w .fourth))) .value;
+      }
+  unfolding wordIn
+  kept-defined l p e f name g i =
+      let v = found-numbers (spaceOf (wordIn rest (w .third))) (addressOf (wordIn rest (w .fourth))) (rw e at f) in
+      let part : take (length name) (drop (k + w .second .from) text) ≡ wordIn rest (w .second) =
+      rw (behind, g) (take-taken (w .second .to - w .second .from) (drop (w .second .from) rest)) in
+      let at : k + w .second .from < far = omega (arith, name-within) in
+      rw (i, e, v .0, v .1)
+      (kept-name text (wordIn rest (w .second)) (k + w .second .from) (length name) _ _ at
+      (omega (arith, address-small (wordIn rest (w .fourth))))
+      part
+      defined-name)
 
 module _ (text : List ℕ) (k : ℕ) (rest : List ℕ) (w : Words) (h : LineHere text k rest w) (known : List Name) (index : ℕ) where
   held-form : formed (shapeOf (getD (wordsHere [] rest) 0 []) (min 5 (length (wordsHere [] rest)))) (getD (wordsHere [] rest) 1 [])
@@ -183,35 +242,6 @@ module _ (n : ℕ) (p : Located) (index : ℕ) where
         → recordMeaning index (writeOf (p .space) (p .address) (v .value)) ≡ writeMeaning n (placeIn p) (valueIn v) index
     unfolding placeIn valueIn writeMeaning
     write-there e f = rw (e, f) refl
-
--- a place that was found has its two numbers
-module _ (s a : Value) where
-  pub found-none : located (placeBy s a) .found ≡ false → placeBy s a ≡ nowhere
-  unfolding located
-  found-none e = go (placeBy s a) e
-    where
-      go : (p : Place) → located p .found ≡ false → p ≡ nowhere
-      go nowhere e = refl
-      go (place x y) e = let z : _≡_ {A = ℕ} 0 1 = cc in absurd (omega arith)
-
-  pub found-some : located (placeBy s a) .found ≡ true → placeBy s a ≡ place (located (placeBy s a) .space) (located (placeBy s a) .address)
-  unfolding located
-  found-some e = go (placeBy s a) e
-    where
-      go : (p : Place) → located p .found ≡ true → p ≡ place (located p .space) (located p .address)
-      go nowhere e = let z : _≡_ {A = ℕ} 0 1 = cc in absurd (omega arith)
-      go (place x y) e = refl
-
-  pub found-numbers : located (placeBy s a) .found ≡ true
-      → (located (placeBy s a) .space ≡ given s .value) × (located (placeBy s a) .address ≡ given a .value)
-  unfolding located placeBy given
-  found-numbers e = go s a e
-    where
-      go : (s a : Value) → located (placeBy s a) .found ≡ true
-          → (located (placeBy s a) .space ≡ given s .value) × (located (placeBy s a) .address ≡ given a .value)
-      go none a e = let z : _≡_ {A = ℕ} 0 1 = cc in absurd (omega arith)
-      go (value s) none e = let z : _≡_ {A = ℕ} 0 1 = cc in absurd (omega arith)
-      go (value s) (value a) e = (refl, refl)
 
 -- a definition, rule by rule
 module _ (n s a : List ℕ) (known : List Name) (p : Located) (e : p ≡ located (placeBy (spaceOf s) (addressOf a))) where

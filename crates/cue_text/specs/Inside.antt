@@ -1,5 +1,5 @@
 -- The inside of private functions' contracts.
-use Prim.Native.Nat.{ℕ, suc, _+_, _-_, min, _≤_, _<_, _^_}
+use Prim.Native.Nat.{ℕ, suc, _+_, _-_, _*_, _/_, _%_, min, _≤_, _<_, _^_}
 use mathlib.Core.Path.{_≡_}
 use mathlib.Core.List.{List, [], _∷_, _++_, map}
 use mathlib.Core.Bool.{Bool, true, false, not, _||_, _&&_, cond}
@@ -111,16 +111,40 @@ located (place s a) = record { found = true; space = s; address = a }
 unfoldable pub placeIn : Located → Place
 placeIn p = cond (p .found) (place (p .space) (p .address)) nowhere
 
--- the name whose definition's second word stands at a place of the text
+-- The name whose definition's second word stands at a place of the text.
 unfoldable pub nameBy : List (List ℕ) → Name
 nameBy ws =
     record { name = getD ws 0 []; space = given (spaceOf (getD ws 1 [])) .value; address = given (addressOf (getD ws 2 [])) .value }
 
+unfoldable pub definedAt : List ℕ → ℕ → Name
+definedAt text k = nameBy (wordsHere [] (drop k text))
+
+-- A name is kept as one number: its place in the text, its bytes less one, its space and its address. One that is defined at or behind
+-- `near` is kept as `far` and its place, and is read again from there.
+abbrev pub near : ℕ
+near = 2 ^ 39
+
+abbrev pub far : ℕ
+far = 2 ^ 63
+
+unfoldable pub keptNear : ℕ → ℕ → ℕ → ℕ → ℕ
+keptNear k n s a = 16777216 * k + 524288 * (n - 1) + 65536 * s + a
+
+unfoldable pub isNear : ℕ → ℕ → ℕ → Bool
+isNear k n s = ltb k near && ltb 0 n && ltb n 33 && ltb s 8
+
+unfoldable pub kept : ℕ → ℕ → ℕ → ℕ → ℕ
+kept k n s a = cond (isNear k n s) (keptNear k n s a) (far + k)
+
+unfoldable pub nearName : List ℕ → ℕ → Name
+nearName text x =
+    record { name = take (x / 524288 % 32 + 1) (drop (x / 16777216) text); space = x / 65536 % 8; address = x % 65536 }
+
 unfoldable pub nameAt : List ℕ → ℕ → Name
-nameAt text k = nameBy (wordsHere [] (drop k text))
+nameAt text x = cond (ltb x far) (nearName text x) (definedAt text (x - far))
 
 unfoldable pub namesAt : List ℕ → List ℕ → List Name
-namesAt text places = map (nameAt text) places
+namesAt text table = map (nameAt text) table
 
 -- the form that a first word and a number of words make, and the form itself with the other words
 unfoldable pub readShape : ℕ → Shape

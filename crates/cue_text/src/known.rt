@@ -1,16 +1,17 @@
-// Names. A text's names are kept as the places where their definitions' second words stand, and read again from there.
+// Names. A text's names are kept as a number each, so that a use of one costs no more than all the names' bytes.
 use crate::number;
 use crate::word;
+use crate::word::Word;
 use text::find;
 use text::least;
 ghost use mathlib.Core.Path.{_≡_};
 ghost use mathlib.Core.Bool.{not, _||_};
+ghost use Prim.Native.Nat.{_<_};
 ghost use lib.Dec.{eqb};
 ghost use lib.ListN.{length, drop};
-ghost use Rattle.text.specs.Find.{sameBytes};
 ghost use Rattle.cue_text.specs.Numbers.{spaceOf, addressOf, isLetter, isNameByte, allNameBytes, startsWithLetter, isKeyword, isName};
 ghost use Rattle.cue_text.specs.Text.{place, placeBy, placeOf, isKnown, mostNames};
-ghost use Rattle.cue_text.specs.Inside.{located, nameAt, namesAt};
+ghost use Rattle.cue_text.specs.Inside.{located, definedAt, near, far, keptNear, kept, nameAt, namesAt};
 
 // Where a line reads or writes, or nowhere, and then 0.
 pub(crate) struct Located {
@@ -50,17 +51,46 @@ pub(crate) fn place_by(space: &[u8], address: &[u8]) -> Located
     }
 }
 
-fn is_named(text: &[u8], at: usize, name: &[u8]) -> bool
-    ensures { λ r. ⌜ r ≡ sameBytes (nameAt (now (text .entry)) at .name) (now (name .entry)) ⌝ }
+// A name is kept as its place in the text, its bytes less one, its space and its address: 39, 5, 3 and 16 bits. The few that do not fit are
+// kept as their place alone, and read again from there.
+const NEAR: usize = 549755813888;
+
+const FAR: usize = 9223372036854775808;
+
+fn kept_near(at: usize, n: usize, p: Located) -> usize
+    requires { ⌜ (at < near) × (0 < n) × (n < 33) × (p .space < 8) ⌝ }
+    ensures { λ r. ⌜ r ≡ keptNear at n (p .space) (p .address) ⌝ }
 {
-    let rest = rest_at(text, at);
-    let w = word::word_at(rest, 0);
-    find::same(word::part(rest, w), name)
+    let space = p.space as usize;
+    16777216 * at + 524288 * (n - 1) + 65536 * space + p.address as usize
+}
+
+pub(crate) fn kept(at: usize, n: usize, p: Located) -> usize
+    requires { ⌜ at < far ⌝ }
+    ensures { λ r. ⌜ r ≡ kept at n (p .space) (p .address) ⌝ }
+{
+    if (at < NEAR) & (0 < n) & (n < 33) & (p.space < 8) {
+        return kept_near(at, n, p);
+    }
+    FAR + at
+}
+
+// The bytes of a name that is kept.
+fn name_kept(text: &[u8], x: usize) -> &[u8]
+    ensures { λ r. ⌜ now r ≡ nameAt (now (text .entry)) x .name ⌝ }
+{
+    if x < FAR {
+        let from = x / 16777216;
+        let to = from + x / 524288 % 32 + 1;
+        return word::part(text, Word { from, to });
+    }
+    let rest = rest_at(text, x - FAR);
+    word::part(rest, word::word_at(rest, 0))
 }
 
 // What a name stands for, read from its definition.
-fn named(text: &[u8], at: usize) -> Located
-    ensures { λ r. ⌜ r ≡ located (place (nameAt (now (text .entry)) at .space) (nameAt (now (text .entry)) at .address)) ⌝ }
+fn defined_at(text: &[u8], at: usize) -> Located
+    ensures { λ r. ⌜ r ≡ located (place (definedAt (now (text .entry)) at .space) (definedAt (now (text .entry)) at .address)) ⌝ }
 {
     let rest = rest_at(text, at);
     let w = word::words_of(rest);
@@ -73,14 +103,28 @@ fn named(text: &[u8], at: usize) -> Located
     }
 }
 
-// What a name stands for, of those whose places are given.
+// What a name that is kept stands for.
+fn place_kept(text: &[u8], x: usize) -> Located
+    ensures { λ r. ⌜ r ≡ located (place (nameAt (now (text .entry)) x .space) (nameAt (now (text .entry)) x .address)) ⌝ }
+{
+    if x < FAR {
+        return Located {
+            found: true,
+            space: (x / 65536 % 8) as u8,
+            address: (x % 65536) as u16,
+        };
+    }
+    defined_at(text, x - FAR)
+}
+
+// What a name stands for, of those that are kept.
 pub(crate) fn place_of(text: &[u8], table: &[usize], name: &[u8]) -> Located
     ensures { λ r. ⌜ r ≡ located (placeOf (now (name .entry)) (namesAt (now (text .entry)) (now (table .entry)))) ⌝ }
 {
     let mut i: usize = 0;
     while i < table.len() {
-        if is_named(text, table[i], name) {
-            return named(text, table[i]);
+        if find::same(name_kept(text, table[i]), name) {
+            return place_kept(text, table[i]);
         }
         i += 1;
     }

@@ -38,7 +38,7 @@ pub(crate) enum Shape {
     Unknown,
 }
 
-// A name is defined by the place where it stands in the text.
+// A name is defined by the number that it is kept as.
 pub(crate) enum Said {
     Refused(u32),
     Nothing,
@@ -230,7 +230,8 @@ fn name_at(text: &[u8], place: usize, table: &[usize], rest: &[u8], w: Words) ->
     if !p.found {
         return Said::Refused(82);
     }
-    if known::bad_name(text, table, word::part(rest, w.second)) {
+    let name = word::part(rest, w.second);
+    if known::bad_name(text, table, name) {
         return Said::Refused(83);
     }
     let c = Cue {
@@ -243,7 +244,7 @@ fn name_at(text: &[u8], place: usize, table: &[usize], rest: &[u8], w: Words) ->
     if number != 0 {
         return Said::Refused(number);
     }
-    Said::Defines(place + w.second.from)
+    Said::Defines(known::kept(place + w.second.from, name.len(), p))
 }
 
 // The line at a place of the text, with the names that are known above it and so many records above it.

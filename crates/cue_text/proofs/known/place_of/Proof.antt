@@ -10,8 +10,6 @@ use Rattle.cue_text.proofs.known.place_of.Statement.{statement}
 use Rattle.cue_text.proofs.known.place_of.Tie as tie
 use Rattle.cue_text.proofs.known.place_of.Reads as reads
 use Rattle.cue_text.proofs.known.place_of.Lts as lts
-use Rattle.cue_text.proofs.known.is_named.Reads as is-named-reads
-use Rattle.cue_text.proofs.known.named.Reads as named-reads
 
 abbrev Inv-loop : tie.InvT-loop
 Inv-loop text table name i₀ i = (placeOf name (namesAt text (drop i table)) ≡ placeOf name (namesAt text table)) × (i ≤ length table)
@@ -22,30 +20,34 @@ abbrev μ-loop : tie.MeasureT-loop
 loop-holds : tie.Need-loop-holds Inv-loop μ-loop
 loop-holds c = (refl, omega arith)
 
-mul-is-named : tie.Need-mul-is-named Inv-loop μ-loop
-mul-is-named c = search needs
+mul-name-kept : tie.Need-mul-name-kept Inv-loop μ-loop
+mul-name-kept c = search needs
 
-shared-slice-read-is-named : tie.Need-shared-slice-read-is-named Inv-loop μ-loop
-shared-slice-read-is-named c = search needs
+shared-slice-read-name-kept : tie.Need-shared-slice-read-name-kept Inv-loop μ-loop
+shared-slice-read-name-kept c = search needs
 
-is-named-requires : tie.Need-is-named-requires Inv-loop μ-loop
-is-named-requires c κs = search needs
+name-kept-requires : tie.Need-name-kept-requires Inv-loop μ-loop
+name-kept-requires c κs = search needs
 
-mul-named : tie.Need-mul-named Inv-loop μ-loop
-mul-named c = search needs
+same-requires : tie.Need-same-requires Inv-loop μ-loop
+same-requires c κs = search needs
 
-shared-slice-read-named : tie.Need-shared-slice-read-named Inv-loop μ-loop
-shared-slice-read-named c = search needs
+mul-place-kept : tie.Need-mul-place-kept Inv-loop μ-loop
+mul-place-kept c = search needs
 
-named-requires : tie.Need-named-requires Inv-loop μ-loop
-named-requires c κs = search needs
+shared-slice-read-place-kept : tie.Need-shared-slice-read-place-kept Inv-loop μ-loop
+shared-slice-read-place-kept c = search needs
+
+place-kept-requires : tie.Need-place-kept-requires Inv-loop μ-loop
+place-kept-requires c κs = search needs
 
 returns : tie.Need-returns Inv-loop μ-loop
 returns c =
-    let l = c .before .before .before .before .before .before in
+    let s = c .before .before .before in
+    let l = s .before .before .before .before in
     let a = l .before .before .before .before .args in
-    let e = sym (c .before .before .before .is-named .ensures) ∙ c .before .before .if1 .taken in
-    c .named .ensures ∙ ap located (sym (name-here (a .text .now) (a .table .now) (a .name .now) (l .loop .i) (search needs) e) ∙ l .loop .inv .0)
+    let e = sym (rw (s .before .name-kept .ensures) at (s .same .ensures)) ∙ c .before .before .if1 .taken in
+    c .place-kept .ensures ∙ ap located (sym (name-here (a .text .now) (a .table .now) (a .name .now) (l .loop .i) (search needs) e) ∙ l .loop .inv .0)
 
 add-i : tie.Need-add-i Inv-loop μ-loop
 add-i c = search needs
@@ -55,9 +57,10 @@ loop-less c = search needs
 
 loop-again : tie.Need-loop-again Inv-loop μ-loop
 loop-again c =
-    let l = c .before .before .before .before in
+    let s = c .before in
+    let l = s .before .before .before .before in
     let a = l .before .before .before .before .args in
-    let e = sym (c .before .is-named .ensures) ∙ c .if1 .left in
+    let e = sym (rw (s .before .name-kept .ensures) at (s .same .ensures)) ∙ c .if1 .left in
     (sym (name-next (a .text .now) (a .table .now) (a .name .now) (l .loop .i) (search needs) e) ∙ l .loop .inv .0, omega arith)
 
 returns-2 : tie.Need-returns-2 Inv-loop μ-loop
@@ -74,12 +77,13 @@ place-of-spec =
     Inv-loop
     μ-loop
     loop-holds
-    mul-is-named
-    shared-slice-read-is-named
-    is-named-requires
-    mul-named
-    shared-slice-read-named
-    named-requires
+    mul-name-kept
+    shared-slice-read-name-kept
+    name-kept-requires
+    same-requires
+    mul-place-kept
+    shared-slice-read-place-kept
+    place-kept-requires
     returns
     add-i
     loop-less

@@ -1,9 +1,11 @@
 use native.Mathlib.Omega.{arith}
+use Prim.Native.Nat.{_*_, _^_, _<_}
 use mathlib.Core.Path.{sym, _∙_}
+use lib.ListN.{length}
 use borrow.Author.Tests.{not-true, not-false}
 use Rattle.cue_text.specs.Text.{formMeaning}
 use Rattle.cue_text.specs.Inside.{meaningOf}
-use Rattle.cue_text.proofs.SaidLaws.{name-nowhere, name-bad, name-refused, name-defines, defined-name, name-within}
+use Rattle.cue_text.proofs.SaidLaws.{name-nowhere, name-bad, name-refused, name-defines, kept-defined, name-within}
 use borrow.Author.Needs.{needs}
 use Rattle.cue_text.proofs.line.name_at.Statement.{statement}
 use Rattle.cue_text.proofs.line.name_at.Tie as tie
@@ -59,25 +61,36 @@ returns-3 c index =
     (c .before .refusal-of .ensures)
     (c .if3 .taken)
 
-add-t14 : tie.Need-add-t14
-add-t14 c =
+add-kept : tie.Need-add-kept
+add-kept c =
     let i = c .before .before .before .before .before .before in
     let h = name-within _ _ _ _ (i .before .before .before .before .before .before .before .before .pre) in
     omega (arith, h, c)
 
+kept-requires : tie.Need-kept-requires
+kept-requires c κs =
+    let i = c .before .before .before .before .before .before in
+    let z = i .before .before .before .before .before .before .before .before in
+    let l : length (z .args .text .now) * 1 < 2 ^ 63 = z .good .0 .1 in
+    omega (arith, name-within _ _ _ _ (z .pre))
+
 returns-4 : tie.Need-returns-4
 unfolding meaningOf formMeaning
 returns-4 c index =
-    let i = c .before .before .before .before .before .before in
+    let r = c .before .before .before in
+    let b₀ = r .before .before in
+    let i = b₀ .before .before in
     let p = i .before .before in
-    let b = sym (rw (c .before .before .before .before .before .part3 .ensures) at (c .before .before .before .before .bad-name .ensures)) in
+    let z = p .before .before .before .before .before .before in
+    let b = sym (rw (b₀ .before .part3 .ensures) at (b₀ .bad-name .ensures)) in
     let e = rw (p .before .before .part .ensures, p .before .part2 .ensures) at (p .place-by .ensures) in
-    name-defines _ _ _ _ _ e
-    (not-false _ (i .if1 .left))
-    (b ∙ c .before .before .before .if2 .left) _
-    (c .before .before .refusal-of .ensures)
-    (c .before .if3 .left) _
-    (defined-name _ _ _ _ (p .before .before .before .before .before .before .pre))
+    let f = not-false _ (i .if1 .left) in
+    let l : length (z .args .text .now) * 1 < 2 ^ 63 = z .good .0 .1 in
+    name-defines _ _ _ _ _ e f
+    (b ∙ r .before .if2 .left) _
+    (r .refusal-of .ensures)
+    (c .before .before .if3 .left) _
+    (kept-defined _ _ _ _ (z .pre) (omega arith) _ e f _ (b₀ .before .part3 .ensures) (c .kept .ensures))
 
 pub name-at-spec : {M : Type 1} → statement M
 name-at-spec =
@@ -92,5 +105,6 @@ name-at-spec =
     returns-2
     refusal-of-requires
     returns-3
-    add-t14
+    add-kept
+    kept-requires
     returns-4)

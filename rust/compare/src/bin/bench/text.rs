@@ -14,8 +14,13 @@ pub fn cases() -> Vec<Case> {
     vec![
         assembled("assemble", "no names", &plain(RECORDS)),
         assembled("assemblefew", "no names", &plain(FEW)),
-        assembled("assemblenames", "1000 names used alike", &named(1_000)),
-        assembled("assemblenames10", "10 names used alike", &named(10)),
+        assembled("assemblenames", "1000 names used alike", &named(1_000, 4)),
+        assembled("assemblenames10", "10 names used alike", &named(10, 4)),
+        assembled(
+            "assemblepadded",
+            "10 names used alike, each address of 10000 digits",
+            &named(10, 10_000),
+        ),
         written("listtext", &season(RECORDS)),
         written("listtextfew", &season(FEW)),
     ]
@@ -29,11 +34,11 @@ fn text_of(list: &[u8]) -> Vec<u8> {
     text
 }
 
-/// Names of registers, and then writes and reads of them in an order that goes to and fro.
-fn named(names: u32) -> Vec<u8> {
+/// Names of registers, their addresses with so many digits, and then writes and reads of them in an order that goes to and fro.
+fn named(names: u32, digits: usize) -> Vec<u8> {
     let mut text = String::new();
     for k in 0..names {
-        writeln!(text, "name lamp.{k:04} registers 0x{:04X}", 4 * k).expect("a string");
+        writeln!(text, "name lamp.{k:04} registers 0x{:0digits$X}", 4 * k).expect("a string");
     }
     for k in 0..RECORDS {
         let lamp = k * 7_919 % names;

@@ -1,12 +1,12 @@
 use native.Mathlib.Omega.{arith}
 use Prim.Native.Nat.{_≤_}
 use Rattle.cue_text.proofs.NumberLaws.{space-small, address-small}
-use Rattle.cue_text.proofs.KnownLaws.{named-place}
+use Rattle.cue_text.proofs.KnownLaws.{defined-place}
 use borrow.Author.Needs.{needs}
-use Rattle.cue_text.proofs.known.named.Statement.{statement}
-use Rattle.cue_text.proofs.known.named.Tie as tie
-use Rattle.cue_text.proofs.known.named.Reads as reads
-use Rattle.cue_text.proofs.known.named.Lts as lts
+use Rattle.cue_text.proofs.known.defined_at.Statement.{statement}
+use Rattle.cue_text.proofs.known.defined_at.Tie as tie
+use Rattle.cue_text.proofs.known.defined_at.Reads as reads
+use Rattle.cue_text.proofs.known.defined_at.Lts as lts
 use Rattle.cue_text.proofs.known.rest_at.Reads as rest-at-reads
 use Rattle.cue_text.proofs.number.address_of.Reads as address-of-reads
 use Rattle.cue_text.proofs.number.space_of.Reads as space-of-reads
@@ -46,7 +46,7 @@ cast-t10 c =
 returns : tie.Need-returns
 returns c =
     let s = c .before .before .before .before in
-    named-place _ _ _ _ _ _ _ _
+    defined-place _ _ _ _ _ _ _ _
     (s .before .before .before .rest-at .ensures)
     (s .before .before .words-of .ensures)
     (s .before .part .ensures)
@@ -54,8 +54,8 @@ returns c =
     (s .space-of .ensures)
     (c .before .before .address-of .ensures)
 
-pub named-spec : {M : Type 1} → statement M
-named-spec =
+pub defined-at-spec : {M : Type 1} → statement M
+defined-at-spec =
     tie.close
     (tie.spec
     rest-at-requires
