@@ -1,13 +1,14 @@
 // A cue list from text: a text on standard input, its list or a line on standard output.
+use input::Taken;
 use libc::STDIN_FILENO;
 use libc::STDOUT_FILENO;
 
 // How the program is used is said without a look at standard input.
-fn take(words: usize, input: &mut [u8]) -> usize {
+fn take(words: usize, text: &mut [u8]) -> Taken {
     if words != 1 {
-        return 0;
+        return Taken::Bytes(0);
     }
-    io::read_full(STDIN_FILENO, input)
+    input::all(STDIN_FILENO, text)
 }
 
 fn put(room: &[u8], n: usize) {
@@ -16,18 +17,25 @@ fn put(room: &[u8], n: usize) {
     }
 }
 
-fn report(words: usize, input: &[u8], taken: usize, room: &mut [u8; 1000000]) -> usize {
-    if input.len() < taken {
+fn report(words: usize, text: &[u8], n: usize, room: &mut [u8; 1000000]) -> usize {
+    if text.len() < n {
         return 0;
     }
-    cueasm_output::report(words, &input[..taken], room)
+    cueasm_output::report(words, &text[..n], room)
 }
 
-// `input` has room for one byte more than a text may have, so that a longer one is noticed.
-fn serve(words: usize, input: &mut [u8; 3400001], room: &mut [u8; 1000000]) {
-    let taken = take(words, input);
-    let n = report(words, input, taken, room);
-    put(room, n);
+fn say(words: usize, text: &[u8], n: usize, room: &mut [u8; 1000000]) {
+    let said = report(words, text, n, room);
+    put(room, said);
+}
+
+// `text` has room for one byte more than a text may have, so that a longer one is noticed.
+fn serve(words: usize, text: &mut [u8; 3400001], room: &mut [u8; 1000000]) {
+    let taken = take(words, text);
+    match taken {
+        Taken::Bytes(n) => say(words, text, n, room),
+        Taken::Failed => input::cannot_read(),
+    }
 }
 
 fn main() {

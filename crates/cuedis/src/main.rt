@@ -1,13 +1,14 @@
 // A cue list as text: a list on standard input, its text or a line on standard output.
+use input::Taken;
 use libc::STDIN_FILENO;
 use libc::STDOUT_FILENO;
 
 // How the program is used is said without a look at standard input.
-fn take(words: usize, input: &mut [u8]) -> usize {
+fn take(words: usize, list: &mut [u8]) -> Taken {
     if words != 1 {
-        return 0;
+        return Taken::Bytes(0);
     }
-    io::read_full(STDIN_FILENO, input)
+    input::all(STDIN_FILENO, list)
 }
 
 fn put(room: &[u8], n: usize) {
@@ -16,18 +17,25 @@ fn put(room: &[u8], n: usize) {
     }
 }
 
-fn report(words: usize, input: &[u8], taken: usize, room: &mut [u8; 3400000]) -> usize {
-    if input.len() < taken {
+fn report(words: usize, list: &[u8], n: usize, room: &mut [u8; 3400000]) -> usize {
+    if list.len() < n {
         return 0;
     }
-    cuedis_output::report(words, &input[..taken], room)
+    cuedis_output::report(words, &list[..n], room)
 }
 
-// `input` has room for one byte more than a list may have, so that a longer one is noticed.
-fn serve(words: usize, input: &mut [u8; 1000001], room: &mut [u8; 3400000]) {
-    let taken = take(words, input);
-    let n = report(words, input, taken, room);
-    put(room, n);
+fn say(words: usize, list: &[u8], n: usize, room: &mut [u8; 3400000]) {
+    let said = report(words, list, n, room);
+    put(room, said);
+}
+
+// `list` has room for one byte more than a list may have, so that a longer one is noticed.
+fn serve(words: usize, list: &mut [u8; 1000001], room: &mut [u8; 3400000]) {
+    let taken = take(words, list);
+    match taken {
+        Taken::Bytes(n) => say(words, list, n, room),
+        Taken::Failed => input::cannot_read(),
+    }
 }
 
 fn main() {

@@ -1,13 +1,14 @@
 // What is wrong with a cue list: a list on standard input, a line on standard output.
+use input::Taken;
 use libc::STDIN_FILENO;
 use libc::STDOUT_FILENO;
 
-fn take(count: usize, input: &mut [u8]) -> usize {
-    let most = cuewhy_output::most_read(count);
-    if input.len() < most {
-        return 0;
+// How the program is used is said without a look at standard input.
+fn take(words: usize, list: &mut [u8]) -> Taken {
+    if words != 1 {
+        return Taken::Bytes(0);
     }
-    io::read_full(STDIN_FILENO, &mut input[..most])
+    input::all(STDIN_FILENO, list)
 }
 
 fn put(room: &[u8], n: usize) {
@@ -16,20 +17,27 @@ fn put(room: &[u8], n: usize) {
     }
 }
 
-fn say(count: usize, input: &[u8], taken: usize, room: &mut [u8; 256]) {
-    if taken <= input.len() {
-        let n = cuewhy_output::report(count, &input[..taken], room);
-        put(room, n);
+fn report(words: usize, list: &[u8], n: usize, room: &mut [u8; 256]) -> usize {
+    if list.len() < n {
+        return 0;
+    }
+    cuewhy_output::report(words, &list[..n], room)
+}
+
+fn say(words: usize, list: &[u8], n: usize, room: &mut [u8; 256]) {
+    let said = report(words, list, n, room);
+    put(room, said);
+}
+
+// `list` has room for one byte more than a list may have, so that a longer one is noticed.
+fn serve(words: usize, list: &mut [u8; 1000001], room: &mut [u8; 256]) {
+    let taken = take(words, list);
+    match taken {
+        Taken::Bytes(n) => say(words, list, n, room),
+        Taken::Failed => input::cannot_read(),
     }
 }
 
-// `input` has room for one byte more than a list may have, so that a longer one is noticed.
-fn serve(input: &mut [u8; 1000001], room: &mut [u8; 256]) {
-    let count = os::arg_count();
-    let taken = take(count, input);
-    say(count, input, taken, room);
-}
-
 fn main() {
-    serve(&mut [0; 1000001], &mut [0; 256]);
+    serve(os::arg_count(), &mut [0; 1000001], &mut [0; 256]);
 }

@@ -2,7 +2,6 @@
 use Prim.Native.Nat.{ℕ, _-_, _^_, _≤_, _<_}
 use mathlib.Core.Path.{_≡_, _∙_}
 use mathlib.Core.List.{List}
-use mathlib.Core.Bool.{Bool, true, false, cond}
 use native.Mathlib.Omega.{arith}
 use lib.ListN.{length, take, drop, length-drop}
 use lib.Dec.{eqb}
@@ -17,7 +16,7 @@ use Rattle.list_reason.proofs.WhyLaws.{good-few}
 use Rattle.list_reason.specs.declared.Reached.{Reached}
 use Rattle.list_reason.specs.declared.ListWhy.{ListWhy}
 use Rattle.cuewhy_output.specs.Wording.{acceptedText, refusedText}
-use Rattle.cuewhy_output.specs.Said.{mostBytes, usageLine, whyText, said, mostRead}
+use Rattle.cuewhy_output.specs.Said.{mostBytes, usageLine, whyText, said}
 use Rattle.cuewhy_output.proofs.SizeLaws.{refused-size, accepted-size, usage-size, too-long-size}
 
 module _ (count : ℕ) (list room after : List ℕ) (k : ℕ) (size : length room ≡ 256) where
@@ -51,12 +50,3 @@ module _ (count : ℕ) (list room after : List ℕ) (k : ℕ) (size : length roo
         let fits = refused-size w rest a b c short (rw tail-whole at d) in
         rw (eq-eqb count 1 one, le-ltb mostBytes (length list) few, ← e, ne-eqb (w .number) 0 z)
         (rw tail-whole at p ∙ put-front (refusedText w rest) room (omega arith))
-
--- the program's room for its input is large enough
-pub most-read-within : (count : ℕ) → mostRead count ≤ 1000001
-unfolding mostRead
-most-read-within count = go (eqb count 1)
-  where
-    go : (b : Bool) → cond b 1000001 0 ≤ 1000001
-    go true = omega arith
-    go false = omega arith

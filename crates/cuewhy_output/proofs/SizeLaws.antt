@@ -14,21 +14,13 @@ use Rattle.text.specs.Number.{ascii}
 use Rattle.text.specs.Line.{numbered, tooLongLine}
 use Rattle.text.proofs.HexLaws.{hex-length, bytes-length}
 use Rattle.text.proofs.LineLaws.{cond-length, numbered-length}
+use Rattle.space_text.proofs.SpaceTextLaws.{space-size}
 use Rattle.list_reason.specs.declared.ListWhy.{ListWhy}
-use Rattle.cuewhy_output.specs.Wording.{spaceText, upperDigits, valueText, recordText, markText, cutText, namedText, elementText, wideText}
+use Rattle.cuewhy_output.specs.Wording.{upperDigits, valueText, recordText, markText, cutText, namedText, elementText, wideText}
 use Rattle.cuewhy_output.specs.Wording.{badText, faultText, placeText, refusedText, acceptedText}
 use Rattle.cuewhy_output.specs.Said.{usageLine}
 
 -- a record in words
-space-size : (n : ℕ) → n < 256 → length (spaceText n) ≤ 26
-unfolding spaceText ascii
-space-size n h =
-    let other = numbered-length (ascii "space ") n (omega arith) in
-    cond-length 26 (eqb n 0) (ascii "registers") _ (omega arith)
-    (cond-length 26 (eqb n 2) (ascii "eeprom") _ (omega arith)
-    (cond-length 26 (eqb n 6) (ascii "status") _ (omega arith)
-    (cond-length 26 (eqb n 7) (ascii "information") (numbered (ascii "space ") n) (omega arith) (omega arith))))
-
 upper-few : (n upper : ℕ) → upperDigits n upper ≤ 4
 unfolding upperDigits
 upper-few n upper = go (eqb (row (spaceOf n) .element) 2 && eqb upper 0)

@@ -24,7 +24,3 @@ whyText list =
 -- `count`: the program's name and its arguments. It takes none.
 unfoldable pub said : ℕ → List ℕ → List ℕ
 said count list = cond (eqb count 1) (cond (ltb mostBytes (length list)) tooLongLine (whyText list)) usageLine
-
--- the bytes of standard input that are looked at: one more than a list may have, so that a longer one is noticed
-unfoldable pub mostRead : ℕ → ℕ
-mostRead count = cond (eqb count 1) 1000001 0

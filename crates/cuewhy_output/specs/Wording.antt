@@ -10,14 +10,8 @@ use Rattle.cue.specs.Records.{recordAt}
 use Rattle.cue.specs.declared.records.Record.{Record}
 use Rattle.text.specs.Number.{ascii, hexadecimal, bytesOfHex}
 use Rattle.text.specs.Line.{numbered}
+use Rattle.space_text.specs.SpaceText.{spaceText}
 use Rattle.list_reason.specs.declared.ListWhy.{ListWhy}
-
--- a space by its name, or by its number where the card has none
-unfoldable pub spaceText : ℕ → List ℕ
-spaceText n =
-    cond (eqb n 0) (ascii "registers")
-    (cond (eqb n 2) (ascii "eeprom")
-    (cond (eqb n 6) (ascii "status") (cond (eqb n 7) (ascii "information") (numbered (ascii "space ") n))))
 
 -- A write's value has as many digits as its element, and eight where it is wider or the card has no such space: the upper half is
 -- left out where a 2-byte element has room for the value.

@@ -11,7 +11,7 @@ ghost use Prim.Native.Nat.{_<_};
 ghost use Rattle.cue.specs.Records.{recordAt};
 ghost use Rattle.text.specs.Room.{filled, putAt, textLeft};
 ghost use Rattle.cuewhy_output.specs.Wording.{placeText, acceptedText, refusedText};
-ghost use Rattle.cuewhy_output.specs.Said.{said, mostRead};
+ghost use Rattle.cuewhy_output.specs.Said.{said};
 
 // The most bytes that a list may have.
 const MOST: usize = 1000000;
@@ -40,13 +40,6 @@ fn refused(out: &mut [u8], w: ListWhy, rest: &[u8]) -> usize
     let r = records::record_at(rest);
     let at = fault::put_fault(out, at, w, r, rest);
     text::put(out, at, b"\n")
-}
-
-// The bytes of standard input that are looked at; none where nothing is done with them.
-pub fn most_read(count: usize) -> usize
-    ensures { λ r. ⌜ r ≡ mostRead count ⌝ }
-{
-    if count == 1 { 1000001 } else { 0 }
 }
 
 // The line to write stands at the front of the room; how many bytes it has is answered. `count`: the words that the program was

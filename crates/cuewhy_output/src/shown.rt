@@ -2,24 +2,11 @@
 use cue::records::Record;
 use lbp16::space;
 use packet::bytes;
-use text::line;
 use text::number;
 use text::pick;
 ghost use mathlib.Core.Path.{_≡_};
 ghost use Rattle.text.specs.Room.{filled, putAt};
-ghost use Rattle.cuewhy_output.specs.Wording.{spaceText, upperDigits, valueText, recordText};
-
-fn put_space(out: &mut [u8], at: usize, n: u8) -> usize
-    ensures { λ k. ⌜ filled k (now (out .exit)) ≡ putAt (spaceText n) at (now (out .entry)) ⌝ }
-{
-    match n {
-        0 => text::put(out, at, b"registers"),
-        2 => text::put(out, at, b"eeprom"),
-        6 => text::put(out, at, b"status"),
-        7 => text::put(out, at, b"information"),
-        _ => line::numbered(out, at, b"space ", n as u64),
-    }
-}
+ghost use Rattle.cuewhy_output.specs.Wording.{upperDigits, valueText, recordText};
 
 fn upper_digits(n: u8, upper: u16) -> usize
     ensures { λ r. ⌜ r ≡ upperDigits n upper ⌝ }
@@ -45,7 +32,7 @@ pub(crate) fn put_record(out: &mut [u8], at: usize, r: Record, rest: &[u8]) -> u
     ensures { λ k. ⌜ filled k (now (out .exit)) ≡ putAt (recordText r (now (rest .entry))) at (now (out .entry)) ⌝ }
 {
     let at = text::put(out, at, pick(r.write, b"write ", b"read "));
-    let at = put_space(out, at, r.space);
+    let at = space_text::put_space(out, at, r.space);
     let at = text::put(out, at, b" 0x");
     let at = number::hex(out, at, 4, r.address as u64);
     if !r.write {

@@ -1,6 +1,5 @@
-use mathlib.Core.Path.{sym}
 use native.Mathlib.Omega.{arith}
-use lib.Seq.{length-take-le}
+use Rattle.input.specs.Reading.{Within}
 use borrow.Author.Needs.{needs}
 use Rattle.showcheck.proofs.take.Statement.{statement}
 use Rattle.showcheck.proofs.take.Tie as tie
@@ -9,16 +8,11 @@ most-read-requires : tie.Need-most-read-requires
 most-read-requires c κs = search needs
 
 returns : tie.Need-returns
-returns c = search needs
+unfolding Within
+returns c = omega arith
 
-slice-relend-prefix-read-full : tie.Need-slice-relend-prefix-read-full
-slice-relend-prefix-read-full c = search needs
-
-slice-aggregate-read-full : tie.Need-slice-aggregate-read-full
-slice-aggregate-read-full c = sym (length-take-le _ _ (omega arith))
-
-read-full-requires : tie.Need-read-full-requires
-read-full-requires c κs = search needs
+all-requires : tie.Need-all-requires
+all-requires c κs = search needs
 
 same-length : tie.Need-same-length
 same-length c = search needs
@@ -27,13 +21,4 @@ returns-2 : tie.Need-returns-2
 returns-2 c = search needs
 
 pub take-spec : {M : Type 1} → statement M
-take-spec =
-    tie.close
-    (tie.spec
-    most-read-requires
-    returns
-    slice-relend-prefix-read-full
-    slice-aggregate-read-full
-    read-full-requires
-    same-length
-    returns-2)
+take-spec = tie.close (tie.spec most-read-requires returns all-requires same-length returns-2)
