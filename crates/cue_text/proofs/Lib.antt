@@ -6,11 +6,7 @@ pub mod SaidLaws
 pub mod RefusalLaws
 pub mod WalkLaws
 pub mod Examples
-pub mod ReadBackLaws
 pub mod CueLaws
-pub mod SameListLaws
 pub mod ShowLaws
 pub mod AssembleLaws
-pub mod WriteLaws
-pub mod WrittenExamples
 pub mod FaultLaws

@@ -17,8 +17,6 @@ use Rattle.cue_text.specs.Numbers.{Value, none, value, spaceOf, addressO
 use Rattle.cue_text.specs.Text.{Place, nowhere, place, Name, Form, empty, reads, writes, names, unknown, at, called}
 use Rattle.cue_text.specs.Text.{mostNames, Meaning, refused, nothing, defines, does, bytesOfCue}
 use Rattle.cue_text.specs.Assembled.{Assembled, bad, cues, listOf}
-use Rattle.cue.specs.Records as list
-use Rattle.cue_text.specs.Written.{textOf}
 use Rattle.cue_text.specs.declared.word.Word.{Word}
 use Rattle.cue_text.specs.declared.word.Words.{Words}
 use Rattle.cue_text.specs.declared.number.Number.{Number}
@@ -227,11 +225,6 @@ pub record Roomy (t : Tally) (said : Said) (table : List ℕ) : Type 0 where
 unfoldable pub answered : Assembled → Answer
 answered (bad n line) = Answer.refused n line
 answered (cues cs) = Answer.accepted (length (listOf cs) ∷ length cs ∷ [])
-
--- what a list needs: the text's bytes and its lines, or the list's refusal
-unfoldable pub textNeeded : list.Listed → Answer
-textNeeded (list.refused n i) = Answer.refused n i
-textNeeded (list.records xs) = Answer.accepted (length (textOf xs) ∷ length xs ∷ [])
 
 -- a line's word by its index, of the four that are held
 unfoldable pub wordNumbered : Words → ℕ → Word

@@ -13,7 +13,7 @@ use Rattle.cue.specs.Output.{frames, apart}
 use Rattle.cue.specs.Compile.{packed, output, compiled}
 use Rattle.cue.specs.Play.{play}
 use Rattle.cue.specs.Demand3.{SameAsRecords}
-use Rattle.cue_text.specs.Assembled.{assembled, cues, listOf, stepsOf}
+use Rattle.cue_text.specs.Assembled.{assembled, cues, stepsOf}
 use Rattle.cue_text.specs.declared.line.Cue.{Cue}
 
 -- `list` is what a text was assembled to. Its lines are records; these are the list's, so that the compiler does not refuse it with 21
@@ -27,9 +27,3 @@ pub record TextShow (text list : List ℕ) : Type 0 where
   pub same : (store : List ℕ) (p : Pointers) (rooms : ℕ → List ℕ) → badState store p ≡ false
       → ((i : ℕ) → length (rooms i) ≡ limit)
       → SameAsRecords (stepsOf lines) (packed (stepsOf lines)) store (play (packed (stepsOf lines)) rooms store p)
-
--- assembling a text that was written from a list gives that list
-pub record SameList (list text : List ℕ) : Type 0 where
-  pub lines : List Cue
-  pub text-lines : assembled text ≡ cues lines
-  pub same : listOf lines ≡ list

@@ -1,4 +1,4 @@
-// Cue lists as text, and back. Both ways a first pass checks and counts, and only the second writes, so that a refusal leaves the room as it is.
+// Cue lists as text. A first pass checks and counts, and only the second writes, so that a refusal leaves the room as it is.
 use lbp16::Refusal;
 
 pub mod fault;
@@ -7,7 +7,6 @@ pub mod line;
 mod number;
 mod walk;
 mod word;
-pub mod write;
 
 ghost use mathlib.Core.Path.{_≡_};
 ghost use mathlib.Core.List.{[], _∷_};

@@ -11,7 +11,8 @@ use Rattle.cue.specs.Packing
 use Rattle.text.specs.Number
 use Rattle.text.specs.Number.{ascii}
 use Rattle.text.specs.Line
-use Rattle.cue_text.specs.Written
+use Rattle.space_text.specs.SpaceText
+use Rattle.list_text.specs.Written
 use Rattle.cuedis_output.specs.Report
 use Rattle.cuedis_output.specs.Report.{said}
 
@@ -21,7 +22,7 @@ unfolding Space.spaceOf Space.isAbsent Space.row Space.areaRow Bytes.number Step
     Rules.first Rules.misaligned Rules.pastEnd Rules.barred Records.markAt Records.recordKind Records.recordBytes Records.recordSpace
     Records.bytesOfValue Records.recordStep Records.reserved Records.badElement Records.upperHalf Records.recordRefusals Records.withRecord
     Records.recordsFrom Records.recordsOf Packing.joinAll Number.ascii Number.digit Number.decimalFrom Number.decimal Number.hexDigit
-    Number.hexadecimal Line.numbered Line.pairLine Line.refusedLine Line.tooLongLine Written.spaceWord Written.hexWord Written.kindWord
+    Number.hexadecimal Line.numbered Line.pairLine Line.refusedLine Line.tooLongLine SpaceText.spaceWord Written.hexWord Written.kindWord
     Written.valueWord Written.lineOf Written.textOf Report.usageLine Report.saidOf Report.said
 all = true
 

@@ -9,9 +9,9 @@ use Rattle.lbp16.specs.Answer.{Answer}
 use Rattle.lbp16.specs.declared.Refusal.{Refusal}
 use Rattle.cue.specs.Records.{Listed, refused, records, recordsOf}
 use Rattle.cue_text.specs.Assembled.{Left, placed, textListed, left}
-use Rattle.cue_text.specs.Written.{textOf, writtenTo, listWritten}
+use Rattle.list_text.specs.Written.{textOf, writtenTo, listWritten}
 use Rattle.cue_text.specs.declared.TextAnswer.{TextAnswer}
-use Rattle.cue_text.proofs.WriteLaws.{text-most}
+use Rattle.list_text.proofs.WriteLaws.{text-most}
 use Rattle.text.specs.Number.{ascii}
 use Rattle.text.specs.Room.{filled, putAt, textLeft}
 use Rattle.text.specs.Line.{refusedLine, tooLongLine}

@@ -7,7 +7,7 @@ use lib.Dec.{eqb, ltb}
 use Rattle.text.specs.Number.{ascii}
 use Rattle.text.specs.Line.{refusedLine, tooLongLine}
 use Rattle.cue.specs.Records.{Listed, refused, records, recordsOf}
-use Rattle.cue_text.specs.Written.{textOf}
+use Rattle.list_text.specs.Written.{textOf}
 
 -- the most bytes that a list may have: those of a hundred thousand writes
 abbrev pub mostBytes : ℕ

@@ -1,6 +1,5 @@
 // What the program `cuedis` writes: a cue list as text, or a line that says why there is none.
 use cue_text::TextAnswer;
-use cue_text::write;
 use text::line;
 ghost use mathlib.Core.Path.{_≡_};
 ghost use Rattle.text.specs.Room.{filled, textLeft};
@@ -20,7 +19,7 @@ pub fn report(words: usize, input: &[u8], room: &mut [u8; 3400000]) -> usize
     if MOST < input.len() {
         return line::too_long(room, 0);
     }
-    match write::list_text(input, room) {
+    match list_text::write(input, room) {
         TextAnswer::Written { bytes, count: _ } => bytes,
         TextAnswer::Refused(r) => line::refused(room, 0, r.number as u64, r.place),
     }

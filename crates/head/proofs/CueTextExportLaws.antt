@@ -11,7 +11,7 @@ use Rattle.lbp16.specs.Answer.{Answer}
 use Rattle.cue.specs.Records.{Listed, refused, records, recordsOf}
 use Rattle.cue.proofs.RecordLaws.{refused-record}
 use Rattle.cue_text.specs.Assembled.{Left, placed, textAssembled, textListed, left}
-use Rattle.cue_text.specs.Written.{textOf, writtenTo, listWritten}
+use Rattle.list_text.specs.Written.{textOf, writtenTo, listWritten}
 use Rattle.cue_text.specs.declared.TextAnswer.{TextAnswer}
 use Rattle.cue_text.proofs.RefusalLaws.{of-line-some, OfText, text-refusal}
 use Rattle.head.specs.Exports.{numberOf, valueOf, countOf, numbersOf}

@@ -2,7 +2,7 @@
 use Prim.Native.Nat.{ℕ}
 use mathlib.Core.List.{List}
 use Rattle.cue_text.specs.Assembled.{Left, textAssembled}
-use Rattle.cue_text.specs.Written.{listWritten}
+use Rattle.list_text.specs.Written.{listWritten}
 use Rattle.head.specs.Exports.{numberOf, valueOf, countOf}
 
 pub record TextExport : Type 0 where

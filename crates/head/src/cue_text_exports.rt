@@ -4,7 +4,8 @@ use cue_text::TextAnswer;
 ghost use mathlib.Core.Path.{_≡_};
 ghost use lib.ListN.{take};
 ghost use Rattle.cue_text.specs.Assembled.{textListed};
-ghost use Rattle.cue_text.specs.TextShow.{TextShow, SameList};
+ghost use Rattle.cue_text.specs.TextShow.{TextShow};
+ghost use Rattle.list_text.specs.SameList.{SameList};
 ghost use Rattle.head.specs.Exports.{numbersOf};
 ghost use Rattle.head.specs.CueTextExports.{textLeft, exportAssemble, exportListText};
 
@@ -47,7 +48,7 @@ pub extern "C" fn head_list_text(
         ≡ exportListText (now (list .entry)) (now (out .entry)) ⌝ }
     ensures same_list { λ r. ⌜ (r ≡ 0 → SameList (now (list .entry)) (take (now (bytes .exit)) (now (out .exit)))) ⌝ }
 {
-    let given = numbers_of(cue_text::write::list_text(list, out));
+    let given = numbers_of(list_text::write(list, out));
     *bytes = given.1;
     *lines = given.2;
     given.0

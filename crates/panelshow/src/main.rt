@@ -117,7 +117,23 @@ fn show(out: &mut [u8], input: &[u8]) {
 fn usage() {
     io::write_all(
         STDOUT_FILENO,
-        b"usage: panelshow < CARD\nCARD is, low byte first: the address of the card's process table (2 bytes), a channel's interface registers 0, 1 and 2 (4 bytes each),\nand the card's memory from address 0. The address is the low word of interface register 2 after a start; the memory is read by\nremote reads; the registers are those that hold the inputs after an exchange.\nA reading is the value times the maximum by the largest value; the minimum is left out.\n",
+        b"usage: panelshow < CARD\nCARD is, low byte first: the address of the card's process table (2 bytes), ",
+    );
+    io::write_all(
+        STDOUT_FILENO,
+        b"a channel's interface registers 0, 1 and 2 (4 bytes each),\nand the card's memory from address 0. ",
+    );
+    io::write_all(
+        STDOUT_FILENO,
+        b"The address is the low word of interface register 2 after a start; the memory is read by\nremote reads; ",
+    );
+    io::write_all(
+        STDOUT_FILENO,
+        b"the registers are those that hold the inputs after an exchange.\n",
+    );
+    io::write_all(
+        STDOUT_FILENO,
+        b"A reading is the value times the maximum by the largest value; the minimum is left out.\n",
     );
 }
 

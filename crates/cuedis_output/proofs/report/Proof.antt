@@ -22,8 +22,8 @@ too-long-requires c κs = search needs
 returns-2 : tie.Need-returns-2
 returns-2 c = too-long-reported _ _ _ (omega arith) (c .before .before .before .if1 .left) (omega arith) _ _ (c .too-long .ensures)
 
-list-text-requires : tie.Need-list-text-requires
-list-text-requires c κs = search needs
+write-requires : tie.Need-write-requires
+write-requires c κs = search needs
 
 enum-known-bytes : tie.Need-enum-known-bytes
 enum-known-bytes c = search needs
@@ -40,13 +40,13 @@ refused-requires c κs = search needs
 returns-3 : tie.Need-returns-3
 returns-3 c =
     let b = c .before .before .before in
-    text-reported _ _ _ (omega arith) (b .before .before .before .if1 .left) (omega arith) _ _ (b .list-text .ensures .0) _ _ (c .before .bytes .given .1)
+    text-reported _ _ _ (omega arith) (b .before .before .before .if1 .left) (omega arith) _ _ (b .write .ensures .0) _ _ (c .before .bytes .given .1)
 
 returns-4 : tie.Need-returns-4
 returns-4 c =
     let b = c .before .before .before .before in
     let t = b .before .before in
-    refusal-reported _ _ _ (omega arith) (t .before .before .before .if1 .left) (omega arith) _ _ (t .list-text .ensures .0) _ (omega arith) (omega arith)
+    refusal-reported _ _ _ (omega arith) (t .before .before .before .if1 .left) (omega arith) _ _ (t .write .ensures .0) _ (omega arith) (omega arith)
     (b .r .given .1) _ _
     (c .refused .ensures)
 
@@ -59,7 +59,7 @@ report-spec =
     returns
     too-long-requires
     returns-2
-    list-text-requires
+    write-requires
     enum-known-bytes
     enum-known-r
     cast-refused

@@ -1,9 +1,9 @@
 use mathlib.Core.List.{[]}
 use borrow.Author.Needs.{needs}
 use Rattle.cue_text.specs.Assembled.{textListed, left}
-use Rattle.cue_text.proofs.WriteLaws.{turned-away, too-small, may-write, all-written, same-written}
-use Rattle.cue_text.proofs.write.list_text.Statement.{statement}
-use Rattle.cue_text.proofs.write.list_text.Tie as tie
+use Rattle.list_text.proofs.WriteLaws.{turned-away, too-small, may-write, all-written, same-written}
+use Rattle.list_text.proofs.write.Statement.{statement}
+use Rattle.list_text.proofs.write.Tie as tie
 
 text-needed-requires : tie.Need-text-needed-requires
 text-needed-requires c κs = search needs
@@ -45,8 +45,8 @@ returns-3 c =
     let r = all-written _ _ _ (a .text-needed .ensures) _ _ (b .answer .given .1) _ (i .if1 .left) (c .before .before .put-lines .ensures) in
     (r, same-written _ _ (λ j h. a .before .before .shared-slice-known .given j .fits) _ _ r)
 
-pub list-text-spec : {M : Type 1} → statement M
-list-text-spec =
+pub write-spec : {M : Type 1} → statement M
+write-spec =
     tie.close
     (tie.spec
     text-needed-requires

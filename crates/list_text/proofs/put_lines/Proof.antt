@@ -2,9 +2,9 @@ use borrow.Author.Needs.{needs}
 use Prim.Native.Nat.{_≤_}
 use native.Mathlib.Omega.{arith}
 use lib.ListN.{length, length-take, length-drop}
-use Rattle.cue_text.proofs.WriteLaws.{Putting, putting-first, putting-last, putting-there, putting-whole, putting-some, putting-next}
-use Rattle.cue_text.proofs.write.put_lines.Statement.{statement}
-use Rattle.cue_text.proofs.write.put_lines.Tie as tie
+use Rattle.list_text.proofs.WriteLaws.{Putting, putting-first, putting-last, putting-there, putting-whole, putting-some, putting-next}
+use Rattle.list_text.proofs.put_lines.Statement.{statement}
+use Rattle.list_text.proofs.put_lines.Tie as tie
 
 abbrev Inv-loop : tie.InvT-loop
 Inv-loop list out₀ rest₀ at₀ out rest at = Putting list rest out₀ out at

@@ -1,7 +1,7 @@
-// A cue list written as text: a line for each record.
-use crate::TextAnswer;
+// A cue list written as text: a line for each record. A first pass checks and counts, and only the second writes, so that a refusal leaves the room as it is.
 use cue::records;
 use cue::records::Record;
+use cue_text::TextAnswer;
 use lbp16::Refusal;
 use packet::bytes;
 use text::number;
@@ -18,10 +18,11 @@ ghost use Rattle.packet.specs.Bytes.{number};
 ghost use Rattle.packet.specs.Step.{Step, isInfo};
 ghost use Rattle.packet.specs.Command.{pickKind};
 ghost use Rattle.cue.specs.Records.{records, recordsOf, recordStep, recordAt, bytesOfValue, brief};
 ghost use Rattle.cue_text.specs.Assembled.{textListed, left};
-ghost use Rattle.cue_text.specs.Written.{spaceWord, hexWord, kindWord, lineOf, textOf, listWritten};
-ghost use Rattle.cue_text.specs.Inside.{textNeeded};
-ghost use Rattle.cue_text.specs.TextShow.{SameList};
+ghost use Rattle.space_text.specs.SpaceText.{spaceWord};
+ghost use Rattle.list_text.specs.Written.{hexWord, kindWord, lineOf, textOf, listWritten};
+ghost use Rattle.list_text.specs.Inside.{textNeeded};
+ghost use Rattle.list_text.specs.SameList.{SameList};
 
 // The bytes of a space's word.
 fn word_bytes(space: u8) -> usize
@@ -74,16 +75,6 @@ fn text_needed(list: &[u8]) -> TextAnswer
     }
 }
 
-fn put_space(out: &mut [u8], at: usize, space: u8) -> usize
-    ensures { λ r. ⌜ filled r (now (out .exit)) ≡ putAt (spaceWord (spaceOf space)) at (now (out .entry)) ⌝ }
-{
-    let t = pick(space == 7, b"information", b"");
-    let t = pick(space == 6, b"status", t);
-    let t = pick(space == 2, b"eeprom", t);
-    let t = pick(space == 0, b"registers", t);
-    text::put(out, at, t)
-}
-
 // So many digits behind 0x.
 fn put_number(out: &mut [u8], at: usize, digits: usize, n: u64) -> usize
     ensures { λ r. ⌜ filled r (now (out .exit)) ≡ putAt (hexWord digits n) at (now (out .entry)) ⌝ }
@@ -98,7 +89,7 @@ fn put_front(out: &mut [u8], at: usize, r: Record) -> usize
         ≡ putAt (kindWord (pickKind (r .write)) ++ spaceWord (spaceOf (r .space)) ++ hexWord 4 (r .address)) at (now (out .entry)) ⌝ }
 {
     let at = text::put(out, at, pick(r.write, b"write ", b"read "));
-    let at = put_space(out, at, r.space);
+    let at = space_text::put_word(out, at, r.space);
     put_number(out, at, 4, r.address as u64)
 }
 
@@ -148,7 +139,7 @@ fn put_lines(list: &[u8], out: &mut [u8])
 
 // The text of a list, a line for each record. A bad list is refused as the compiler refuses it, and a good one with 26 where `out` is
 // shorter than its text.
-pub fn list_text(list: &[u8], out: &mut [u8]) -> TextAnswer
+pub fn write(list: &[u8], out: &mut [u8]) -> TextAnswer
     ensures written { λ r. ⌜ left r (now (out .exit)) ≡ listWritten (now (list .entry)) (now (out .entry)) ⌝ }
     ensures same_list { λ r. ⌜ ((bytes count : ℕ) → textListed r ≡ Answer.accepted (bytes ∷ count ∷ [])
         → SameList (now (list .entry)) (take bytes (now (out .exit)))) ⌝ }

@@ -13,13 +13,14 @@ use Rattle.cue.specs.Packing
 use Rattle.text.specs.Number
 use Rattle.text.specs.Number.{ascii}
 use Rattle.text.specs.Find
 use Rattle.cue_text.specs.Words
 use Rattle.cue_text.specs.Numbers
 use Rattle.cue_text.specs.Text
 use Rattle.cue_text.specs.Assembled
 use Rattle.cue_text.specs.Assembled.{textAssembled}
-use Rattle.cue_text.specs.Written
-use Rattle.cue_text.specs.Written.{listWritten}
+use Rattle.space_text.specs.SpaceText
+use Rattle.list_text.specs.Written
+use Rattle.list_text.specs.Written.{listWritten}
 
 -- opens every definition that the examples compute with
 all : Bool
@@ -33,7 +34,7 @@ unfolding Space.spaceOf Space.spaceNumber Space.isAbsent Space.row Space.areaRow
     Numbers.isKeyword Numbers.isName Text.readForm Text.writeForm Text.nameForm Text.formOf Text.placeBy Text.placeOf Text.isKnown
     Text.bytesOfCue Text.stepOf Text.recordMeaning Text.readMeaning Text.writeMeaning Text.nameMeaning Text.formMeaning Text.lineMeaning
     Assembled.withCue Assembled.knownAfter Assembled.indexAfter Assembled.withLine Assembled.assembledFrom Assembled.assembled Assembled.listOf
-    Assembled.placed Assembled.assembledTo Assembled.textAssembled Written.spaceWord Written.hexWord Written.kindWord Written.valueWord
+    Assembled.placed Assembled.assembledTo Assembled.textAssembled SpaceText.spaceWord Written.hexWord Written.kindWord Written.valueWord
     Written.lineOf Written.textOf Written.writtenTo Written.listWritten
 all = true
 

@@ -3,9 +3,9 @@ use native.Mathlib.Omega.{arith}
 use borrow.Author.Tests.{ne-eqb}
 use Rattle.text.specs.Number.{ascii}
 use Rattle.lbp16.specs.Space.{spaceOf}
-use Rattle.cue_text.specs.Written.{spaceWord}
-use Rattle.cue_text.proofs.write.word_bytes.Statement.{statement}
-use Rattle.cue_text.proofs.write.word_bytes.Tie as tie
+use Rattle.space_text.specs.SpaceText.{spaceWord}
+use Rattle.list_text.proofs.word_bytes.Statement.{statement}
+use Rattle.list_text.proofs.word_bytes.Tie as tie
 
 returns : tie.Need-returns
 unfolding spaceWord spaceOf ascii

@@ -4,20 +4,13 @@ use mathlib.Core.List.{List, [], _++_, map}
 use lib.ListN.{length}
 use Rattle.text.specs.Number.{ascii, hexadecimal}
 use Rattle.lbp16.specs.Answer.{Answer}
-use Rattle.lbp16.specs.Space.{Space, registers, eeprom, status, information, absent, row}
+use Rattle.lbp16.specs.Space.{Space, row}
+use Rattle.space_text.specs.SpaceText.{spaceWord}
 use Rattle.packet.specs.Bytes.{number}
 use Rattle.packet.specs.Step.{Kind, read, write, infoRead, Step}
 use Rattle.cue.specs.Packing.{joinAll}
 use Rattle.cue.specs.Records.{Listed, refused, records, recordsOf}
 use Rattle.cue_text.specs.Assembled.{Left, placed}
-
--- No record of an accepted list has another space.
-unfoldable pub spaceWord : Space → List ℕ
-spaceWord registers = ascii "registers"
-spaceWord eeprom = ascii "eeprom"
-spaceWord status = ascii "status"
-spaceWord information = ascii "information"
-spaceWord absent = []
 
 -- so many digits behind 0x
 unfoldable pub hexWord : ℕ → ℕ → List ℕ

@@ -1,9 +1,9 @@
 use Rattle.text.specs.Number.{ascii}
 use Rattle.text.proofs.RoomLaws.{put-then}
-use Rattle.cue_text.specs.Written.{hexWord}
+use Rattle.list_text.specs.Written.{hexWord}
 use borrow.Author.Needs.{needs}
-use Rattle.cue_text.proofs.write.put_number.Statement.{statement}
-use Rattle.cue_text.proofs.write.put_number.Tie as tie
+use Rattle.list_text.proofs.put_number.Statement.{statement}
+use Rattle.list_text.proofs.put_number.Tie as tie
 
 slice-aggregate-put : tie.Need-slice-aggregate-put
 slice-aggregate-put c = search needs

@@ -1,9 +1,9 @@
 use Rattle.text.specs.Number.{ascii}
 use Rattle.text.proofs.RoomLaws.{put-then}
-use Rattle.cue_text.proofs.WriteLaws.{read-line-is, write-line-is}
+use Rattle.list_text.proofs.WriteLaws.{read-line-is, write-line-is}
 use borrow.Author.Needs.{needs}
-use Rattle.cue_text.proofs.write.put_line.Statement.{statement}
-use Rattle.cue_text.proofs.write.put_line.Tie as tie
+use Rattle.list_text.proofs.put_line.Statement.{statement}
+use Rattle.list_text.proofs.put_line.Tie as tie
 
 put-front-requires : tie.Need-put-front-requires
 put-front-requires c κs = search needs

@@ -16,9 +16,9 @@ use Rattle.lbp16.proofs.CaseLaws.{space-cases}
 use Rattle.text.specs.Number.{ascii, hexDigit, hexadecimal}
 use Rattle.text.specs.Find.{bytesBefore, capital, hexValue, sameBytes}
 use Rattle.text.proofs.HexLaws.{hex-length}
 use Rattle.cue_text.specs.Words.{isBlank, withByte, linesOf, uncommented, closed, wordsFrom, wordsOf}
 use Rattle.cue_text.specs.Numbers.{value, allDigits, digitsFrom, digitsValue, isHex, numberOf, upTo, addressOf, valueOf, spaceOf}
-use Rattle.cue_text.specs.Written.{spaceWord}
+use Rattle.space_text.specs.SpaceText.{spaceWord}
 
 -- bytes of a word: digits and letters
 abbrev pub Plain : List ℕ → Type 0

@@ -1,7 +1,7 @@
-use Rattle.cue_text.proofs.WriteLaws.{value-four, value-two}
+use Rattle.list_text.proofs.WriteLaws.{value-four, value-two}
 use borrow.Author.Needs.{needs}
-use Rattle.cue_text.proofs.write.put_value.Statement.{statement}
-use Rattle.cue_text.proofs.write.put_value.Tie as tie
+use Rattle.list_text.proofs.put_value.Statement.{statement}
+use Rattle.list_text.proofs.put_value.Tie as tie
 
 pair-at-requires : tie.Need-pair-at-requires
 pair-at-requires c κs = search needs

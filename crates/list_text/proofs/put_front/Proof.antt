@@ -1,10 +1,10 @@
 use mathlib.Core.Path.{_∙_}
 use Rattle.text.specs.Number.{ascii}
 use Rattle.text.proofs.RoomLaws.{put-then}
-use Rattle.cue_text.proofs.WriteLaws.{kind-word-is}
+use Rattle.list_text.proofs.WriteLaws.{kind-word-is}
 use borrow.Author.Needs.{needs}
-use Rattle.cue_text.proofs.write.put_front.Statement.{statement}
-use Rattle.cue_text.proofs.write.put_front.Tie as tie
+use Rattle.list_text.proofs.put_front.Statement.{statement}
+use Rattle.list_text.proofs.put_front.Tie as tie
 
 slice-aggregate-pick : tie.Need-slice-aggregate-pick
 slice-aggregate-pick c = search needs
@@ -18,8 +18,8 @@ pick-requires c κs = search needs
 put-requires : tie.Need-put-requires
 put-requires c κs = search needs
 
-put-space-requires : tie.Need-put-space-requires
-put-space-requires c κs = search needs
+put-word-requires : tie.Need-put-word-requires
+put-word-requires c κs = search needs
 
 cast-put-number : tie.Need-cast-put-number
 cast-put-number c = search needs
@@ -37,7 +37,7 @@ returns c =
     let y = z .before .before .before .before .before in
     let x = y .before .before .before .before in
     let a = x .before .before .before .before .before .before .args in
-    put-then _ _ _ _ (put-then _ _ _ _ (rw (x .before .pick .ensures ∙ kind-word-is (a .r .write)) at (x .put .ensures)) (y .put-space .ensures))
+    put-then _ _ _ _ (put-then _ _ _ _ (rw (x .before .pick .ensures ∙ kind-word-is (a .r .write)) at (x .put .ensures)) (y .put-word .ensures))
     (z .put-number .ensures)
 
 pub put-front-spec : {M : Type 1} → statement M
@@ -48,7 +48,7 @@ put-front-spec =
     slice-aggregate-pick-2
     pick-requires
     put-requires
-    put-space-requires
+    put-word-requires
     cast-put-number
     put-number-requires
     same-length

@@ -31,28 +31,13 @@ use Rattle.text.specs.Number.{ascii}
 use Rattle.text.specs.Room.{Filled, filled, putAt, textLeft}
 use Rattle.text.proofs.HexLaws.{hex-length}
 use Rattle.text.proofs.RoomLaws.{put-none, put-rest, put-front, put-within}
 use Rattle.cue_text.specs.Assembled.{Left, placed, textListed}
-use Rattle.cue_text.specs.Written.{spaceWord, hexWord, kindWord, valueWord, lineOf, textOf, writtenTo, listWritten}
-use Rattle.cue_text.specs.Inside.{textNeeded}
-use Rattle.cue_text.specs.TextShow.{SameList}
+use Rattle.space_text.specs.SpaceText.{spaceWord}
+use Rattle.list_text.specs.Written.{hexWord, kindWord, valueWord, lineOf, textOf, writtenTo, listWritten}
+use Rattle.list_text.specs.Inside.{textNeeded}
+use Rattle.list_text.specs.SameList.{SameList}
 use Rattle.cue_text.specs.declared.TextAnswer.{TextAnswer}
-use Rattle.cue_text.proofs.SameListLaws.{same-list}
-
--- A space's word, as the code chooses it.
-pub space-word-is : (n : ℕ)
-    → cond (eqb n 0) (ascii "registers") (cond (eqb n 2) (ascii "eeprom") (cond (eqb n 6) (ascii "status") (cond (eqb n 7) (ascii "information") [])))
-    ≡ spaceWord (spaceOf n)
-unfolding spaceWord spaceOf
-space-word-is n = go (eqb n 0) (eqb n 2) (eqb n 6) (eqb n 7)
-  where
-    go : (a b c d : Bool)
-        → cond a (ascii "registers") (cond b (ascii "eeprom") (cond c (ascii "status") (cond d (ascii "information") [])))
-        ≡ spaceWord (cond a registers (cond b eeprom (cond c status (cond d information absent))))
-    go true b c d = refl
-    go false true c d = refl
-    go false false true d = refl
-    go false false false true = refl
-    go false false false false = refl
+use Rattle.list_text.proofs.SameListLaws.{same-list}
 
 pub kind-word-is : (w : Bool) → cond w (ascii "write ") (ascii "read ") ≡ kindWord (pickKind w)
 unfolding kindWord

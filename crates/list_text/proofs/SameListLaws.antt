@@ -25,17 +25,18 @@ use Rattle.cue.proofs.ReadingLaws.{passing, front-there}
 use Rattle.cue.proofs.WalkLaws.{Remains, remains-all, remains-none, remains-next}
 use Rattle.text.specs.Number.{ascii}
 use Rattle.text.specs.Find.{sameBytes}
 use Rattle.cue_text.specs.Words.{linesOf, wordsOf, wordsFrom}
 use Rattle.cue_text.specs.Text
 use Rattle.cue_text.specs.Text.{Name, bytesOfCue, stepOf, readOf, writeOf, placeBy, readForm, writeForm, formOf, recordMeaning, readMeaning, writeMeaning}
 use Rattle.cue_text.specs.Text.{formMeaning, lineMeaning}
 use Rattle.cue_text.specs.Assembled.{cues, withCue, withLine, knownAfter, indexAfter, assembledFrom, assembled, listOf}
-use Rattle.cue_text.specs.Written.{spaceWord, hexWord, kindWord, valueWord, lineOf, textOf}
-use Rattle.cue_text.specs.TextShow.{SameList}
+use Rattle.space_text.specs.SpaceText.{spaceWord}
+use Rattle.list_text.specs.Written.{hexWord, kindWord, valueWord, lineOf, textOf}
+use Rattle.list_text.specs.SameList.{SameList}
 use Rattle.cue_text.specs.declared.line.Cue.{Cue}
-use Rattle.cue_text.proofs.ReadBackLaws.{Inline, inline-append, plain-inline, line-then, line-words, word-then, word-last}
-use Rattle.cue_text.proofs.ReadBackLaws.{hexOf, hex-some, hex-word, address-back, value-back, space-back, space-plain, space-some}
+use Rattle.list_text.proofs.ReadBackLaws.{Inline, inline-append, plain-inline, line-then, line-words, word-then, word-last}
+use Rattle.list_text.proofs.ReadBackLaws.{hexOf, hex-some, hex-word, address-back, value-back, space-back, space-plain, space-some}
 use Rattle.cue_text.proofs.CueLaws.{list-none, list-cons, cue-front, cue-step, cue-alone}
 
 -- a line without its newline
 unfoldable bare : Step → List ℕ

@@ -2,10 +2,10 @@ use borrow.Author.Needs.{needs}
 use Prim.Native.Nat.{_≤_}
 use native.Mathlib.Omega.{arith}
 use lib.ListN.{length, length-take, length-drop}
 use Rattle.cue_text.specs.Assembled.{textListed}
-use Rattle.cue_text.proofs.WriteLaws.{Counting, counting-first, counting-last, counting-refused, counting-whole, counting-some, counting-next}
-use Rattle.cue_text.proofs.write.text_needed.Statement.{statement}
-use Rattle.cue_text.proofs.write.text_needed.Tie as tie
+use Rattle.list_text.proofs.WriteLaws.{Counting, counting-first, counting-last, counting-refused, counting-whole, counting-some, counting-next}
+use Rattle.list_text.proofs.text_needed.Statement.{statement}
+use Rattle.list_text.proofs.text_needed.Tie as tie
 
 abbrev Inv-loop : tie.InvT-loop
 Inv-loop list rest₀ index₀ bytes₀ rest index bytes = Counting list rest index bytes

@@ -1,9 +1,9 @@
 use native.Mathlib.Omega.{arith}
 use borrow.Author.Tests.{not-true, not-false}
-use Rattle.cue_text.proofs.WriteLaws.{read-bytes, write-four, write-two}
+use Rattle.list_text.proofs.WriteLaws.{read-bytes, write-four, write-two}
 use borrow.Author.Needs.{needs}
-use Rattle.cue_text.proofs.write.line_bytes.Statement.{statement}
-use Rattle.cue_text.proofs.write.line_bytes.Tie as tie
+use Rattle.list_text.proofs.line_bytes.Statement.{statement}
+use Rattle.list_text.proofs.line_bytes.Tie as tie
 
 word-bytes-requires : tie.Need-word-bytes-requires
 word-bytes-requires c κs = search needs
