@@ -4,7 +4,7 @@ use mathlib.Core.Path.{_≡_, refl, ap, sym}
 use mathlib.Core.List.{List, _++_}
 use mathlib.Core.Bool.{Bool, true, false, _&&_, cond}
 use native.Mathlib.Omega.{arith}
-use borrow.Author.Tests.{le-ltb}
+use borrow.Author.Tests.{le-ltb, ltb-false}
 use lib.Dec.{eqb, ltb}
 use lib.ListN.{length, drop, length-append, length-take, length-drop}
 use Rattle.lbp16.specs.Word.{fieldsOf}
@@ -13,14 +13,15 @@ use Rattle.lbp16.specs.declared.pointer.Pointers.{Pointers}
 use Rattle.packet.specs.Command.{limit, fieldsAt, headerBytes, commandBytes}
 use Rattle.packet.specs.Judge.{Verdict, refused, accepted, judge}
 use Rattle.packet.proofs.RefusalLaws.{RefusedAt, refused-in-table}
-use Rattle.card.proofs.RunLaws.{checked-cases}
+use Rattle.card.specs.Run.{badState}
 use Rattle.text.specs.Number.{ascii, hexadecimal}
 use Rattle.text.proofs.HexLaws.{hex-length, bytes-length}
 use Rattle.text.proofs.LineLaws.{cond-length, numbered-length}
 use Rattle.sentence.specs.Sentence.{sentenceOf}
 use Rattle.sentence.proofs.TableLaws.{sentence-short}
-use Rattle.reason.specs.Reason.{commandsFrom, commandsBefore, unnamed, named, reasonOf, explained}
+use Rattle.reason.specs.Reason.{commandsFrom, commandsBefore, unnamed, named, reasonOf, verdictOf, explained}
 use Rattle.reason.specs.declared.Reason.{Reason}
+use Rattle.reason.proofs.ReasonLaws.{explained-bad, explained-fine}
 use Rattle.packet_text.specs.Wording.{ruleText, refusedText, elementBytes, kindText, fieldsText, addressDigits, addressText}
 use Rattle.packet_text.specs.Wording.{describedText, lastPlace, bytesNamed, commandShown, spanText, commandText}
 
@@ -68,6 +69,9 @@ count-few : (w : ℕ) → fieldsOf w .count < 128
 unfolding fieldsOf
 count-few w = omega arith
 
+pub count-at : (rest : List ℕ) → fieldsAt rest .count < 128
+count-at rest = fields-some (λ f. f .count < 128) count-few rest
+
 unnamed-small : (packet : List ℕ) (n : ℕ) → n < 3 → Small packet (unnamed n 0)
 unfolding unnamed
 unnamed-small packet n l =
@@ -80,40 +84,57 @@ unnamed-small packet n l =
       short = λ h. absurd (omega arith);
     }
 
-module _ (packet store : List ℕ) (p : Pointers) where
-  pub small : Small packet (explained packet store p)
-  unfolding explained reasonOf named commandsBefore
-  small =
-      checked-cases packet store p (λ v. Small packet (reasonOf p packet v)) (λ _. unnamed-small packet 1 (omega arith))
-      (λ _ _. unnamed-small packet 2 (omega arith))
-      (λ _ short. go short (judge p packet) refl)
+-- of packet and pointers alone, and of the card
+module _ (packet : List ℕ) (p : Pointers) where
+  pub small-alone : Small packet (reasonOf p packet (verdictOf p packet))
+  unfolding verdictOf reasonOf named commandsBefore
+  small-alone = by-length (ltb limit (length packet)) refl
     where
+      at : length packet ≤ limit → (n place : ℕ) → RefusedAt p packet n place → Small packet (reasonOf p packet (refused n place))
+      at short n place r =
+          let three = r .in-table .0 in
+          let twelve = r .in-table .1 in
+          let some : 1 ≤ length (drop place packet) = rw (r .from-place) (r .some) in
+          let within : 1 ≤ length packet - place = rw (length-drop place packet) at some in
+          rw (le-ltb n 3 three) (record {
+            number = twelve;
+            place = omega arith;
+            index = omega (arith, commands-few place place packet);
+            space = fields-some (λ f. f .space < 8) space-few (drop place packet);
+            count = count-at (drop place packet);
+            short = λ _. short;
+          })
+
       go : length packet ≤ limit → (v : Verdict) → judge p packet ≡ v → Small packet (reasonOf p packet v)
       go short (accepted c) q = unnamed-small packet 0 (omega arith)
-      go short (refused n place) q = at (refused-in-table p packet n place q)
-        where
-          at : RefusedAt p packet n place → Small packet (reasonOf p packet (refused n place))
-          at r =
-              let three = r .in-table .0 in
-              let twelve = r .in-table .1 in
-              let some : 1 ≤ length (drop place packet) = rw (r .from-place) (r .some) in
-              let within : 1 ≤ length packet - place = rw (length-drop place packet) at some in
-              rw (le-ltb n 3 three) (record {
-                number = twelve;
-                place = omega arith;
-                index = omega (arith, commands-few place place packet);
-                space = fields-some (λ f. f .space < 8) space-few (drop place packet);
-                count = fields-some (λ f. f .count < 128) count-few (drop place packet);
-                short = λ _. short;
-              })
+      go short (refused n place) q = at short n place (refused-in-table p packet n place q)
 
-address-few : (n : ℕ) → length (hexadecimal (addressDigits n) n) ≤ 5
+      by-length : (b : Bool) → ltb limit (length packet) ≡ b → Small packet (reasonOf p packet (cond b (refused 2 0) (judge p packet)))
+      by-length true q = unnamed-small packet 2 (omega arith)
+      by-length false q = go (ltb-false limit (length packet) q) (judge p packet) refl
+
+pub small : (packet store : List ℕ) (p : Pointers) → Small packet (explained packet store p)
+small packet store p = go (badState store p) refl
+  where
+    go : (b : Bool) → badState store p ≡ b → Small packet (explained packet store p)
+    go true q = rw (← explained-bad packet store p q) (unnamed-small packet 1 (omega arith))
+    go false q = rw (← explained-fine packet store p q) (small-alone packet p)
+
+pub address-few : (n : ℕ) → length (hexadecimal (addressDigits n) n) ≤ 5
 unfolding addressDigits
 address-few n = rw hex-length (go (ltb n 65536))
   where
     go : (b : Bool) → cond b 4 5 ≤ 5
     go true = omega arith
     go false = omega arith
+
+pub kind-few : (f : Fields) → length (kindText f) ≤ 10
+unfolding kindText ascii
+kind-few f =
+    let i = f .info in
+    cond-length 10 (f .write) (cond i (ascii "info write") (ascii "write")) (cond i (ascii "info read") (ascii "read"))
+    (cond-length 10 i (ascii "info write") (ascii "write") (omega arith) (omega arith))
+    (cond-length 10 i (ascii "info read") (ascii "read") (omega arith) (omega arith))
 
 pub element-few : (code : ℕ) → elementBytes code ≤ 8
 unfolding elementBytes
@@ -146,18 +167,10 @@ module _ (packet : List ℕ) (r : Reason) (s : Small packet r) where
       let c = rule-short (r .number) in
       simp length-append (omega arith)
 
-  kind-size : length (kindText (r .fields)) ≤ 10
-  unfolding kindText ascii
-  kind-size =
-      let i = r .fields .info in
-      cond-length 10 (r .fields .write) (cond i (ascii "info write") (ascii "write")) (cond i (ascii "info read") (ascii "read"))
-      (cond-length 10 i (ascii "info write") (ascii "write") (omega arith) (omega arith))
-      (cond-length 10 i (ascii "info read") (ascii "read") (omega arith) (omega arith))
-
   fields-size : length (fieldsText (r .fields)) ≤ 118
   unfolding fieldsText ascii
   fields-size =
-      let a = kind-size in
+      let a = kind-few (r .fields) in
       let b = numbered-length (ascii ", space ") (r .fields .space) (omega (arith, s .space)) in
       let c = numbered-length (ascii ", ") (elementBytes (r .fields .size)) (omega (arith, element-few (r .fields .size))) in
       let d = cond-length 28 (r .fields .increment) (ascii "-byte elements, increment") (ascii "-byte elements, no increment")

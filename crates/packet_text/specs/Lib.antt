@@ -1,1 +1,3 @@
 pub mod Wording
+pub mod Packet
+pub mod Inside

@@ -22,7 +22,7 @@ fn element_bytes(code: u8) -> u64
     }
 }
 
-fn kind(out: &mut [u8], at: usize, f: Fields) -> usize
+pub(crate) fn kind(out: &mut [u8], at: usize, f: Fields) -> usize
     ensures { λ r. ⌜ filled r (now (out .exit)) ≡ putAt (kindText f) at (now (out .entry)) ⌝ }
 {
     let write = pick(f.info, b"info write", b"write");
@@ -45,7 +45,7 @@ fn fields(out: &mut [u8], at: usize, f: Fields) -> usize
     line::numbered(out, at, b", count ", f.count as u64)
 }
 
-fn address_digits(n: u32) -> usize
+pub(crate) fn address_digits(n: u32) -> usize
     ensures { λ r. ⌜ r ≡ addressDigits n ⌝ }
 {
     if n < 65536 { 4 } else { 5 }

@@ -17,7 +17,7 @@ use Rattle.card.proofs.RunLaws.{checked-cases, run-answers-check}
 use Rattle.card.proofs.AnswerLaws.{check-judge}
 use Rattle.packet.proofs.RefusalLaws.{refused-in-table}
 use Rattle.packet.proofs.JudgeLaws.{accepted-some}
-use Rattle.reason.specs.Reason.{unnamed, named, reasonOf, explained, FrontAccepted}
+use Rattle.reason.specs.Reason.{unnamed, named, reasonOf, verdictOf, explained, FrontAccepted}
 use Rattle.reason.specs.declared.Reason.{Reason}
 use Rattle.reason.proofs.FrontLaws.{front-judged}
 
@@ -26,11 +26,11 @@ either : (get : Reason → ℕ) (n : ℕ) (b : Bool) (r s : Reason) → get r �
 either get n true r s e f = e
 either get n false r s e f = f
 
-told-number : (p : Pointers) (packet : List ℕ) (n place : ℕ) → reasonOf p packet (refused n place) .number ≡ n
+pub told-number : (p : Pointers) (packet : List ℕ) (n place : ℕ) → reasonOf p packet (refused n place) .number ≡ n
 unfolding reasonOf unnamed named
 told-number p packet n place = either (λ (r : Reason). r .number) n (ltb n 3) _ _ refl refl
 
-told-place : (p : Pointers) (packet : List ℕ) (n place : ℕ) → reasonOf p packet (refused n place) .place ≡ place
+pub told-place : (p : Pointers) (packet : List ℕ) (n place : ℕ) → reasonOf p packet (refused n place) .place ≡ place
 unfolding reasonOf unnamed named
 told-place p packet n place = either (λ (r : Reason). r .place) place (ltb n 3) _ _ refl refl
 
@@ -42,7 +42,7 @@ answer-told p packet (refused n place) l = rw (told-number p packet n place, tol
 answer-told p packet (accepted c) l = absurd (omega arith)
 
 -- from the check's answer
-refused-of : (v : Verdict) (n place : ℕ) → Answer.refused n place ≡ answerTo v → v ≡ refused n place
+pub refused-of : (v : Verdict) (n place : ℕ) → Answer.refused n place ≡ answerTo v → v ≡ refused n place
 unfolding answerTo
 refused-of (refused m at) n place e = let a : m ≡ n = cc in let b : at ≡ place = cc in rw (a, b) refl
 refused-of (accepted c) n place e = let z : _≡_ {A = ℕ} 0 1 = cc in absurd (omega arith)
@@ -85,34 +85,14 @@ module _ (packet store : List ℕ) (p : Pointers) where
   unfolding explained reasonOf
   no-command-named n place e l = rw (e, lt-ltb n 3 l) refl
 
-  -- Refusals 1 and 2 are at place 0, and those from 3 on are the commands'.
-  refusal-cases : (n place : ℕ) → checked packet store p ≡ refused n place
-      → (n < 3 → place ≡ 0) × (3 ≤ n → judge p packet ≡ refused n place)
-  refusal-cases n place =
-      checked-cases packet store p
-      (λ v. v ≡ refused n place → (n < 3 → place ≡ 0) × (3 ≤ n → judge p packet ≡ refused n place))
-      (λ _ e. let a : 1 ≡ n = cc in let b : 0 ≡ place = cc in ((λ l. omega arith), (λ l. absurd (omega arith))))
-      (λ _ _ e. let a : 2 ≡ n = cc in let b : 0 ≡ place = cc in ((λ l. omega arith), (λ l. absurd (omega arith))))
-      (λ _ _ e. ((λ l. absurd (omega (arith, refused-in-table p packet n place e .in-table .0))), (λ l. e)))
+  -- as the code has it: refusal 1, or what packet and pointers alone say
+  pub explained-bad : badState store p ≡ true → unnamed 1 0 ≡ explained packet store p
+  unfolding explained checked reasonOf
+  explained-bad h = rw h refl
 
-  -- as the code has it: from the check's answer
-  pub explained-accepted : (n : ℕ) → Answer.accepted (n ∷ []) ≡ answerTo (checked packet store p)
-      → unnamed 0 0 ≡ explained packet store p
-  explained-accepted n e = let (end, a) = accepted-some _ n e in sym (all-zero end a)
-
-  module _ (n place : ℕ) (e : Answer.refused n place ≡ answerTo (checked packet store p)) where
-    pub explained-unnamed : n < 3 → unnamed n 0 ≡ explained packet store p
-    explained-unnamed l =
-        let v = refused-of _ n place e in
-        let z = refusal-cases n place v .0 l in
-        sym (no-command-named n place v l ∙ rw z refl)
-
-    pub judged-refused : 3 ≤ n → judge p packet ≡ refused n place
-    judged-refused l = refusal-cases n place (refused-of _ n place e) .1 l
-
-    pub explained-named : 3 ≤ n → named p packet n place ≡ explained packet store p
-    unfolding explained reasonOf
-    explained-named l = rw (refused-of _ n place e, le-ltb n 3 l) refl
+  pub explained-fine : badState store p ≡ false → reasonOf p packet (verdictOf p packet) ≡ explained packet store p
+  unfolding explained checked verdictOf
+  explained-fine h = rw h refl
 
   -- From 3 on the bytes before the place are accepted.
   pub front-accepted : (r : Reason) → r ≡ explained packet store p → FrontAccepted packet store p r
@@ -136,3 +116,25 @@ module _ (packet store : List ℕ) (p : Pointers) where
       by-verdict =
           checked-cases packet store p Says (λ _ l. absurd (omega arith)) (λ _ _ l. absurd (omega arith))
           (λ fine short. go fine short (judge p packet) refl)
+
+-- Packet and pointers alone, as the code has it.
+module _ (p : Pointers) (packet : List ℕ) where
+  pub reason-long : limit < length packet → unnamed 2 0 ≡ reasonOf p packet (verdictOf p packet)
+  unfolding verdictOf reasonOf
+  reason-long h = rw (lt-ltb limit (length packet) h) refl
+
+  module _ (short : length packet ≤ limit) where
+    pub verdict-judged : verdictOf p packet ≡ judge p packet
+    unfolding verdictOf
+    verdict-judged = rw (le-ltb limit (length packet) short) refl
+
+    pub reason-accepted : (n : ℕ) → Answer.accepted (n ∷ []) ≡ answerTo (judge p packet)
+        → unnamed 0 0 ≡ reasonOf p packet (verdictOf p packet)
+    unfolding reasonOf
+    reason-accepted n e = let (end, a) = accepted-some _ n e in rw (verdict-judged, a) refl
+
+    pub reason-named : (n place : ℕ) → judge p packet ≡ refused n place
+        → named p packet n place ≡ reasonOf p packet (verdictOf p packet)
+    unfolding reasonOf
+    reason-named n place e =
+        rw (verdict-judged, e, le-ltb n 3 (refused-in-table p packet n place e .in-table .0)) refl

@@ -7,10 +7,12 @@ use card::check;
 use lbp16::pointer::Pointers;
 use lbp16::word;
 use lbp16::word::Fields;
+use packet::command;
+use packet::judge;
 use packet::judge::Verdict;
 ghost use lib.ListN.{take};
 ghost use mathlib.Core.Path.{_≡_};
-ghost use Rattle.reason.specs.Reason.{unnamed, explained, FrontAccepted};
+ghost use Rattle.reason.specs.Reason.{unnamed, reasonOf, verdictOf, explained, FrontAccepted};
 
 // All 0 where the packet is accepted. `address` is the one that the command uses, given or from a pointer; index, fields and
 // address are 0 too where no command is at fault.
@@ -35,20 +37,29 @@ pub fn no_command(number: u32) -> Reason
     }
 }
 
+// Of the packet and the pointers alone: refusal 1 is not asked.
+pub fn explain_packet(packet: &[u8], p: Pointers) -> Reason
+    ensures { λ r. ⌜ r ≡ reasonOf p (now (packet .entry)) (verdictOf p (now (packet .entry))) ⌝ }
+{
+    if command::LIMIT < packet.len() {
+        return no_command(2);
+    }
+    let verdict = judge::judge(packet, p);
+    let Verdict::Refused(refusal) = verdict else {
+        return no_command(0);
+    };
+    walk::walk(packet, p, refusal.number, refusal.place)
+}
+
 // The number and the place are those that the check, and a run with 1,472 bytes of reply room, answers.
 pub fn explain(packet: &[u8], store: &[u8], p: Pointers) -> Reason
     ensures explained { λ r. ⌜ r ≡ explained (now (packet .entry)) (now (store .entry)) p ⌝ }
     ensures front { λ r. ⌜ FrontAccepted (now (packet .entry)) (now (store .entry)) p r ⌝ }
 {
-    let verdict = check::check(packet, store, p);
-    let Verdict::Refused(refusal) = verdict else {
-        return no_command(0);
-    };
-    let number = refusal.number;
-    if number < 3 {
-        return no_command(number);
+    if check::bad_state(store, p) {
+        return no_command(1);
     }
-    walk::walk(packet, p, number, refusal.place)
+    explain_packet(packet, p)
 }
 
 // The bytes before a place; the whole packet where it ends before that.
