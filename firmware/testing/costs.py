@@ -4,7 +4,7 @@ import time
 
 from board import PATIENCE, ROOT, Board, Failed, made
 from library import Card
-from net import Net, datagram
+from net import Net
 from packets import word
 from talk import NAMES, Frames
 
@@ -72,7 +72,8 @@ def instructions(calls):
         talk = Frames(board, Net(Card(calls), NAMES))
         for name, packet in (("1 read", small[:1]), ("368 reads", reads), ("368 small commands", small)):
             for _ in range(TIMES):
-                talk.frame(datagram(b"".join(packet)))
+                talk.packet(b"".join(packet))
+                talk.settle()
             found[name] = counted(board)
     finally:
         board.stop()

@@ -43,26 +43,42 @@ def asked_once(at, packet):
 
 
 class Talk:
-    """What frames and packets have in common."""
+    """What frames and packets have in common: some are sent at once, and then their replies are awaited in order. One that comes for
+    something that has none would be met before the next."""
 
     def __init__(self, board, net):
         self.board, self.net = board, net
-        self.sent = self.silent = self.bytes = 0
+        self.sent = self.bytes = 0
+        self.waiting = []
 
-    def expect_nothing(self, sent):
-        """Whether it is time to ask for a reply. It shows that nothing came for what was sent before, and that the chip, which has
-        room for about 10 KB, is empty."""
-        self.silent += 1
+    def post(self, sent):
+        expected = self.put(sent)
+        self.sent += 1
         self.bytes += len(sent)
-        return self.silent == 8 or self.bytes > 4000
+        self.waiting.append((expected, sent))
+        return expected
 
-    def expect_reply(self):
-        self.silent = self.bytes = 0
+    def tell(self, sent):
+        """Sends it, and answers the reply that is expected, if there is one. The chip has room for about 10 KB."""
+        expected = self.post(sent)
+        if len(self.waiting) == 8 or self.bytes > 4000:
+            self.settle()
+        return expected
+
+    def settle(self):
+        """Waits for all replies. The last that was sent has one, so that the chip is empty afterwards."""
+        if self.waiting and not self.waiting[-1][0]:
+            self.post(self.ANSWERED)
+        for expected, sent in self.waiting:
+            if expected:
+                self.agree(self.received(), expected, sent)
+        self.waiting, self.bytes = [], 0
 
     def compare(self):
         """The pointers and the store, read out by packets; the counters, read from memory; and the text."""
         for packet in readout():
             self.packet(packet)
+        self.settle()
         late = time.monotonic() + PATIENCE
         # The last reply is here before it is counted there.
         while not self.counted(counters(self.board)):
@@ -76,29 +92,30 @@ class Talk:
 class Frames(Talk):
     """Raw frames."""
 
+    ANSWERED = arp()
+    agree = staticmethod(agree_frame)
+
     def __init__(self, board, net):
         super().__init__(board, net)
         self.floods = self.flooded = 0
 
-    def frame(self, frame):
+    def put(self, frame):
         expected = self.net.answer(frame)
         self.board.send(frame)
-        self.sent += 1
-        if expected is not None:
-            self.expect_reply()
-            agree_frame(self.board.receive(), expected, frame)
-        elif self.expect_nothing(frame):
-            self.frame(arp())
+        return expected
 
     def packet(self, packet):
-        self.frame(datagram(packet))
+        self.tell(datagram(packet))
+
+    def received(self):
+        return self.board.receive()
 
     def counted(self, found):
         return found == self.net.counters
 
     def flood(self, frame):
         """The same frame many times without waiting. The chip loses some; those that it took must be answered rightly."""
-        self.frame(arp())
+        self.settle()
         before = counters(self.board)["FRAMES"]
         for _ in range(FLOOD):
             self.board.send(frame)
@@ -133,6 +150,9 @@ class Frames(Talk):
 class Packets(Talk):
     """Packets through a forwarded port."""
 
+    ANSWERED = COUNT
+    agree = staticmethod(agree)
+
     def __init__(self, board, net, address):
         super().__init__(board, net)
         self.replies = 0
@@ -165,20 +185,14 @@ class Packets(Talk):
         self.replies += 1
         agree(got, expected, packet)
 
-    def packet(self, packet):
-        """Sends a packet, and answers its reply."""
+    def put(self, packet):
         expected = self.net.packet(packet)
+        self.replies += bool(expected)
         self.socket.send(packet)
-        self.sent += 1
-        if expected:
-            self.expect_reply()
-            self.replies += 1
-            got = self.received()
-            agree(got, expected, packet)
-            return got
-        if self.expect_nothing(packet):
-            self.packet(COUNT)
-        return b""
+        return expected
+
+    def packet(self, packet):
+        return self.tell(packet)
 
     def received(self):
         try:
