@@ -44,6 +44,8 @@ def deepest(image):
             return exports[name]
         if name in ("memcpy", "memset", "memcmp"):
             return LIBC
+        if name not in frames:
+            raise Failed(f"{name} is called, and its stack is not known")
         return frames[name] + max((below(callee, above + [name]) for callee in calls.get(name, ())), default=0)
 
     return below("reset", [])
