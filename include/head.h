@@ -1,6 +1,6 @@
 /* The head controller, in the order in which one meets its parts:
  *
- *   a card                  head_check, head_run, head_why                                          examples/c/packets.c
+ *   a card                  head_check, head_run, head_why, head_packet_text                        examples/c/packets.c
  *   SPI bursts              head_spi                                                                examples/c/bursts.c
  *   words and headers       head_fields, head_word, head_header, head_header_word                   examples/c/bursts.c
  *   cue lists               head_compile                                                            examples/c/lists.c
@@ -237,6 +237,26 @@ uint32_t head_why(const uint8_t *packet, uint64_t packet_length,
                   const uint32_t *pointers, uint64_t pointers_length,
                   uint64_t *place, uint64_t *index,
                   uint8_t *fields, uint64_t fields_length);
+
+/* Writes a packet as text: a line for each accepted command, in order; of a packet that is refused the lines of the commands before the
+ * refused one, the refusal with its place and rule, and from 3 on the refused command with its bytes and fields.
+ *
+ *   packet    any bytes
+ *   pointers  the eight pointers before it, as in head_run; takes those that it leaves, which are the same where it is refused
+ *   out       room for the text: plain ASCII, each line with its newline, and no NUL behind it
+ *   bytes     takes the text's bytes, or those needed where out is too small
+ *
+ * E.g. "  8: write registers 0x0010, 2 elements, increment: 0x00000001 0x00000002": the command's offset, what it does, the space,
+ * the address, given or "from the pointer (0x0010)", and the values of a write. A packet of 0 bytes is "  no commands". Returns 0 also
+ * of a packet that is refused: the text says so. The text stands at the front of out, and what is beyond is unchanged.
+ *
+ *   1   not eight pointers, or one is above the size of its space or info area; bytes 0
+ *   26  out_length below the text's bytes
+ */
+uint32_t head_packet_text(const uint8_t *packet, uint64_t packet_length,
+                          uint32_t *pointers, uint64_t pointers_length,
+                          uint8_t *out, uint64_t out_length,
+                          uint64_t *bytes);
 
 /* ---- SPI bursts ---- */
 

@@ -42,6 +42,17 @@ static void answer(const uint8_t *packet, uint64_t length)
         send_reply(reply, value);
 }
 
+/* The packet's commands in words, from a fresh card; what does not fit is not written. */
+static void in_words(const uint8_t *packet, uint64_t length)
+{
+    static uint32_t fresh[HEAD_POINTERS];
+    static uint8_t text[1024];
+    uint64_t bytes = 0;
+
+    if (head_packet_text(packet, length, fresh, HEAD_POINTERS, text, sizeof text, &bytes) == HEAD_ACCEPTED)
+        printf("%.*s", (int)bytes, (const char *)text);
+}
+
 int main(void)
 {
     /* Write 0x12345678 to register 0x1000, and read it. */
@@ -53,6 +64,7 @@ int main(void)
     static const uint8_t past[] = {0x81, 0x42, 0xFC, 0xFF, 0x81, 0x02};
     uint64_t value = 0;
 
+    in_words(shutter, sizeof shutter);
     answer(shutter, sizeof shutter);
     answer(address, sizeof address);
     answer(locked, sizeof locked);

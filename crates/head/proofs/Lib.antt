@@ -11,3 +11,4 @@ pub mod SalvageExportLaws
 pub mod CaptureExportLaws
 pub mod SentenceExportLaws
 pub mod CueTextExportLaws
+pub mod PacketTextExportLaws

@@ -13,3 +13,4 @@ pub mod InterlockExports
 pub mod ListReasonExports
 pub mod SentenceExports
 pub mod CueTextExports
+pub mod PacketTextExports

@@ -6,6 +6,7 @@ mod interlock_exports;
 mod lent;
 mod list_reason_exports;
 mod numbers;
+mod packet_text_exports;
 mod panel_exports;
 pub mod parts_exports;
 mod reason_exports;

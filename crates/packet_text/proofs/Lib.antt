@@ -3,3 +3,4 @@ pub mod SizeLaws
 pub mod ListingLaws
 pub mod LayingLaws
 pub mod PacketLaws
+pub mod TextLaws

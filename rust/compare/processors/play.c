@@ -34,6 +34,11 @@ static uint32_t why(struct call *c)
     return head_why(LENT_(0), LENT_(1), LENT_(2), &c->answer[0], &c->answer[1], LENT_(3));
 }
 
+static uint32_t packet_text(struct call *c)
+{
+    return head_packet_text(LENT_(0), LENT_(1), LENT_(2), &c->answer[0]);
+}
+
 static uint32_t spi(struct call *c)
 {
     return head_spi(LENT_(0), LENT_(1), LENT_(2), &c->answer[0]);
@@ -202,7 +207,7 @@ static const struct {
     const char *name;
     uint32_t (*call)(struct call *);
 } exports[] = {
-    {"head_check", check}, {"head_run", run}, {"head_why", why}, {"head_spi", spi}, {"head_fields", fields},
+    {"head_check", check}, {"head_run", run}, {"head_why", why}, {"head_packet_text", packet_text}, {"head_spi", spi}, {"head_fields", fields},
     {"head_word", word}, {"head_header", header}, {"head_header_word", header_word}, {"head_compile", compile},
     {"head_tighten", tighten}, {"head_tight_check", tight_check},
     {"head_salvage", salvage}, {"head_list_why", list_why}, {"head_sentence", sentence}, {"head_table", table}, {"head_field", field}, {"head_pack", pack},

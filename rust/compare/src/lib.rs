@@ -19,6 +19,7 @@ pub mod lent;
 pub mod lines;
 pub mod list_why;
 pub mod lists;
+pub mod packet_texts;
 pub mod packets;
 pub mod panel;
 pub mod parts;

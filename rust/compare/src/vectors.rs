@@ -34,10 +34,11 @@ pub const MOST_BYTES: usize = 8 << 20;
 pub const UNWRITTEN: u64 = 0xA5A5_A5A5_A5A5_A5A5;
 
 /// The exports, each with all numbers that it can return.
-pub const EXPORTS: [(&str, &[u32]); 32] = [
+pub const EXPORTS: [(&str, &[u32]); 33] = [
     ("head_check", &[0, 1, 2, 3, 4, 5, 6, 7, 8, 9, 10, 11, 12]),
     ("head_run", &[0, 1, 2, 3, 4, 5, 6, 7, 8, 9, 10, 11, 12]),
     ("head_why", &[0, 1, 2, 3, 4, 5, 6, 7, 8, 9, 10, 11, 12, 13]),
+    ("head_packet_text", &[0, 1, 26]),
     ("head_spi", &[0, 1, 31, 32, 33, 34, 35]),
     ("head_fields", &[0, 13]),
     ("head_word", &[0, 13]),

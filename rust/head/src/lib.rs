@@ -39,6 +39,7 @@ pub mod guard;
 pub mod header;
 pub mod independent;
 pub mod list_why;
+pub mod packet_text;
 pub mod packets;
 pub mod panel;
 pub mod parts;
@@ -58,6 +59,7 @@ pub use guard::{Guard, guard, guarded_check, guarded_list, guarded_run, guarded_
 pub use header::{Header, header, header_word};
 pub use independent::{Dependent, independent};
 pub use list_why::{Fault, list_why};
+pub use packet_text::packet_text;
 pub use packets::{Compiled, Packets, compile};
 pub use recording::{Verdict, judge};
 pub use refusal::Refusal;

@@ -402,6 +402,16 @@ exports! {
         by kind: u32, by width: u32, by value: u64, by minimum_bits: u32, by maximum_bits: u32, keep reading_bits: u32
     );
 
+    /// Answers 0, 1 of the pointers, or 26 where the room is too small, and the text's bytes.
+    ///
+    /// ```
+    /// let (mut pointers, mut out) = ([0; head::POINTERS], [0; 100]);
+    /// let (number, bytes) = head::packet_text::exports::packet_text(&[0x81, 0x42, 0, 0], &mut pointers, &mut out);
+    /// assert_eq!(number, 0);
+    /// assert_eq!(&out[..bytes as usize], b"  0: read registers 0x0000, 1 element, increment\n");
+    /// ```
+    fn packet_text = head_packet_text(const packet: u8, mut pointers: u32, mut out: u8) -> (bytes: u64);
+
     /// Answers 0, or 26 where the room is too small, and the sentence's bytes.
     ///
     /// ```

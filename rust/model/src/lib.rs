@@ -11,6 +11,7 @@ pub mod guard;
 pub mod independent;
 pub mod list_why;
 pub mod packet;
+pub mod packet_text;
 pub mod packing;
 pub mod panel;
 pub mod parts;

@@ -82,7 +82,7 @@ pub(crate) fn start_at(packet: &[u8], pointers: [u32; POINTERS]) -> Result<Walk<
 }
 
 /// The pointers, if there are eight and each is at most its area's size.
-fn checked_pointers(pointers: &[u32]) -> Option<[u32; POINTERS]> {
+pub(crate) fn checked_pointers(pointers: &[u32]) -> Option<[u32; POINTERS]> {
     let pointers: [u32; POINTERS] = pointers.try_into().ok()?;
     let fits = |area: &Area| pointers[area.index()] <= area.bytes();
     Area::ALL.iter().all(fits).then_some(pointers)
@@ -187,6 +187,11 @@ impl<'a> Walk<'a> {
     /// The offset of the next command.
     pub(crate) fn place(&self) -> u64 {
         self.place
+    }
+
+    /// The pointers that the commands so far leave.
+    pub(crate) fn pointers(&self) -> [u32; POINTERS] {
+        self.pointers
     }
 
     /// The next command, or the lowest number that it is refused with.

@@ -17,6 +17,7 @@ const PARTS: &[Part] = &[
     Part("words", 0, |seed, _| compare::words::compare(seed)),
     Part("headers", 50_000, compare::headers::compare),
     Part("packets", 500_000, compare::packets::compare),
+    Part("packet_texts", 50_000, compare::packet_texts::compare),
     Part("bursts", 200_000, compare::bursts::compare),
     Part("lists", 30_000, compare::lists::compare),
     Part("shows", 8_000, compare::shows::compare),

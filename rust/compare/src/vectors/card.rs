@@ -7,6 +7,7 @@ use crate::words::{to_bytes, FIELDS};
 use crate::{bursts, cues, drafts, numbers, state, status_cell};
 use model::area::{Area, POINTERS};
 use model::packet::{check, run};
+use model::packet_text::{packet_text, put_packet_text};
 use model::packing::compile;
 use model::recording::judge;
 use model::spi::burst;
@@ -51,6 +52,7 @@ impl Card {
             } = self.drawn(&mut file.rng);
             self.check(file, &packet, rooms);
             self.why(file, &packet, rooms);
+            self.text(file, &packet, rooms);
             if !self.run(file, &packet, rooms) {
                 self.pointers = good;
             }
@@ -138,6 +140,22 @@ impl Card {
             Lent::changed(Room::Output, &before, &after),
         ];
         file.call("head_why", number, &[], &[place, index], lent);
+    }
+
+    fn text(&self, file: &mut File, packet: &[u8], [_, pointers, _]: [usize; 3]) {
+        let pointers = &self.pointers[..pointers];
+        let bytes = packet_text(packet, pointers).map_or(1, |(text, _)| text.len());
+        let mut before = vec![0; bytes - 1 + file.rng.below(3)];
+        file.rng.fill(&mut before);
+        let (mut after, mut moved) = (before.clone(), pointers.to_vec());
+        let answer = put_packet_text(packet, &mut moved, &mut after);
+        let (number, value) = numbers(&answer, |&bytes| bytes as u64);
+        let lent = vec![
+            Lent::kept(Room::Input, packet),
+            Lent::words(Room::Pointers, pointers, &moved),
+            Lent::changed(Room::Output, &before, &after),
+        ];
+        file.call("head_packet_text", number, &[], &[value], lent);
     }
 
     /// Answers whether the packet was accepted.
