@@ -4,6 +4,7 @@ use crate::answer::with_room;
 use crate::ending::{Refused, Stop};
 use crate::input::{self, Input};
 use crate::json::Object;
+use crate::line::{self, words};
 use crate::record::{Record, Wrong};
 use crate::words::Words;
 use head::Refusal;
@@ -92,20 +93,12 @@ pub fn assembled(input: &Input) -> Result<(Vec<u8>, u64), Stop> {
 
 fn bad_line(input: &Input, refusal: Refusal) -> Refused {
     let Refusal { number, place, .. } = refusal;
-    let line = input
-        .bytes
-        .split(|byte| *byte == b'\n')
-        .nth(place as usize - 1);
-    let line = String::from_utf8_lossy(line.unwrap_or_default());
-    let shown: String = line
-        .trim()
-        .chars()
-        .filter(|letter| !letter.is_control())
-        .take(100)
-        .collect();
-    let said = format!("refused {number}: {}", head::sentence(number));
+    let said = format!(
+        "refused {number}: {}",
+        line::wrong(&input.bytes, place as usize, number)
+    );
     Refused {
-        message: format!("{}:{place}: {said}\n    {shown}\n", input.name),
+        message: format!("{}:{place}: {said}\n", input.name),
         object: Object::new()
             .flag("accepted", false)
             .text("file", &input.name)
@@ -163,12 +156,7 @@ impl List {
 /// The line of a good text's record: records are the lines that begin with read or write.
 fn line_of(text: &[u8], record: u64) -> Option<usize> {
     let lines = text.split(|byte| *byte == b'\n').zip(1..);
-    let mut records = lines.filter(|(line, _)| {
-        let line = line.split(|byte| *byte == b'#').next().unwrap_or_default();
-        let mut words = line.split(|byte| b" \t\r".contains(byte));
-        let first = words.find(|word| !word.is_empty());
-        matches!(first, Some(b"read" | b"write"))
-    });
+    let mut records = lines.filter(|(line, _)| matches!(words(line)[..], [b"read" | b"write", ..]));
     records.nth(record as usize).map(|(_, line)| line)
 }
 

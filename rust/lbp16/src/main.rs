@@ -8,6 +8,7 @@ mod frames;
 mod hostmot2;
 mod input;
 mod json;
+mod line;
 mod list;
 mod output;
 mod part;
