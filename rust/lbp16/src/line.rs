@@ -101,7 +101,7 @@ fn element(write: bool, at: usize, named: &[u8], address: &[u8]) -> (usize, &'st
         _ => 0,
     };
     let says = match address {
-        _ if address % element != 0 => {
+        _ if !address.is_multiple_of(element) => {
             "is no multiple of an element's bytes: 4 in registers, else 2"
         }
         _ if address + element > bytes => "is past the end of the space",

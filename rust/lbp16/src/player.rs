@@ -31,6 +31,8 @@ pub struct Player {
 /// What there is to tell at the end.
 #[derive(Default)]
 pub struct Told {
+    /// Those that were sent, the one at which it stopped too.
+    pub packets: u64,
     pub replies: u64,
     pub reply_bytes: u64,
     pub again: u64,
@@ -88,6 +90,7 @@ impl Player {
 
     /// Sends a packet that the copy accepts.
     pub fn play(&mut self, packet: &[u8]) -> Result<(), Stop> {
+        self.told.packets += 1;
         let before = self.count();
         let length = self.copy.run(packet).map_or(0, |ran| ran.length);
         match length {

@@ -195,7 +195,12 @@ fn send(
     let wire = Wire::new(card, Duration::from_millis(options.limit));
     let mut player = Player::new(wire, state, options.tries, recording);
     let sent = all(&mut player, packets, options.store_given);
-    let kept = player.recording.take().map_or(Ok(()), Output::end);
+    // What was sent was sent; but where nothing was, an older recording stays.
+    let recording = player.recording.take();
+    let kept = match sent.is_ok() || player.told.packets > 0 {
+        true => recording.map_or(Ok(()), Output::end),
+        false => Ok(()),
+    };
     match sent {
         Ok(()) => kept.map(|()| done(name, packets.len(), &player.told)),
         Err((k, stop)) => Err(at_packet(name, k, packets.len(), stop)),

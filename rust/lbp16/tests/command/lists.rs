@@ -33,43 +33,45 @@ fn a_line_is_named_by_file_and_line() {
     answers(&["guard", "--protect", "0:8-8", &name], b"", 1, &said);
 }
 
+/// Texts whose last line is refused, and the number, the word and what is wrong with it.
+const LINES: &[(&str, &str)] = &[
+    (
+        "raed registers 4",
+        "81: \"raed\" and what follows are none of: ",
+    ),
+    ("read lamps 4", "82: \"lamps\" is no space: "),
+    ("read registers 65536", "82: \"65536\" is no address: "),
+    ("write registers 4 0x", "82: \"0x\" is no value: "),
+    ("name status registers 4", "83: \"status\" is no name: "),
+    (
+        "name a 0 4\nname a 0 8",
+        "83: \"a\" is defined above already\n",
+    ),
+    (
+        "read 5 4",
+        "23: \"5\" is a space that the card does not have\n",
+    ),
+    (
+        "read registers 6",
+        "23: \"6\" is no multiple of an element's bytes: ",
+    ),
+    (
+        "read eeprom 0x80",
+        "23: \"0x80\" is past the end of the space\n",
+    ),
+    ("write eeprom 0x10 1", "23: \"0x10\" is read only\n"),
+    ("name a 2 0x10\nwrite a 1", "23: \"a\" is read only\n"),
+    ("read status 0x1A", "23: \"0x1A\" is the unlock cell, "),
+    ("read status 10", "23: \"10\" is the packet count, "),
+    (
+        "write eeprom 0x20 65536",
+        "24: \"65536\" has more than the 2 bytes ",
+    ),
+];
+
 #[test]
 fn the_word_at_fault() {
-    let cases = [
-        (
-            "raed registers 4",
-            "81: \"raed\" and what follows are none of: ",
-        ),
-        ("read lamps 4", "82: \"lamps\" is no space: "),
-        ("read registers 65536", "82: \"65536\" is no address: "),
-        ("write registers 4 0x", "82: \"0x\" is no value: "),
-        ("name status registers 4", "83: \"status\" is no name: "),
-        (
-            "name a 0 4\nname a 0 8",
-            "83: \"a\" is defined above already\n",
-        ),
-        (
-            "read 5 4",
-            "23: \"5\" is a space that the card does not have\n",
-        ),
-        (
-            "read registers 6",
-            "23: \"6\" is no multiple of an element's bytes: ",
-        ),
-        (
-            "read eeprom 0x80",
-            "23: \"0x80\" is past the end of the space\n",
-        ),
-        ("write eeprom 0x10 1", "23: \"0x10\" is read only\n"),
-        ("name a 2 0x10\nwrite a 1", "23: \"a\" is read only\n"),
-        ("read status 0x1A", "23: \"0x1A\" is the unlock cell, "),
-        ("read status 10", "23: \"10\" is the packet count, "),
-        (
-            "write eeprom 0x20 65536",
-            "24: \"65536\" has more than the 2 bytes ",
-        ),
-    ];
-    for (text, said) in cases {
+    for (text, said) in LINES {
         let ended = lbp16(&["asm"], text.as_bytes());
         let place = format!("(standard input):{}: refused ", text.lines().count());
         assert!(

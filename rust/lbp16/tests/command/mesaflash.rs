@@ -41,6 +41,17 @@ fn mesaflash(address: &str, words: &[&str]) -> String {
     text
 }
 
+/// What the tool reads of the board.
+const IDROM: [&str; 7] = [
+    "Configuration Name: HOSTMOT2",
+    "BoardName : MESA7I92",
+    "Number of IO Ports: 2",
+    "Width of one I/O port: 17",
+    "Module: WatchDog",
+    "Module: IOPort",
+    "Module: LED",
+];
+
 #[test]
 fn mesaflash_on_the_card() {
     if !installed() {
@@ -56,15 +67,7 @@ fn mesaflash_on_the_card() {
     let found = mesaflash(&address, &[]);
     assert!(found.contains(&format!("ETH device 7I92 at ip={address}")));
     let idrom = mesaflash(&address, &["--readhmid"]);
-    for expected in [
-        "Configuration Name: HOSTMOT2",
-        "BoardName : MESA7I92",
-        "Number of IO Ports: 2",
-        "Width of one I/O port: 17",
-        "Module: WatchDog",
-        "Module: IOPort",
-        "Module: LED",
-    ] {
+    for expected in IDROM {
         assert!(idrom.contains(expected), "no {expected} in:\n{idrom}");
     }
     mesaflash(&address, &["--wpo", "0x1004=0x12345678"]);

@@ -294,6 +294,8 @@ fn nobody_is_there() {
         "lbp16 play: {output}: packet 0 of 1: no answer from {to} in 10 ms, asked 3 times\n"
     );
     says(&words, b"", 2, &said);
+    // Nothing was played: the older recording stays.
+    assert_eq!(fs::read(recording).unwrap(), b"old");
 }
 
 #[test]

@@ -66,11 +66,7 @@ fn completion_of_values() {
     let file = format!("{here}/Cargo.toml");
     for before in ["compile", "compile -o", "judge --store", "serve --log"] {
         let offered = completed(&format!("lbp16 {before} {here}/Carg"));
-        assert_eq!(
-            offered.into_iter().collect::<Vec<_>>(),
-            [file.clone()],
-            "{before}"
-        );
+        assert!(offered.iter().eq([&file]), "{before}: {offered:?}");
     }
     let spaces = completed("lbp16 guard --protect ");
     assert_eq!(
