@@ -294,28 +294,28 @@ static void packet_texts(void)
     static const char cut[] =
         "  refused 3 at 0: command word or its address cut off\n"
         "  command 0, bytes 0 to 0, 81: word cut off\n";
-    uint32_t pointers[8] = {0};
+    uint32_t moved[8] = {0};
     uint8_t out[sizeof text];
     uint64_t bytes = 99;
 
     memset(out, 0xEE, sizeof out);
-    IS(head_packet_text(packet, sizeof packet, pointers, 7, out, sizeof out, &bytes), 1);
+    IS(head_packet_text(packet, sizeof packet, moved, 7, out, sizeof out, &bytes), 1);
     IS(bytes, 0);
-    IS(head_packet_text(packet, sizeof packet, pointers, 8, out, sizeof text - 2, &bytes), 26);
+    IS(head_packet_text(packet, sizeof packet, moved, 8, out, sizeof text - 2, &bytes), 26);
     IS(bytes, sizeof text - 1);
     IS(out[0], 0xEE);
-    IS(pointers[0], 0);
-    IS(head_packet_text(packet, sizeof packet, pointers, 8, out, sizeof out, &bytes), 0);
+    IS(moved[0], 0);
+    IS(head_packet_text(packet, sizeof packet, moved, 8, out, sizeof out, &bytes), 0);
     IS(bytes, sizeof text - 1);
     SAME(out, text, sizeof text - 1);
     IS(out[sizeof text - 1], 0xEE);
-    IS(pointers[0], 0x14);
-    IS(head_packet_text(packet, 1, pointers, 8, out, sizeof out, &bytes), 0);
+    IS(moved[0], 0x14);
+    IS(head_packet_text(packet, 1, moved, 8, out, sizeof out, &bytes), 0);
     IS(bytes, sizeof cut - 1);
     SAME(out, cut, sizeof cut - 1);
-    IS(pointers[0], 0x14);
-    pointers[4] = 17;
-    IS(head_packet_text(packet, sizeof packet, pointers, 8, out, sizeof out, &bytes), 1);
+    IS(moved[0], 0x14);
+    moved[4] = 17;
+    IS(head_packet_text(packet, sizeof packet, moved, 8, out, sizeof out, &bytes), 1);
 }
 
 static void sentences(void)

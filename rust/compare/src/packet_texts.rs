@@ -11,7 +11,7 @@ use model::PACKET_BYTES;
 
 const ENDINGS: [u32; 3] = [0, 1, 26];
 
-const SITUATIONS: [&str; 13] = [
+const SITUATIONS: [&str; 14] = [
     EMPTY,
     SEVERAL,
     WRITE,
@@ -25,6 +25,7 @@ const SITUATIONS: [&str; 13] = [
     EXACT,
     SHORT_BY_ONE,
     OTHER_COUNT,
+    ABOVE,
 ];
 const EMPTY: &str = "packet without commands";
 const SEVERAL: &str = "accepted packet of several commands";
@@ -38,6 +39,7 @@ const CUT: &str = "word or address cut off";
 const TOO_LONG: &str = "packet above 1,472 bytes";
 const EXACT: &str = "text that fills its room";
 const SHORT_BY_ONE: &str = "room too small by one byte";
+const ABOVE: &str = "pointer above its area's size";
 const OTHER_COUNT: &str = "another number of pointers than eight";
 
 /// More bytes than a packet's text can have.
@@ -86,12 +88,14 @@ impl Part {
             false => POINTERS,
         };
         let room = rng.pick(&[text.len() - 1, text.len(), text.len() + 1, MOST_BYTES, 0]);
-        self.pointers
-            .change(|all| all[..POINTERS].copy_from_slice(&pointers));
+        self.pointers.put(0, &pointers);
         self.call(&packet, lent, room)
             .map_err(|what| format!("{what}\npointers {pointers:?}, packet of {}", hex(&packet)))?;
         self.count(&packet, &text, room);
         self.tally.situation(OTHER_COUNT, lent != POINTERS);
+        let above = |area: &Area| pointers[area.index()] > area.bytes();
+        let above = Area::ALL.iter().any(above);
+        self.tally.situation(ABOVE, above && lent == POINTERS);
         Ok(())
     }
 
