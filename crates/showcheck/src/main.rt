@@ -89,6 +89,12 @@ fn main() {
     let mut second = io::buffer();
     let m = os::arg(2, &mut second);
     let other = os::open_read(&second[..m]);
-    let given = given::given_by(os::arg_count(), &path[..n], 0 <= fd, 0 <= other);
+    let given = given::given_by(
+        os::arg_count(),
+        &path[..n],
+        &second[..m],
+        0 <= fd,
+        0 <= other,
+    );
     serve(given, fd, other, &mut [0; 3000001], &mut [0; 24576]);
 }

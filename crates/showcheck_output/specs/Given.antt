@@ -2,14 +2,15 @@
 -- with its pointers, or none.
 use Prim.Native.Nat.{ℕ}
 use mathlib.Core.List.{List, _++_}
-use mathlib.Core.Bool.{Bool, _||_, _&&_, not, cond}
-use lib.ListN.{length, getD, replicate}
+use mathlib.Core.Bool.{Bool, _||_, not, cond}
+use lib.ListN.{length, replicate}
 use lib.Dec.{eqb, ltb}
 use Rattle.lbp16.specs.Space.{storeBytes}
 use Rattle.lbp16.specs.Pointer.{fresh}
 use Rattle.lbp16.specs.declared.pointer.Pointers.{Pointers}
 use Rattle.text.specs.Number.{ascii}
 use Rattle.why_output.specs.Given.{pointersIn}
+use Rattle.why_output.specs.Words.{isOption}
 use Rattle.showcheck_output.specs.Input.{inputText}
 use Rattle.showcheck_output.specs.declared.given.Given.{Given}
 
@@ -19,19 +20,15 @@ usageText =
     ++ ascii "INPUT is a recording or a capture (classic pcap) of at most 3,000,000 bytes. STORE is a file of the card's memory\n"
     ++ ascii "before the first packet, 65,728 bytes, POINTERS one of its eight pointers, 32 bytes; a fresh card has zeros.\n"
 
--- the word "--help"
-unfoldable pub isHelp : List ℕ → Bool
-isHelp word =
-    eqb (length word) 6 && eqb (getD word 0 0) 45 && eqb (getD word 1 0) 45 && eqb (getD word 2 0) 104
-    && eqb (getD word 3 0) 101
-    && eqb (getD word 4 0) 108
-    && eqb (getD word 5 0) 112
+-- `--help`, or another word that begins with -, which is no name of a file
+unfoldable pub hasOption : List ℕ → List ℕ → Bool
+hasOption first second = isOption first || isOption second
 
--- `count`: the program's name and its arguments; `word`: the first of these; `store?` and `pointers?`: whether these files can be opened
-unfoldable pub givenBy : ℕ → List ℕ → Bool → Bool → Given
-givenBy count word store? pointers? =
+-- `count`: the program's name and its arguments; `first` and `second`: these, or nothing; `store?` and `pointers?`: whether the files can be opened
+unfoldable pub givenBy : ℕ → List ℕ → List ℕ → Bool → Bool → Given
+givenBy count first second store? pointers? =
     cond (ltb count 2) Given.Nothing
-    (cond (isHelp word || ltb 3 count) Given.Usage
+    (cond (hasOption first second || ltb 3 count) Given.Usage
     (cond (not store?) Given.NoStore
     (cond (eqb count 2) Given.Store
     (cond pointers? Given.Both Given.NoPointers))))

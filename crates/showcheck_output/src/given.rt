@@ -1,6 +1,7 @@
 // What the program is given besides its standard input.
+use why_output::words::is_option;
 ghost use mathlib.Core.Path.{_≡_};
-ghost use Rattle.showcheck_output.specs.Given.{isHelp, givenBy, mostRead};
+ghost use Rattle.showcheck_output.specs.Given.{hasOption, givenBy, mostRead};
 
 // No file, so that the card is fresh; a file of the store, or of store and pointers; a name of one that cannot be opened; other words.
 pub enum Given {
@@ -12,29 +13,21 @@ pub enum Given {
     Usage,
 }
 
-fn is_help(word: &[u8]) -> bool
-    ensures { λ r. ⌜ r ≡ isHelp (now (word .entry)) ⌝ }
+fn has_option(first: &[u8], second: &[u8]) -> bool
+    ensures { λ r. ⌜ r ≡ hasOption (now (first .entry)) (now (second .entry)) ⌝ }
 {
-    if word.len() != 6 {
-        return false;
-    }
-    (word[0] == b'-')
-        & (word[1] == b'-')
-        & (word[2] == b'h')
-        & (word[3] == b'e')
-        & (word[4] == b'l')
-        & (word[5] == b'p')
+    is_option(first) | is_option(second)
 }
 
-// `count`: the words that the program was started with, its name among them; `word`: the first behind it; `store` and `pointers`:
-// whether the files named can be opened.
-pub fn given_by(count: usize, word: &[u8], store: bool, pointers: bool) -> Given
-    ensures { λ r. ⌜ r ≡ givenBy count (now (word .entry)) store pointers ⌝ }
+// `count`: the words that the program was started with, its name among them; `first` and `second`: those behind it, or nothing;
+// `store` and `pointers`: whether the files named can be opened.
+pub fn given_by(count: usize, first: &[u8], second: &[u8], store: bool, pointers: bool) -> Given
+    ensures { λ r. ⌜ r ≡ givenBy count (now (first .entry)) (now (second .entry)) store pointers ⌝ }
 {
     if count < 2 {
         return Given::Nothing;
     }
-    if is_help(word) | (3 < count) {
+    if has_option(first, second) | (3 < count) {
         return Given::Usage;
     }
     if !store {

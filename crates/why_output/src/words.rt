@@ -13,7 +13,8 @@ pub struct Words {
     pub wrong: bool,
 }
 
-fn is_option(word: &[u8]) -> bool
+// Whether a word begins with -, so that it is no name of a file.
+pub fn is_option(word: &[u8]) -> bool
     ensures { λ r. ⌜ r ≡ isOption (now (word .entry)) ⌝ }
 {
     if word.len() == 0 {

@@ -8,25 +8,25 @@ returns : tie.Need-returns
 unfolding givenBy
 returns c = rw (lt-ltb _ 2 (c .if1 .taken))
 
-is-help-requires : tie.Need-is-help-requires
-is-help-requires c κs = search needs
+has-option-requires : tie.Need-has-option-requires
+has-option-requires c κs = search needs
 
 returns-2 : tie.Need-returns-2
 unfolding givenBy
-returns-2 c = rw (le-ltb _ 2 (c .before .before .if1 .left), ← c .before .is-help .ensures, c .if2 .taken)
+returns-2 c = rw (le-ltb _ 2 (c .before .before .if1 .left), ← c .before .has-option .ensures, c .if2 .taken)
 
 returns-3 : tie.Need-returns-3
 unfolding givenBy
 returns-3 c =
     let b = c .before in
-    rw (le-ltb _ 2 (b .before .before .if1 .left), ← b .before .is-help .ensures, b .if2 .left, c .if3 .taken)
+    rw (le-ltb _ 2 (b .before .before .if1 .left), ← b .before .has-option .ensures, b .if2 .left, c .if3 .taken)
 
 returns-4 : tie.Need-returns-4
 unfolding givenBy
 returns-4 c =
     let d = c .before in
     let b = d .before in
-    rw (le-ltb _ 2 (b .before .before .if1 .left), ← b .before .is-help .ensures, b .if2 .left, d .if3 .left, eq-eqb _ 2 (c .if4 .taken))
+    rw (le-ltb _ 2 (b .before .before .if1 .left), ← b .before .has-option .ensures, b .if2 .left, d .if3 .left, eq-eqb _ 2 (c .if4 .taken))
 
 returns-5 : tie.Need-returns-5
 unfolding givenBy
@@ -35,7 +35,7 @@ returns-5 c =
     let d = e .before in
     let b = d .before in
     rw
-    (le-ltb _ 2 (b .before .before .if1 .left), ← b .before .is-help .ensures, b .if2 .left, d .if3 .left, ne-eqb _ 2 (e .if4 .left), c .if5 .taken)
+    (le-ltb _ 2 (b .before .before .if1 .left), ← b .before .has-option .ensures, b .if2 .left, d .if3 .left, ne-eqb _ 2 (e .if4 .left), c .if5 .taken)
 
 returns-6 : tie.Need-returns-6
 unfolding givenBy
@@ -44,7 +44,7 @@ returns-6 c =
     let d = e .before in
     let b = d .before in
     rw
-    (le-ltb _ 2 (b .before .before .if1 .left), ← b .before .is-help .ensures, b .if2 .left, d .if3 .left, ne-eqb _ 2 (e .if4 .left), c .if5 .left)
+    (le-ltb _ 2 (b .before .before .if1 .left), ← b .before .has-option .ensures, b .if2 .left, d .if3 .left, ne-eqb _ 2 (e .if4 .left), c .if5 .left)
 
 pub given-by-spec : {M : Type 1} → statement M
-given-by-spec = tie.close (tie.spec returns is-help-requires returns-2 returns-3 returns-4 returns-5 returns-6)
+given-by-spec = tie.close (tie.spec returns has-option-requires returns-2 returns-3 returns-4 returns-5 returns-6)
