@@ -188,10 +188,7 @@ impl Player {
             sent.into_iter().partition(|one| all || one.reply.is_some());
         self.wire.keep(done);
         self.watch(silent)?;
-        match probes.most.wrapping_sub(self.count()) < probes.sent {
-            true => self.counted(probes),
-            false => Err(self.other_count(&probes)),
-        }
+        self.counted(probes)
     }
 
     /// No reply came to any of the packets sent.
@@ -218,14 +215,17 @@ impl Player {
 
     /// The probes up to the last count heard are recorded, and done by the copy. Those that are not among them may come late.
     fn counted(&mut self, probes: Probes) -> Result<(), Stop> {
-        let taken = probes.most.wrapping_sub(self.count()) + 1;
-        for _ in 0..taken {
+        let before_last = probes.most.wrapping_sub(self.count());
+        if before_last >= probes.sent {
+            return Err(self.other_count(&probes));
+        }
+        for _ in 0..=before_last {
             let count = self.count();
             self.record(&PROBE, &count.to_le_bytes())?;
             let _ = self.copy.run(&PROBE);
             self.told.probes += 1;
         }
-        match taken < probes.sent {
+        match before_last + 1 < probes.sent {
             true => self.watch(probes.silent),
             false => {
                 self.wire.keep(probes.silent);
@@ -272,10 +272,7 @@ impl Player {
     pub fn end(&mut self) -> Result<(), Stop> {
         let probes = self.probes(Some(self.count()))?;
         self.nothing_late()?;
-        match probes.most.wrapping_sub(self.count()) < probes.sent {
-            true => self.counted(probes),
-            false => Err(self.other_count(&probes)),
-        }
+        self.counted(probes)
     }
 }
 
