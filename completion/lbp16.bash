@@ -2,7 +2,7 @@
 
 _lbp16() {
     local word=${COMP_WORDS[COMP_CWORD]} before=${COMP_WORDS[COMP_CWORD - 1]} part=${COMP_WORDS[1]}
-    local parts="asm dis compile tight fix why judge guard either panel serve play"
+    local parts="asm dis compile tight fix packets why judge guard either panel serve play"
     local options="--help"
     COMPREPLY=()
     if ((COMP_CWORD == 1)); then
@@ -33,6 +33,7 @@ _lbp16() {
     compile) options="-o --output --text --list --json --help" ;;
     tight) options="-o --output --check --text --list --json --help" ;;
     fix) options="-o --output --strict --log --json --help" ;;
+    packets) options="-o --output --raw --pointers --json --help" ;;
     why) options="--raw --hex --packet --store --pointers --json --help" ;;
     judge) options="--store --pointers --json --help" ;;
     guard) options="--protect --text --list --json --help" ;;

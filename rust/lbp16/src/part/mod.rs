@@ -7,6 +7,7 @@ mod either;
 mod fix;
 mod guard;
 mod judge;
+mod packets;
 mod panel;
 mod play;
 mod serve;
@@ -36,6 +37,7 @@ pub const PARTS: &[Part] = parts! {
     compile: "a cue list to packets, by the packing rule",
     tight: "the same in fewer bytes; --check says whether other packets will do",
     fix: "a damaged list to a playable one, with an account",
+    packets: "compiled packets in words",
     why: "whether a packet is accepted, and why not",
     judge: "whether our card would have answered as a recording or a capture says",
     guard: "whether a list writes protected cells",

@@ -4,9 +4,9 @@ use crate::common::{filled, lbp16, says};
 use std::io::Read;
 use std::process::{Command, Stdio};
 
-const PARTS: [&str; 12] = [
-    "asm", "dis", "compile", "tight", "fix", "why", "judge", "guard", "either", "panel", "serve",
-    "play",
+const PARTS: [&str; 13] = [
+    "asm", "dis", "compile", "tight", "fix", "packets", "why", "judge", "guard", "either", "panel",
+    "serve", "play",
 ];
 
 #[test]
@@ -46,7 +46,7 @@ fn called_wrongly() {
         says(&[part, "--wrong"], b"", 2, &said);
     }
     for part in [
-        "asm", "dis", "compile", "tight", "fix", "why", "judge", "panel",
+        "asm", "dis", "compile", "tight", "fix", "packets", "why", "judge", "panel",
     ] {
         let said = format!("lbp16 {part}: 'two' is a file too many; see lbp16 {part} --help\n");
         says(&[part, "one", "two"], b"", 2, &said);
@@ -66,7 +66,7 @@ fn called_wrongly() {
 #[test]
 fn a_file_that_cannot_be_read() {
     for part in [
-        "asm", "dis", "compile", "tight", "fix", "why", "judge", "panel",
+        "asm", "dis", "compile", "tight", "fix", "packets", "why", "judge", "panel",
     ] {
         let said = format!("lbp16 {part}: cannot read /nowhere: No such file or directory\n");
         says(&[part, "/nowhere"], b"", 2, &said);

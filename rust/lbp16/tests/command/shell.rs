@@ -48,7 +48,7 @@ fn completion_of_parts_and_options() {
     assert_eq!(completed("lbp16 "), first);
     assert_eq!(
         completed("lbp16 p").into_iter().collect::<Vec<_>>(),
-        ["panel", "play"]
+        ["packets", "panel", "play"]
     );
     for part in parts() {
         let mut expected = options(&help(&[&part, "--help"]));
