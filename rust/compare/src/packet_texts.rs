@@ -78,7 +78,8 @@ impl Part {
             };
         }
         let packet = drafts::packet(rng, pointers);
-        let (text, _) = packet_text(&packet, &pointers).map_err(|refusal| format!("{refusal:?}"))?;
+        let (text, _) =
+            packet_text(&packet, &pointers).map_err(|refusal| format!("{refusal:?}"))?;
         if rng.one_in(20) {
             let area = rng.pick(&Area::ALL);
             pointers[area.index()] = area.bytes() + 1;

@@ -40,7 +40,11 @@ pub fn packet_text(packet: &[u8], pointers: &[u32]) -> Result<(String, [u32; POI
 }
 
 /// The same into a room. The refusals are 1, and 26 with the bytes needed.
-pub fn put_packet_text(packet: &[u8], pointers: &mut [u32], out: &mut [u8]) -> Result<usize, Refusal> {
+pub fn put_packet_text(
+    packet: &[u8],
+    pointers: &mut [u32],
+    out: &mut [u8],
+) -> Result<usize, Refusal> {
     let (text, after) = packet_text(packet, pointers)?;
     put(text.as_bytes(), out)?;
     pointers.copy_from_slice(&after);
@@ -97,13 +101,21 @@ fn command_at(packet: &[u8], place: usize, index: u64, pointers: [u32; POINTERS]
     let fields = Fields::from_word(word.unwrap_or(0));
     let element = 1 << fields.size;
     let header = if fields.address { 4 } else { 2 };
-    let data = if fields.write { usize::from(fields.count) * element } else { 0 };
+    let data = if fields.write {
+        usize::from(fields.count) * element
+    } else {
+        0
+    };
     let shown = &rest[..rest.len().min(header + data)];
     let bytes: String = shown.iter().map(|byte| format!(" {byte:02X}")).collect();
     let last = place + shown.len() - 1;
     let says = match word {
         None => ": word cut off\n".to_string(),
-        Some(_) => format!(": {}{}", said(fields, element), address_said(fields, rest, pointers)),
+        Some(_) => format!(
+            ": {}{}",
+            said(fields, element),
+            address_said(fields, rest, pointers)
+        ),
     };
     format!("  command {index}, bytes {place} to {last},{bytes}{says}")
 }
