@@ -172,3 +172,8 @@ module _ (p : Pointers) (packet room : List ℕ) (k : ℕ) (none none₁ : List 
       let c = laid-bytes (packetText p packet) room after n f in
       let w = laid-whole (packetText p packet) room after n f (omega arith) in
       rw (le-ltb (length room) (length (packetText p packet)) (omega arith), c, w, g) refl
+
+-- as the code counts it
+pub text-fits : {n : ℕ} (text : List ℕ) (k : ℕ) (room after : List ℕ) → filled k after ≡ laidAt text 0 room → k ≤ n → length text ≤ n
+unfolding laidAt
+text-fits text k room after e l = let q : k ≡ 0 + length text = ap (λ (f : Filled). f .next) e in omega arith

@@ -78,6 +78,10 @@ textBy p packet (refused n place) = refusedPacket p packet (reasonOf p packet (r
 unfoldable pub packetText : Pointers → List ℕ → List ℕ
 packetText p packet = textBy p packet (verdictOf p packet)
 
+-- the most bytes that it has, whatever the packet is
+abbrev pub mostText : ℕ
+mostText = 69584
+
 -- What is answered and left: 26 where the room is below the text's bytes, with the room and the pointers as they were; else the text at
 -- the room's front, and the pointers that the packet leaves. The bytes needed are told either way.
 pub record PacketLeft : Type 0 where

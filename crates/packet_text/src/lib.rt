@@ -7,9 +7,11 @@ use lbp16::pointer::Pointers;
 use reason::Reason;
 use text::line;
 ghost use mathlib.Core.Path.{_≡_};
+ghost use Prim.Native.Nat.{_≤_};
+ghost use lib.ListN.{length};
 ghost use Rattle.text.specs.Room.{filled, putAt};
 ghost use Rattle.packet_text.specs.Wording.{ruleText, refusedText};
-ghost use Rattle.packet_text.specs.Packet.{packetLeft, shownPacket};
+ghost use Rattle.packet_text.specs.Packet.{packetText, mostText, packetLeft, shownPacket};
 
 fn put_rule(out: &mut [u8], at: usize, number: u32) -> usize
     ensures { λ k. ⌜ filled k (now (out .exit)) ≡ putAt (ruleText number) at (now (out .entry)) ⌝ }
@@ -42,9 +44,13 @@ pub struct Shown {
     pub pointers: Pointers,
 }
 
+// The most bytes that a packet's text has: 44 for each byte of an accepted packet, and 4,816 for a refusal.
+pub const MOST: usize = 69584;
+
 // The packet's text at the room's front; a room that is too small stays as it is.
 pub fn put_packet(out: &mut [u8], packet: &[u8], p: Pointers) -> Shown
-    ensures { λ r. ⌜ packetLeft (r .number) (r .bytes) (r .pointers) (now (out .exit)) ≡ shownPacket p (now (packet .entry)) (now (out .entry)) ⌝ }
+    ensures shown { λ r. ⌜ packetLeft (r .number) (r .bytes) (r .pointers) (now (out .exit)) ≡ shownPacket p (now (packet .entry)) (now (out .entry)) ⌝ }
+    ensures fits { λ r. ⌜ length (packetText p (now (packet .entry))) ≤ mostText ⌝ }
 {
     let r = reason::explain_packet(packet, p);
     let mut none = [0u8; 1];

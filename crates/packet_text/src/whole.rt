@@ -42,7 +42,7 @@ fn lay_refusal(out: &mut [u8], at: usize, packet: &[u8], r: Reason) -> usize
 fn lay_accepted(out: &mut [u8], packet: &[u8], p: Pointers) -> Lines
     requires { ⌜ (length (now packet) ≤ 1472) × ((end : Carried) × (judge p (now packet) ≡ accepted end)) ⌝ }
     ensures { λ r. ⌜ (filled (r .bytes) (now (out .exit)) ≡ laidAt (textBy p (now (packet .entry)) (judge p (now (packet .entry)))) 0 (now (out .entry)))
-        × (r .pointers ≡ pointersLeft (judge p (now (packet .entry))) p) ⌝ }
+        × (r .pointers ≡ pointersLeft (judge p (now (packet .entry))) p) × (r .bytes ≤ 69584) ⌝ }
 {
     if packet.len() == 0 {
         text::put(out, 0, b"  no commands\n");
@@ -58,7 +58,7 @@ fn lay_accepted(out: &mut [u8], packet: &[u8], p: Pointers) -> Lines
 pub(crate) fn lay_packet(out: &mut [u8], packet: &[u8], p: Pointers, r: Reason) -> Lines
     requires { ⌜ r ≡ reasonOf p (now packet) (verdictOf p (now packet)) ⌝ }
     ensures { λ l. ⌜ (filled (l .bytes) (now (out .exit)) ≡ laidAt (packetText p (now (packet .entry))) 0 (now (out .entry)))
-        × (l .pointers ≡ pointersLeft (verdictOf p (now (packet .entry))) p) ⌝ }
+        × (l .pointers ≡ pointersLeft (verdictOf p (now (packet .entry))) p) × (l .bytes ≤ 69584) ⌝ }
 {
     if r.number == 0 {
         return lay_accepted(out, packet, p);

@@ -39,7 +39,7 @@ pub struct Passed {
 }
 
 // The bytes in the frame at the front, if it has n.
-fn in_frame(rest: &[u8], n: usize) -> &[u8]
+pub fn in_frame(rest: &[u8], n: usize) -> &[u8]
     ensures { λ r. ⌜ now r ≡ bytesInFrame n (now (rest .entry)) ⌝ }
 {
     reason::front(slice::rest(rest, 4), n as u64)

@@ -39,7 +39,7 @@ returns-2 c =
     let s = l .before .before .before .before .before in
     let p = s .before in
     let i = p .before .before .before in
-    text-told _ _ _ (sym (i .before .bad-pointers .ensures) ∙ i .if1 .left) _ _ _ _ _ (p .from-lent .ensures) (s .put-packet .ensures) _
+    text-told _ _ _ (sym (i .before .bad-pointers .ensures) ∙ i .if1 .left) _ _ _ _ _ (p .from-lent .ensures) (s .put-packet .ensures .0) _
     (l .put-pointers .ensures)
 
 pub head-packet-text-spec : {M : Type 1} → statement M

@@ -1,5 +1,6 @@
 use borrow.Author.Needs.{needs}
 use mathlib.Core.Path.{ap}
+use native.Mathlib.Omega.{arith}
 use mathlib.Core.List.{List}
 use Prim.Native.Nat.{ℕ}
 use Rattle.text.specs.Number.{ascii}
@@ -28,6 +29,7 @@ returns c =
     let none = i .if1 .taken in (
       rw (← no-commands _ _ (e .0) (e .1) none) (ap (λ (l : List ℕ). filled 14 l) (put-room _ _ _ (z .put .ensures))),
       none-moved _ _ none,
+      omega arith,
     )
 
 lay-lines-requires : tie.Need-lay-lines-requires
@@ -42,7 +44,7 @@ returns-2 c =
     let i = z .before .before in
     let e = i .before .before .before .pre .1 in
     let l = z .lay-lines .ensures in
-    (rw (some-commands _ _ (e .0) (e .1) (i .if1 .left)) at (l .0), l .1)
+    (rw (some-commands _ _ (e .0) (e .1) (i .if1 .left)) at (l .0), l .1, omega (arith, l .2, i .before .before .before .pre .0))
 
 pub lay-accepted-spec : {M : Type 1} → statement M
 lay-accepted-spec = tie.close (tie.spec slice-aggregate-put put-requires same-length returns lay-lines-requires same-length-2 returns-2)

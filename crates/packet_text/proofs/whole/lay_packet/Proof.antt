@@ -20,7 +20,7 @@ returns c =
     let i = z .before .before in
     let a = without-refusal _ _ _ (i .before .before .before .before .pre) (i .if1 .taken) in
     let l = z .lay-accepted .ensures in
-    (rw (accepted-text _ _ a) at (l .0), rw (← a .verdict) at (l .1))
+    (rw (accepted-text _ _ a) at (l .0), rw (← a .verdict) at (l .1), l .2)
 
 front-requires : tie.Need-front-requires
 front-requires c κs = search needs
@@ -59,7 +59,8 @@ returns-2 c =
     let t = z .lay-refusal .ensures in
     let lines = linesText (a .args .p) (take (a .args .r .place) (a .args .packet .now)) in
     let whole = laid-join lines (refusalText (a .args .packet .now) (a .args .r)) _ _ _ _ _ l (t .0) (t .1) in
-    (rw (refused-text _ _ _ e h) at whole, refused-pointers _ _ _ e h)
+    let few = rw (y .before .front .ensures) at (y .lay-lines .ensures .2) in
+    (rw (refused-text _ _ _ e h) at whole, refused-pointers _ _ _ e h, omega (arith, few, t .2, h .short))
 
 pub lay-packet-spec : {M : Type 1} → statement M
 lay-packet-spec = tie.close (tie.spec lay-accepted-requires same-length returns front-requires lay-lines-requires lay-refusal-requires add-t15 same-length-2 returns-2)
