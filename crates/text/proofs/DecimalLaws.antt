@@ -1,14 +1,16 @@
 -- Laws of decimal numbers: the digits read back give the number, and no digit 0 stands in front.
 use Prim.Native.Nat.{ℕ, zero, suc, _+_, _-_, _*_, _/_, _%_, _^_, _≤_, _<_}
-use mathlib.Core.Path.{_≡_, refl, ap}
-use mathlib.Core.List.{List, [], _∷_, _++_}
+use mathlib.Core.Path.{_≡_, refl, ap, sym, _∙_}
+use mathlib.Core.List.{List, [], _∷_, _++_, append-assoc}
 use mathlib.Core.Bool.{Bool, true, false, cond}
 use native.Mathlib.Omega.{arith}
+use native.Mathlib.Numerals.{sub-one}
 use native.Mathlib.Nat.{pow-succ'}
-use lib.ListN.{length, getD, length-append}
+use lib.ListN.{length, getD, take, drop, set, length-drop, length-append, length-set, drop-of-length-le}
 use lib.Dec.{ltb}
+use lib.Seq.{take-all}
 use borrow.Author.Tests.{ltb-true, ltb-false, lt-ltb, le-ltb}
-use Rattle.text.specs.Number.{digit, decimal, decimalFrom, hexDigit}
+use Rattle.text.specs.Number.{digit, decimal, decimalFrom}
 
 -- more fuel changes nothing
 fuel-enough : (f g n : ℕ) → n ≤ f → n ≤ g → decimalFrom f n ≡ decimalFrom g n
@@ -40,17 +42,6 @@ unfolding decimal decimalFrom
 decimal-more zero h = absurd (omega arith)
 decimal-more (suc n) h =
     rw (le-ltb (suc n) 10 h, fuel-enough n (suc n / 10) (suc n / 10) (omega arith) (omega arith)) refl
-
--- the same as the code comes to it, where a digit below ten is a hexadecimal one
-low-digit : (d : ℕ) → d < 10 → hexDigit d ≡ digit d
-unfolding hexDigit digit
-low-digit d h = rw (lt-ltb d 10 h) refl
-
-pub decimal-one : (n : ℕ) → n ≤ 9 → hexDigit (n % 10) ∷ [] ≡ decimal n
-decimal-one n h = let e : n % 10 ≡ n = omega arith in rw (e, low-digit n (omega arith), decimal-digit n (omega arith)) refl
-
-pub decimal-last : (n : ℕ) → 9 < n → decimal (n / 10) ++ (hexDigit (n % 10) ∷ []) ≡ decimal n
-decimal-last n h = rw (low-digit (n % 10) (omega arith), decimal-more n (omega arith)) refl
 
 -- What holds of one digit, and of a digit more behind, holds of every number's digits.
 module _ (P : ℕ → List ℕ → Type 0) (one : (n : ℕ) → n < 10 → P n (digit n ∷ []))
@@ -122,3 +113,81 @@ unfolding digit
 decimal-first =
     decimal-all (λ n ds. 1 ≤ n → digit 1 ≤ getD ds 0 0) (λ n h p. omega arith)
     (λ n ds h first p. first-append 49 ds _ (omega arith) (first (omega arith)))
+
+-- The digits before the last of what is left: none of 0.
+pub front : ℕ → List ℕ
+front zero = []
+front (suc n) = decimal (suc n)
+
+front-some : (n : ℕ) → (n ≡ 0 → ⊥) → front n ≡ decimal n
+unfolding front
+front-some zero h = absurd (h refl)
+front-some (suc n) h = refl
+
+decimal-front : (n : ℕ) → front (n / 10) ++ (digit (n % 10) ∷ []) ≡ decimal n
+unfolding front
+decimal-front n = go (ltb n 10) refl
+  where
+    go : (b : Bool) → ltb n 10 ≡ b → front (n / 10) ++ (digit (n % 10) ∷ []) ≡ decimal n
+    go true e =
+        let l = ltb-true n 10 e in
+        let z : n / 10 ≡ 0 = omega arith in
+        let m : n % 10 ≡ n = omega arith in
+        rw (z, m, decimal-digit n l) refl
+    go false e =
+        let l = ltb-false n 10 e in
+        rw (front-some (n / 10) (λ z. omega arith), decimal-more n l) refl
+
+drop-set : (l : List ℕ) (i x : ℕ) → i < length l → drop i (set l i x) ≡ x ∷ drop (suc i) l
+drop-set [] i x h = absurd (omega arith)
+drop-set (y ∷ l) zero x h = refl
+drop-set (y ∷ l) (suc i) x h = drop-set l i x (omega arith)
+
+one-more : (left : ℕ) (rest : List ℕ) → (left ≡ 0 → ⊥) → front (left / 10) ++ (digit (left % 10) ∷ rest) ≡ front left ++ rest
+one-more left rest h =
+    sym (append-assoc (front (left / 10)) (digit (left % 10) ∷ []) rest)
+    ∙ ap (λ (l : List ℕ). l ++ rest) (decimal-front left ∙ sym (front-some left h))
+
+-- Digits found from the last on: those from i on stand in the room, and those of `left` are to come.
+pub record Counting (n : ℕ) (room : List ℕ) (i left : ℕ) : Type 0 where
+  pub size : length room ≡ 20
+  pub within : i ≤ 19
+  pub few : left < 10 ^ i
+  pub digits : front left ++ drop i room ≡ decimal n
+
+pub counting-first : (n : ℕ) (room : List ℕ) (d : ℕ) → n < 2 ^ 64 → length room ≡ 20 → d ≡ digit (n % 10)
+    → Counting n (set room 19 d) 19 (n / 10)
+counting-first n room d h s e =
+    let all : length room ≤ 20 = omega arith in
+    let none : drop 20 room ≡ [] = drop-of-length-le room all in
+    record {
+      size = rw length-set s;
+      within = omega arith;
+      few = omega arith;
+      digits = rw (drop-set room 19 d (omega arith), none, e) (decimal-front n);
+    }
+
+pub counting-more : (n : ℕ) (room : List ℕ) (i left d : ℕ) → Counting n room i left → (left ≡ 0 → ⊥) → d ≡ digit (left % 10)
+    → Counting n (set room (i - 1) d) (i - 1) (left / 10)
+counting-more n room zero left d c h e = let f = c .few in absurd (h (omega arith))
+counting-more n room (suc k) left d c h e =
+    let w = c .within in
+    let s = c .size in
+    let f : left < 10 * 10 ^ k = rw pow-succ' at (c .few) in
+    rw sub-one (record {
+      size = rw length-set s;
+      within = omega arith;
+      few = omega arith;
+      digits = rw (drop-set room k d (omega arith), e) (one-more left (drop (suc k) room) h ∙ c .digits);
+    })
+
+pub counting-some : (n : ℕ) (room : List ℕ) (i left : ℕ) → Counting n room i left → (left ≡ 0 → ⊥) → 1 ≤ i
+counting-some n room zero left c h = let f = c .few in absurd (h (omega arith))
+counting-some n room (suc k) left c h = omega arith
+
+pub counting-all : (n : ℕ) (room : List ℕ) (i left : ℕ) → Counting n room i left → left ≡ 0 → take (20 - i) (drop i room) ≡ decimal n
+unfolding front
+counting-all n room i left c z =
+    let s = c .size in
+    let all : length (drop i room) ≤ 20 - i = rw length-drop (omega arith) in
+    rw (take-all (20 - i) (drop i room) all) (rw z at (c .digits))

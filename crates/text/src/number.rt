@@ -4,7 +4,7 @@ use crate::put;
 ghost use mathlib.Core.Path.{_≡_};
 ghost use mathlib.Core.List.{[], _∷_};
 ghost use Prim.Native.Nat.{_/_, _%_, _^_, _<_};
-ghost use Rattle.text.specs.Number.{decimal, signedDecimal, hexDigit, hexadecimal, bytesOfHex};
+ghost use Rattle.text.specs.Number.{digit, decimal, signedDecimal, hexDigit, hexadecimal, bytesOfHex};
 ghost use Rattle.text.specs.Room.{filled, putAt};
 
 // A digit's code: 0 to 9, and A to F.
@@ -22,14 +22,27 @@ fn digit(out: &mut [u8], at: usize, d: u8) -> usize
     put(out, at, &[code(d)])
 }
 
+// The last digit's code.
+fn last_code(n: u64) -> u8
+    ensures { λ r. ⌜ r ≡ digit (n % 10) ⌝ }
+{
+    48 + (n % 10) as u8
+}
+
+// The digits are found from the last on. No number of 64 bits has more than 20.
 pub fn decimal(out: &mut [u8], at: usize, n: u64) -> usize
     ensures { λ r. ⌜ filled r (now (out .exit)) ≡ putAt (decimal n) at (now (out .entry)) ⌝ }
 {
-    let mut next = at;
-    if 9 < n {
-        next = decimal(out, at, n / 10);
+    let mut room = [0u8; 20];
+    let mut i: usize = 19;
+    room[19] = last_code(n);
+    let mut left = n / 10;
+    while left != 0 {
+        i -= 1;
+        room[i] = last_code(left);
+        left /= 10;
     }
-    digit(out, next, (n % 10) as u8)
+    put(out, at, &room[i..])
 }
 
 // The number that 64 bits mean as two's complement.
