@@ -847,10 +847,10 @@ uint32_t head_sentence(uint32_t number,
 /* What it costs, in bytes, by tools/costs; docs/FIRMWARE.md has the rest:
  *
  *                                 x86_64-linux  aarch64-linux  riscv64-linux    armv7-linux      cortex-m4      cortex-m0
- *   code                                52,113         43,312         57,442         65,400         53,630         61,768
- *   constants                            4,336          3,616            368            112            144            144
+ *   code                                61,923         52,088         68,202         78,700         67,202         75,214
+ *   constants                            4,632          4,032            440            112            144            144
  *   data                                     0              0              0              0              0              0
- *   stack of head_assemble               8,792          8,656          8,816          8,780          8,700          8,772
+ *   stack of head_assemble               8,792          8,640          8,832          8,764          8,708          8,780
  *   stack of head_capture                  448            400            480            332            316            408
  *   stack of head_check                    256            208            208            240            192            264
  *   stack of head_compile                  560            352            400            416            400            436
@@ -865,22 +865,23 @@ uint32_t head_sentence(uint32_t number,
  *   stack of head_header_word              136              0              0              8              8             20
  *   stack of head_independent            8,592          8,448          8,464          8,448          8,440          8,492
  *   stack of head_judge                  2,016          2,016          2,032          2,096          2,000          2,144
- *   stack of head_list_text                336            272            208            152            152            236
+ *   stack of head_list_text                304            240            224            176            184            240
  *   stack of head_list_why                 240            112            112             88             88            132
  *   stack of head_pack                     480            368            416            356            340            408
+ *   stack of head_packet_text            8,512          8,352          8,608          8,360          8,336          8,888
  *   stack of head_panel_reading            136              0              0              8              8             24
  *   stack of head_panel_report             136              0              0             16             16             24
  *   stack of head_panel_start              136              0              0              0              0              0
  *   stack of head_part                   1,064          1,120          1,248          1,268          1,192          1,296
  *   stack of head_run                      480            432            416            480            456            528
  *   stack of head_salvage                  320            176            192            152            144            204
- *   stack of head_sentence               3,088          2,960          3,056          2,952          2,944          3,424
+ *   stack of head_sentence               3,120          2,992          3,088          3,000          2,984          3,480
  *   stack of head_spi                      256            144            144            144            144            152
  *   stack of head_table                    288            160            208            164            184            216
  *   stack of head_tight_check              720            464            592            560            544            612
  *   stack of head_tighten                1,056            720            928            824            816            916
  *   stack of head_unpack                   464            336            400            308            316            392
- *   stack of head_why                      368            400            384            376            304            392
+ *   stack of head_why                      560            496            512            520            472            576
  *   stack of head_word                     160              0              0             16             16             24
  *
  * A stack is the deepest that the call can need, without that of the functions of libc and libgcc that are named below. No
@@ -888,18 +889,19 @@ uint32_t head_sentence(uint32_t number,
  * different memory may run at the same time. On a Cortex-M4 a packet takes at most 240,165 instructions, a burst 1,366, a
  * record of a list 443 in head_compile.
  * x86_64-linux needs memcpy (libc), memset (libc). Registers beyond the integer ones: assemble, capture, check, compile,
- *   field, guarded_check, guarded_list, guarded_run, guarded_spi, independent, judge, pack, panel_reading, part, run,
- *   sentence, spi, table, tight_check, tighten, unpack, why.
+ *   field, guarded_check, guarded_list, guarded_run, guarded_spi, independent, judge, pack, packet_text, panel_reading,
+ *   part, run, sentence, spi, table, tight_check, tighten, unpack, why.
  * aarch64-linux needs memcpy (libc), memset (libc). Registers beyond the integer ones: assemble, capture, check, compile,
  *   field, fields, guarded_check, guarded_list, guarded_run, guarded_spi, header, independent, judge, list_text, pack,
- *   panel_reading, panel_report, part, run, sentence, spi, table, tight_check, tighten, unpack, why.
+ *   packet_text, panel_reading, panel_report, part, run, sentence, spi, table, tight_check, tighten, unpack, why.
  * riscv64-linux needs memcpy (libc), memset (libc). Registers beyond the integer ones: panel_reading.
  * armv7-linux needs memcpy (libc), memset (libc). Registers beyond the integer ones: assemble, capture, check, compile,
- *   guarded_check, guarded_list, guarded_run, guarded_spi, independent, judge, pack, panel_reading, part, run, sentence,
- *   spi, tight_check, tighten, unpack, why.
- * cortex-m4 needs __aeabi_memclr4 (libc), __aeabi_memclr8 (libc), __aeabi_memcpy (libc). Registers beyond the integer ones:
- *   panel_reading.
+ *   guarded_check, guarded_list, guarded_run, guarded_spi, independent, judge, pack, packet_text, panel_reading, part, run,
+ *   sentence, spi, tight_check, tighten, unpack, why.
+ * cortex-m4 needs __aeabi_memclr (libc), __aeabi_memclr4 (libc), __aeabi_memclr8 (libc), __aeabi_memcpy (libc),
+ *   __aeabi_uldivmod (libgcc). Registers beyond the integer ones: panel_reading.
  * cortex-m0 needs __aeabi_fcmplt (libgcc), __aeabi_fdiv (libgcc), __aeabi_fmul (libgcc), __aeabi_llsl (libgcc), __aeabi_llsr
  *   (libgcc), __aeabi_lmul (libgcc), __aeabi_memclr (libc), __aeabi_memclr4 (libc), __aeabi_memclr8 (libc), __aeabi_memcpy
- *   (libc), __aeabi_ui2f (libgcc). Registers beyond the integer ones: none.
+ *   (libc), __aeabi_ui2f (libgcc), __aeabi_uidivmod (libgcc), __aeabi_uldivmod (libgcc). Registers beyond the integer ones:
+ *   none.
  */
