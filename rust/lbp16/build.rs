@@ -21,7 +21,8 @@ fn main() {
 /// Of a file at the top of the repository, if it is there.
 fn first_line(name: &str) -> Option<String> {
     let path = Path::new("../..").join(name);
-    let text = fs::read_to_string(&path).ok()?;
+    // Also where it is not there yet, so that it is seen when it comes.
     println!("cargo::rerun-if-changed={}", path.display());
+    let text = fs::read_to_string(&path).ok()?;
     text.lines().next().map(|line| line.trim().to_string())
 }
