@@ -360,7 +360,7 @@ static void compare(const struct lending *lent, uint32_t count, const struct cal
 __attribute__((noinline)) static uint32_t made(uint32_t export, struct call *c)
 {
 #ifdef STACK
-    const int deep = exports[export].call == independent || exports[export].call == assemble;
+    const int deep = exports[export].call == independent || exports[export].call == assemble || exports[export].call == packet_text;
     const uint32_t paint = 0xC0DEC0DE, area = deep ? 70000 : 4096;
     uint32_t *top;
     __asm__ volatile("mov %0, sp" : "=r"(top));
