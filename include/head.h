@@ -248,7 +248,8 @@ uint32_t head_why(const uint8_t *packet, uint64_t packet_length,
  *
  * E.g. "  8: write registers 0x0010, 2 elements, increment: 0x00000001 0x00000002": the command's offset, what it does, the space,
  * the address, given or "from the pointer (0x0010)", and the values of a write. A packet of 0 bytes is "  no commands". Returns 0 also
- * of a packet that is refused: the text says so. The text stands at the front of out, and what is beyond is unchanged.
+ * of a packet that is refused: the text says so. The text stands at the front of out, and what is beyond is unchanged. It has at most
+ * 69,584 bytes, whatever the packet is.
  *
  *   1   not eight pointers, or one is above the size of its space or info area; bytes 0
  *   26  out_length below the text's bytes
