@@ -2,9 +2,9 @@
 
 use crate::answer::{Answer, Common, Made};
 use crate::ending::{Done, Stop};
-use crate::frames;
 use crate::input;
 use crate::json::Object;
+use crate::part::play;
 use crate::shown::Count;
 use crate::state::{From, State};
 use crate::words::Words;
@@ -16,7 +16,7 @@ pub const HELP: &str =
 Writes the packets of an output, as lbp16 compile makes it, in words: a line for each command. Of a packet that is refused
 the commands before it, and the reason. Exit 1 if one is.
 
-  --raw             the file is one packet as it went over the wire, even where it could be packets behind \"LB\"
+  --raw             the file is one packet as it went over the wire
   --pointers FILE   the card's 8 pointers before the first packet, 4 bytes each, low byte first; all 0 where it is not
                     given
 ";
@@ -39,16 +39,15 @@ pub fn run(mut words: Words) -> Done {
 
 fn in_words(file: &OsStr, raw: bool, mut state: State) -> Result<Answer, Stop> {
     let input = input::read(file)?;
-    let parts = match raw {
-        true => None,
-        false => frames::parts(&input.bytes),
+    let packets = match raw {
+        true => vec![&input.bytes[..]],
+        false => play::packets(&input)?,
     };
-    let packets = parts.unwrap_or(vec![&input.bytes]);
     let (mut text, mut refused) = (String::new(), 0_u64);
     for (k, packet) in packets.iter().enumerate() {
         let lines = lines(packet, &mut state)?;
         text.push_str(&format!(
-            "packet {k}, {}:\n{lines}",
+            "packet {k}, {}\n{lines}",
             Count(packet.len() as u64, "byte")
         ));
         refused += u64::from(state.run(packet).is_err());

@@ -120,7 +120,8 @@ fn refused(name: &str, said: String) -> Stop {
     })
 }
 
-fn packets(input: &Input) -> Result<Vec<&[u8]>, Stop> {
+/// The packets of an output; what is none is refused.
+pub fn packets(input: &Input) -> Result<Vec<&[u8]>, Stop> {
     let mark = input.bytes.get(..2).unwrap_or_default();
     match frames::parts(&input.bytes) {
         Some(packets) => Ok(packets),

@@ -71,17 +71,21 @@ fn a_packet_in_a_state() {
 #[test]
 fn packets_in_words() {
     let good = lb(&[0x81, 0xC2, 0x10, 0x00, 0x01, 0x00, 0x00, 0x00, 0x01, 0x02]);
-    let words = "packet 0, 10 bytes:\n  \
+    let words = "packet 0, 10 bytes\n  \
                  0: write registers 0x0010, 1 element, increment: 0x00000001\n  \
                  8: read registers from the pointer (0x0014), 1 element, no increment\n";
     answers(&["packets"], &good, 0, words);
     // The next packet starts where this one left the pointers.
     let both = [&good[..], &lb(&[0x01, 0x02])].concat();
-    let more = "packet 1, 2 bytes:\n  0: read registers from the pointer (0x0014), 1 element, no increment\n";
+    let more = "packet 1, 2 bytes\n  0: read registers from the pointer (0x0014), 1 element, no increment\n";
     answers(&["packets"], &both, 0, &format!("{words}{more}"));
     let ended = lbp16(&["packets", "--raw"], &PAST);
     let out = String::from_utf8(ended.out).unwrap();
     assert!(ended.exit == 1 && out.contains("refused 8 at 4: "), "{out}");
+    // An output that is cut, and a packet alone, are not taken for something else.
+    let line = "(standard input): not packets behind \"LB\" and their lengths, as lbp16 compile makes them\n";
+    says(&["packets"], &good[..good.len() - 1], 1, line);
+    says(&["packets"], &PAST, 1, line);
     says(
         &["packets", "--store", "x"],
         b"",
