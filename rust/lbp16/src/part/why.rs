@@ -61,8 +61,27 @@ fn explained(words: Words, options: &Options) -> Result<Answer, Stop> {
     };
     Ok(match parts {
         Some(parts) => several(&parts, &mut state, object),
-        None => one(&input.bytes, &state, object),
+        None => {
+            let mut answer = one(&input.bytes, &state, object);
+            answer
+                .words
+                .extend(looks_like(&input.bytes, options).bytes());
+            answer
+        }
     })
+}
+
+/// Of an input that was judged as one packet and may be meant otherwise.
+fn looks_like(bytes: &[u8], options: &Options) -> &'static str {
+    let given = options.raw || options.hex || options.packet.is_some();
+    let digits = bytes_of(bytes, "").is_ok_and(|bytes| !bytes.is_empty());
+    match frames::first(bytes) {
+        Some((part, _)) if !part.is_empty() && !options.raw => {
+            "the input begins with a packet behind \"LB\", and is cut or has no mark further on\n"
+        }
+        _ if digits && !given => "the input looks like hexadecimal text: try --hex\n",
+        _ => "",
+    }
 }
 
 /// The packet or packets that are asked about.

@@ -69,6 +69,21 @@ fn a_packet_in_a_state() {
 }
 
 #[test]
+fn an_input_that_may_be_meant_otherwise() {
+    let cut = [&lb(&[0x81, 0x42, 0x00, 0x00])[..], b"LB"].concat();
+    let ended = lbp16(&["why"], &cut);
+    let line =
+        "the input begins with a packet behind \"LB\", and is cut or has no mark further on\n";
+    assert!(String::from_utf8(ended.out).unwrap().ends_with(line));
+    let ended = lbp16(&["why", "--raw"], &cut);
+    assert!(!String::from_utf8(ended.out).unwrap().contains("behind"));
+    let ended = lbp16(&["why"], b"81 42 00 00\n");
+    let line = "the input looks like hexadecimal text: try --hex\n";
+    assert!(String::from_utf8(ended.out).unwrap().ends_with(line));
+    answers(&["why", "--hex"], b"81 42 00 00\n", 0, "accepted\n");
+}
+
+#[test]
 fn packets_in_words() {
     let good = lb(&[0x81, 0xC2, 0x10, 0x00, 0x01, 0x00, 0x00, 0x00, 0x01, 0x02]);
     let words = "packet 0, 10 bytes\n  \
