@@ -15,7 +15,7 @@ use Rattle.packet.specs.Command.{limit}
 use Rattle.packet.specs.Judge.{Verdict, judge, accepted, refused}
 use Rattle.packet.specs.Verdict.{answerTo, verdictListed}
 use Rattle.packet.specs.Counts.{elementsMoved}
-use Rattle.card.specs.Run.{Outcome, cleared, counted, badState, checked, outcome, runVerdict, runPacket, ran}
+use Rattle.card.specs.Run.{Outcome, cleared, counted, badState, checkedPacket, checked, outcome, runVerdict, runPacket, ran}
 use Rattle.card.specs.Run.{checkedLent, LentOutcome, asLent, runLent, ranLent, mostElements}
 use Rattle.lbp16.specs.Pointer.{pointersOf, lentPointers}
 use Rattle.lbp16.proofs.PointerLaws.{lent-back, lent-length, back-lent}
@@ -24,6 +24,16 @@ use Rattle.card.specs.declared.run.Ran.{Ran}
 use Rattle.card.specs.declared.run.RanLent.{RanLent}
 use Rattle.card.proofs.RunLaws.{checked-cases, run-checked, good-state, elements-summed, at-most}
 
+-- Packet and pointers alone.
+module _ (p : Pointers) (packet : List ℕ) where
+  pub packet-long : limit < length packet → checkedPacket p packet ≡ refused 2 0
+  unfolding checkedPacket
+  packet-long h = rw (lt-ltb _ _ h) refl
+
+  pub packet-judged : length packet ≤ limit → checkedPacket p packet ≡ judge p packet
+  unfolding checkedPacket
+  packet-judged h = rw (le-ltb _ _ h) refl
+
 module _ (packet store : List ℕ) (p : Pointers) where
   pub check-state : badState store p ≡ true → checked packet store p ≡ refused 1 0
   unfolding checked
@@ -31,11 +41,11 @@ module _ (packet store : List ℕ) (p : Pointers) where
 
   pub check-long : badState store p ≡ false → limit < length packet → checked packet store p ≡ refused 2 0
   unfolding checked
-  check-long fine h = rw (fine, lt-ltb _ _ h) refl
+  check-long fine h = rw fine (packet-long p packet h)
 
   pub check-judge : badState store p ≡ false → length packet ≤ limit → checked packet store p ≡ judge p packet
   unfolding checked
-  check-judge fine h = rw (fine, le-ltb _ _ h) refl
+  check-judge fine h = rw fine (packet-judged p packet h)
 
   -- A packet that the check accepts is one that may be done.
   pub may-run : (n : ℕ) → Answer.accepted (n ∷ []) ≡ answerTo (checked packet store p)

@@ -30,7 +30,8 @@ use Rattle.packet.proofs.InfoLaws.{accepted-whole}
 use Rattle.packet.proofs.JudgeLaws.{pointers-kept}
 use Rattle.packet.proofs.CountLaws.{steps-counted, few-elements}
 use Rattle.packet.proofs.RefusalLaws.{RefusedAt, refused-in-table, accepted-within, accepted-inside}
-use Rattle.card.specs.Run.{unlockCell, countCell, cleared, bytesOfCount, counted, badState, checked, outcome, runVerdict, runPacket, mostElements}
+use Rattle.card.specs.Run.{unlockCell, countCell, cleared, bytesOfCount, counted, mostElements}
+use Rattle.card.specs.Run.{badState, checkedPacket, checked, outcome, runVerdict, runPacket}
 
 -- the unlock cell is address 0x1A of space 6
 pub unlock-cell : unlockCell ≡ at (statusWrite 0x1A [])
@@ -152,7 +153,7 @@ module _ (packet store : List ℕ) (p : Pointers) (reply : List ℕ) where
 pub run-accepted : (packet store : List ℕ) (p : Pointers) (reply : List ℕ) (c : Carried) → badState store p ≡ false
     → length reply ≡ limit → length packet ≤ limit → judge p packet ≡ accepted c
     → runPacket packet store p reply ≡ outcome (accepted c) store p reply
-unfolding checked
+unfolding checked checkedPacket
 run-accepted packet store p reply c h r n j =
     rw (run-checked packet store p reply r, h, le-ltb limit (length packet) n, j)
 
@@ -167,7 +168,7 @@ module _ (packet store : List ℕ) (p : Pointers) where
   pub checked-cases : (P : Verdict → Type 0) → (badState store p ≡ true → P (refused 1 0))
       → (badState store p ≡ false → limit < length packet → P (refused 2 0))
       → (badState store p ≡ false → length packet ≤ limit → P (judge p packet)) → P (checked packet store p)
-  unfolding checked
+  unfolding checked checkedPacket
   checked-cases P bad long good = go (badState store p) (ltb limit (length packet)) refl refl
     where
       go : (b l : Bool) → badState store p ≡ b → ltb limit (length packet) ≡ l

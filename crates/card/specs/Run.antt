@@ -47,10 +47,13 @@ counted store = sets store countCell (bytesOf 2 (number (bytesOfCount store) + 1
 unfoldable pub badState : List ℕ → Pointers → Bool
 badState store p = not (eqb (length store) storeBytes) || aboveSize p
 
--- The check: refusals 1 and 2, then the packet's commands. It sees no reply room.
+-- The check of packet and pointers alone, which asks no store: refusal 2, then the packet's commands.
+unfoldable pub checkedPacket : Pointers → List ℕ → Verdict
+checkedPacket p packet = cond (ltb limit (length packet)) (refused 2 0) (judge p packet)
+
+-- The check: refusal 1, then the packet. It sees no reply room.
 unfoldable pub checked : List ℕ → List ℕ → Pointers → Verdict
-checked packet store p =
-    cond (badState store p) (refused 1 0) (cond (ltb limit (length packet)) (refused 2 0) (judge p packet))
+checked packet store p = cond (badState store p) (refused 1 0) (checkedPacket p packet)
 
 -- A refusal leaves all as it was. An accepted packet does its steps, then clears the unlock cell, then counts itself; the
 -- bytes read stand at the front of the reply.

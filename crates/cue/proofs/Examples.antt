@@ -62,7 +62,7 @@ unfolding Space.spaceOf Space.spaceNumber Space.isAbsent Space.row Space.infoRow
     Command.commandBytes Command.addressUsed Command.stride Command.payload Command.elements Command.handed
     Command.stepsAt Command.outOfPlace Command.refusals Command.whichOf Command.found Command.pointersAfter Judge.begin
     Judge.foundNext Judge.carry Judge.judgeFrom Judge.judge Verdict.answerTo Run.cleared Run.bytesOfCount Run.counted
-    Run.badState Run.checked Run.outcome Run.runVerdict Run.runPacket Records.markAt Records.recordKind
+    Run.badState Run.checkedPacket Run.checked Run.outcome Run.runVerdict Run.runPacket Records.markAt Records.recordKind
     Records.recordBytes Records.recordSpace Records.bytesOfValue Records.recordStep Records.reserved Records.badElement
     Records.upperHalf Records.recordRefusals Records.withRecord Records.recordsFrom Records.recordsOf
     Packing.commandFields Packing.joinAll Packing.bytesOfCommand Packing.bytesOfPacket Packing.elementSteps

@@ -17,7 +17,7 @@ use Rattle.packet.specs.Command.{limit}
 use Rattle.packet.specs.Judge.{Carried, accepted}
 use Rattle.packet.specs.Verdict.{answerTo}
 use Rattle.packet.proofs.StoreLaws.{length-after}
-use Rattle.card.specs.Run.{unlockCell, cleared, counted, badState, checked, Outcome, outcome, runVerdict}
+use Rattle.card.specs.Run.{unlockCell, cleared, counted, badState, checkedPacket, checked, Outcome, outcome, runVerdict}
 use Rattle.card.proofs.RunLaws.{good-state, state-again, length-cleared, length-counted, run-accepted}
 use Rattle.cue.specs.Records.{records, recordsOf}
 use Rattle.cue.specs.Output.{frames, apart}
@@ -56,7 +56,7 @@ module _ (guard values : List ℕ) (sound : soundness guard ≡ Answer.accepted 
     steps-are = d .judged p (good-state store p fine .1) .2
 
     verdict : runVerdict packet store p reply ≡ accepted end
-    unfolding runVerdict checked
+    unfolding runVerdict checked checkedPacket
     verdict = rw (eq-eqb _ _ room, fine, le-ltb limit (length packet) (d .short)) (d .judged p (good-state store p fine .1) .1)
 
     does-passes : protected guard ss ≡ false → guardedPacket guard packet store p reply ≡ outcome (accepted end) store p reply

@@ -16,7 +16,8 @@ use Rattle.text.specs.Room.{Filled, filled, putAt, textLeft}
 use Rattle.text.proofs.LineLaws.{cond-length, numbered-length}
 use Rattle.text.proofs.RoomLaws.{put-front, put-then}
 use Rattle.cue.proofs.FrameLaws.{whole-frame}
-use Rattle.reason.specs.Reason.{pointersLeft, verdictOf}
+use Rattle.card.specs.Run.{checkedPacket}
+use Rattle.reason.specs.Reason.{pointersLeft}
 use Rattle.packet_text.specs.Packet.{packetText, mostText, PacketLeft, packetLeft, shownPacket}
 use Rattle.lbpdis_output.specs.Said.{packetLine, faultLine, cutLine, unmarkedLine, endLine, partText, passedBy, pointersBy}
 use Rattle.lbpdis_output.specs.Said.{PartLeft, partLeft, partBy, partSaid}
@@ -62,7 +63,7 @@ part-is front i rest p room x f e l =
 pub record Shows (p : Pointers) (packet : List ℕ) (n : ℕ) (q : Pointers) (room : List ℕ) : Type 0 where
   pub short : n ≤ length room
   pub text : take n room ≡ packetText p packet
-  pub pointers : q ≡ pointersLeft (verdictOf p packet) p
+  pub pointers : q ≡ pointersLeft (checkedPacket p packet) p
 
 pub shows : (p : Pointers) (packet : List ℕ) (number n : ℕ) (q : Pointers) (before after : List ℕ)
     → packetLeft number n q after ≡ shownPacket p packet before → length (packetText p packet) ≤ mostText
@@ -81,11 +82,11 @@ shows p packet number n q before after e l b a =
 -- A packet's line and its text, put one behind the other.
 pub framed : (i n : ℕ) (rest : List ℕ) (p : Pointers) (room mid after : List ℕ) (at next : ℕ) (q : Pointers)
     → filled at mid ≡ putAt (packetLine i n) 0 room → filled next after ≡ putAt (packetText p (bytesInFrame n rest)) at mid
-    → q ≡ pointersLeft (verdictOf p (bytesInFrame n rest)) p
+    → q ≡ pointersLeft (checkedPacket p (bytesInFrame n rest)) p
     → partLeft (filled next after) (4 + n) q ≡ partPut (Front.frame n) i rest p room
 unfolding partPut partText passedBy pointersBy
 framed i n rest p room mid after at next q e f g =
-    rw g (ap (λ s. partLeft s (4 + n) (pointersLeft (verdictOf p (bytesInFrame n rest)) p)) (put-then _ _ _ _ e f))
+    rw g (ap (λ s. partLeft s (4 + n) (pointersLeft (checkedPacket p (bytesInFrame n rest)) p)) (put-then _ _ _ _ e f))
 
 pub framed-fits : (i n : ℕ) (rest : List ℕ) (p : Pointers) → i < 2 ^ 64 → n < 2 ^ 64
     → length (packetText p (bytesInFrame n rest)) ≤ mostText → length (partText (Front.frame n) i rest p) ≤ 69760

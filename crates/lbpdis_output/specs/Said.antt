@@ -8,7 +8,8 @@ use Rattle.cue.specs.Output.{Front, frontOf, bytesInFrame}
 use Rattle.text.specs.Number.{ascii}
 use Rattle.text.specs.Line.{numbered}
 use Rattle.text.specs.Room.{Filled, textLeft}
-use Rattle.reason.specs.Reason.{pointersLeft, verdictOf}
+use Rattle.card.specs.Run.{checkedPacket}
+use Rattle.reason.specs.Reason.{pointersLeft}
 use Rattle.packet_text.specs.Packet.{packetText}
 
 -- the line of packet i, of n bytes
@@ -51,7 +52,7 @@ unfoldable pub pointersBy : Front → List ℕ → Pointers → Pointers
 pointersBy Front.end rest p = p
 pointersBy Front.cut rest p = p
 pointersBy Front.unmarked rest p = p
-pointersBy (Front.frame n) rest p = pointersLeft (verdictOf p (bytesInFrame n rest)) p
+pointersBy (Front.frame n) rest p = pointersLeft (checkedPacket p (bytesInFrame n rest)) p
 
 -- All that is answered and left: the text at the front of the room, its bytes, the bytes passed, and the pointers.
 pub record PartLeft : Type 0 where

@@ -10,7 +10,8 @@ ghost use Prim.Native.Nat.{_+_, _≤_};
 ghost use lib.ListN.{length};
 ghost use Rattle.text.specs.Room.{filled, putAt};
 ghost use Rattle.cue.specs.Output.{Front};
-ghost use Rattle.reason.specs.Reason.{pointersLeft, verdictOf};
+ghost use Rattle.card.specs.Run.{checkedPacket};
+ghost use Rattle.reason.specs.Reason.{pointersLeft};
 ghost use Rattle.packet_text.specs.Packet.{packetText, mostText};
 ghost use Rattle.lbpdis_output.specs.Said.{packetLine, faultLine, cutLine, unmarkedLine, endLine, partText, partLeft, partSaid};
 ghost use Rattle.lbpdis_output.specs.Inside.{partPut};
@@ -73,7 +74,7 @@ struct Laid {
 
 fn put_text(room: &mut [u8], at: usize, packet: &[u8], p: Pointers) -> Laid
     ensures { λ r. ⌜ (filled (r .next) (now (room .exit)) ≡ putAt (packetText p (now (packet .entry))) at (now (room .entry)))
-        × (r .pointers ≡ pointersLeft (verdictOf p (now (packet .entry))) p) × (length (packetText p (now (packet .entry))) ≤ mostText) ⌝ }
+        × (r .pointers ≡ pointersLeft (checkedPacket p (now (packet .entry))) p) × (length (packetText p (now (packet .entry))) ≤ mostText) ⌝ }
 {
     let mut words = [0u8; packet_text::MOST];
     let shown = packet_text::put_packet(&mut words, packet, p);

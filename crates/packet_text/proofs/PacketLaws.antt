@@ -13,7 +13,8 @@ use Rattle.lbp16.specs.declared.pointer.Pointers.{Pointers}
 use Rattle.packet.specs.Command.{limit}
 use Rattle.packet.specs.Judge.{Carried, Verdict, refused, accepted, begin, judgeFrom, judge}
 use Rattle.packet.proofs.RefusalLaws.{refused-in-table}
-use Rattle.reason.specs.Reason.{pointersLeft, unnamed, reasonOf, verdictOf}
+use Rattle.card.specs.Run.{checkedPacket}
+use Rattle.reason.specs.Reason.{pointersLeft, unnamed, reasonOf}
 use Rattle.reason.specs.declared.Reason.{Reason}
 use Rattle.reason.proofs.FrontLaws.{front-judged}
 use Rattle.reason.proofs.ReasonLaws.{told-number, told-place}
@@ -30,12 +31,12 @@ pub record Accepts (p : Pointers) (packet : List ℕ) : Type 0 where
   pub short : length packet ≤ limit
   pub end : Carried
   pub judged : judge p packet ≡ accepted end
-  pub verdict : verdictOf p packet ≡ judge p packet
+  pub verdict : checkedPacket p packet ≡ judge p packet
 
 pub record Refuses (p : Pointers) (packet : List ℕ) (r : Reason) : Type 0 where
   number : ℕ
   place : ℕ
-  verdict : verdictOf p packet ≡ refused number place
+  verdict : checkedPacket p packet ≡ refused number place
   pub short : length (take (r .place) packet) ≤ limit
   pub front : (end : Carried) × (judge p (take (r .place) packet) ≡ accepted end)
 
@@ -43,11 +44,11 @@ nothing-judged : (p : Pointers) → judge p [] ≡ accepted (begin p)
 unfolding judge judgeFrom
 nothing-judged p = refl
 
-module _ (p : Pointers) (packet : List ℕ) (r : Reason) (e : r ≡ reasonOf p packet (verdictOf p packet)) where
+module _ (p : Pointers) (packet : List ℕ) (r : Reason) (e : r ≡ reasonOf p packet (checkedPacket p packet)) where
   Either : Type 0
   Either = ((r .number ≡ 0 → ⊥) → Refuses p packet r) × (r .number ≡ 0 → Accepts p packet)
 
-  module _ (n place : ℕ) (v : verdictOf p packet ≡ refused n place) (some : n ≡ 0 → ⊥) where
+  module _ (n place : ℕ) (v : checkedPacket p packet ≡ refused n place) (some : n ≡ 0 → ⊥) where
     number-is : r .number ≡ n
     number-is = ap (λ (x : Reason). x .number) (e ∙ ap (reasonOf p packet) v) ∙ told-number p packet n place
 
@@ -62,12 +63,12 @@ module _ (p : Pointers) (packet : List ℕ) (r : Reason) (e : r ≡ reasonOf p p
     )
 
   cases : Either
-  unfolding Either verdictOf reasonOf unnamed
+  unfolding Either checkedPacket reasonOf unnamed
   cases = by-length (ltb limit (length packet)) refl
     where
       go : ltb limit (length packet) ≡ false → (v : Verdict) → judge p packet ≡ v → Either
       go l (accepted c) q =
-          let same : verdictOf p packet ≡ judge p packet = rw l refl in
+          let same : checkedPacket p packet ≡ judge p packet = rw l refl in
           let none : r .number ≡ 0 = ap (λ (x : Reason). x .number) (e ∙ ap (reasonOf p packet) (same ∙ q)) in
           (λ z. absurd (z none), λ _. record { short = ltb-false limit (length packet) l; end = c; judged = q; verdict = same })
       go l (refused n place) q =
@@ -93,7 +94,7 @@ module _ (p : Pointers) (packet : List ℕ) (r : Reason) (e : r ≡ reasonOf p p
   refused-text h =
       rw (h .verdict) (ap (λ (x : Reason). linesText p (take (x .place) packet) ++ refusalText packet x) (e ∙ ap (reasonOf p packet) (h .verdict)))
 
-  pub refused-pointers : Refuses p packet r → p ≡ pointersLeft (verdictOf p packet) p
+  pub refused-pointers : Refuses p packet r → p ≡ pointersLeft (checkedPacket p packet) p
   unfolding pointersLeft
   refused-pointers h = rw (h .verdict) refl
 
@@ -126,7 +127,7 @@ pub refusal-whole : (packet : List ℕ) (r : Reason) → 3 ≤ r .number
 unfolding refusalText
 refusal-whole packet r h = rw (le-ltb (r .number) 3 h) refl
 
-pub refusal-size : (p : Pointers) (packet : List ℕ) (r : Reason) → r ≡ reasonOf p packet (verdictOf p packet)
+pub refusal-size : (p : Pointers) (packet : List ℕ) (r : Reason) → r ≡ reasonOf p packet (checkedPacket p packet)
     → length (refusalText packet r) ≤ 4816
 unfolding refusalText ascii
 refusal-size p packet r e = go (ltb (r .number) 3) refl
@@ -165,7 +166,7 @@ module _ (p : Pointers) (packet room : List ℕ) (k : ℕ) (none none₁ : List 
       rw (lt-ltb (length room) (length (packetText p packet)) (omega arith), b) refl
 
   pub enough : k ≤ length room → (n : ℕ) (after : List ℕ) (q : Pointers) → filled n after ≡ laidAt (packetText p packet) 0 room
-      → q ≡ pointersLeft (verdictOf p packet) p → packetLeft 0 n q after ≡ shownPacket p packet room
+      → q ≡ pointersLeft (checkedPacket p packet) p → packetLeft 0 n q after ≡ shownPacket p packet room
   unfolding shownPacket
   enough h n after q f g =
       let b = laid-bytes (packetText p packet) none none₁ k e in

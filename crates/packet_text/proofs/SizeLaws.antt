@@ -13,13 +13,13 @@ use Rattle.lbp16.specs.declared.pointer.Pointers.{Pointers}
 use Rattle.packet.specs.Command.{limit, fieldsAt, headerBytes, commandBytes}
 use Rattle.packet.specs.Judge.{Verdict, refused, accepted, judge}
 use Rattle.packet.proofs.RefusalLaws.{RefusedAt, refused-in-table}
-use Rattle.card.specs.Run.{badState}
+use Rattle.card.specs.Run.{badState, checkedPacket}
 use Rattle.text.specs.Number.{ascii, hexadecimal}
 use Rattle.text.proofs.HexLaws.{hex-length, bytes-length}
 use Rattle.text.proofs.LineLaws.{cond-length, numbered-length}
 use Rattle.sentence.specs.Sentence.{sentenceOf}
 use Rattle.sentence.proofs.TableLaws.{sentence-short}
-use Rattle.reason.specs.Reason.{commandsFrom, commandsBefore, unnamed, named, reasonOf, verdictOf, explained}
+use Rattle.reason.specs.Reason.{commandsFrom, commandsBefore, unnamed, named, reasonOf, explained}
 use Rattle.reason.specs.declared.Reason.{Reason}
 use Rattle.reason.proofs.ReasonLaws.{explained-bad, explained-fine}
 use Rattle.packet_text.specs.Wording.{ruleText, refusedText, elementBytes, kindText, fieldsText, addressDigits, addressText}
@@ -86,8 +86,8 @@ unnamed-small packet n l =
 
 -- of packet and pointers alone, and of the card
 module _ (packet : List ℕ) (p : Pointers) where
-  pub small-alone : Small packet (reasonOf p packet (verdictOf p packet))
-  unfolding verdictOf reasonOf named commandsBefore
+  pub small-alone : Small packet (reasonOf p packet (checkedPacket p packet))
+  unfolding checkedPacket reasonOf named commandsBefore
   small-alone = by-length (ltb limit (length packet)) refl
     where
       at : length packet ≤ limit → (n place : ℕ) → RefusedAt p packet n place → Small packet (reasonOf p packet (refused n place))

@@ -9,8 +9,8 @@ use Rattle.lbp16.specs.declared.pointer.Pointers.{Pointers}
 use Rattle.packet.specs.Command.{limit, fieldsAt, commandBytes, pointersAfter}
 use Rattle.packet.specs.Counts.{countsFrom, countsOf}
 use Rattle.packet.specs.Judge.{Verdict, refused, accepted}
-use Rattle.card.specs.Run.{badState, checked, outcome, runVerdict, runPacket}
-use Rattle.reason.specs.Reason.{pointersLeft, reasonOf, verdictOf}
+use Rattle.card.specs.Run.{badState, checkedPacket, checked, outcome, runVerdict, runPacket}
+use Rattle.reason.specs.Reason.{pointersLeft, reasonOf}
 use Rattle.packet_text.specs.Packet.{lineText, linesFrom, linesText, refusalText, refusedPacket, textBy, packetText}
 
 -- the lines one by one, and put together
@@ -54,7 +54,7 @@ line-for-each p commands = (
 )
 
 -- A refused packet's text ends with the check's refusal.
-pub refusal-said : (p : Pointers) (packet : List ℕ) (n place : ℕ) → verdictOf p packet ≡ refused n place
+pub refusal-said : (p : Pointers) (packet : List ℕ) (n place : ℕ) → checkedPacket p packet ≡ refused n place
     → packetText p packet
     ≡ linesText p (take (reasonOf p packet (refused n place) .place) packet) ++ refusalText packet (reasonOf p packet (refused n place))
 unfolding packetText textBy refusedPacket
@@ -67,6 +67,6 @@ same-pointers (refused n place) store p reply = refl
 same-pointers (accepted c) store p reply = refl
 
 pub pointers-run : (packet store : List ℕ) (p : Pointers) (reply : List ℕ) → badState store p ≡ false → length reply ≡ limit
-    → runPacket packet store p reply .pointers ≡ pointersLeft (verdictOf p packet) p
-unfolding runPacket runVerdict checked verdictOf
-pointers-run packet store p reply fine e = rw (eq-eqb _ _ e, fine) (same-pointers (verdictOf p packet) store p reply)
+    → runPacket packet store p reply .pointers ≡ pointersLeft (checkedPacket p packet) p
+unfolding runPacket runVerdict checked checkedPacket
+pointers-run packet store p reply fine e = rw (eq-eqb _ _ e, fine) (same-pointers (checkedPacket p packet) store p reply)

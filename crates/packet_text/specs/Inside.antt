@@ -8,7 +8,8 @@ use lib.Seq.{sets}
 use Rattle.lbp16.specs.Space.{spaceOf, isAbsent}
 use Rattle.lbp16.specs.declared.word.Fields.{Fields}
 use Rattle.lbp16.specs.declared.pointer.Pointers.{Pointers}
-use Rattle.reason.specs.Reason.{reasonOf, verdictOf}
+use Rattle.card.specs.Run.{checkedPacket}
+use Rattle.reason.specs.Reason.{reasonOf}
 use Rattle.reason.specs.declared.Reason.{Reason}
 use Rattle.text.specs.Room.{Filled, filled}
 
@@ -22,4 +23,4 @@ Plain place f = (place < 10000) × (f .count < 128) × (isAbsent (spaceOf (f .sp
 
 -- what the check of a packet alone says
 abbrev pub OfPacket : List ℕ → Reason → Type 0
-OfPacket packet r = (p : Pointers) × (r ≡ reasonOf p packet (verdictOf p packet))
+OfPacket packet r = (p : Pointers) × (r ≡ reasonOf p packet (checkedPacket p packet))

@@ -12,7 +12,8 @@ use Rattle.packet.specs.Judge.{Verdict, refused, accepted}
 use Rattle.text.specs.Number.{ascii, hexadecimal}
 use Rattle.text.specs.Line.{numbered}
 use Rattle.space_text.specs.SpaceText.{spaceText}
-use Rattle.reason.specs.Reason.{pointersLeft, reasonOf, verdictOf}
+use Rattle.card.specs.Run.{checkedPacket}
+use Rattle.reason.specs.Reason.{pointersLeft, reasonOf}
 use Rattle.reason.specs.declared.Reason.{Reason}
 use Rattle.packet_text.specs.Wording.{refusedText, kindText, addressDigits, commandText}
 
@@ -76,7 +77,7 @@ textBy p packet (accepted end) = cond (eqb (length packet) 0) (ascii "  no comma
 textBy p packet (refused n place) = refusedPacket p packet (reasonOf p packet (refused n place))
 
 unfoldable pub packetText : Pointers → List ℕ → List ℕ
-packetText p packet = textBy p packet (verdictOf p packet)
+packetText p packet = textBy p packet (checkedPacket p packet)
 
 -- the most bytes that it has, whatever the packet is
 abbrev pub mostText : ℕ
@@ -97,4 +98,4 @@ unfoldable pub shownPacket : Pointers → List ℕ → List ℕ → PacketLeft
 shownPacket p packet room =
     let text = packetText p packet in
     cond (ltb (length room) (length text)) (packetLeft 26 (length text) p room)
-    (packetLeft 0 (length text) (pointersLeft (verdictOf p packet) p) (text ++ drop (length text) room))
+    (packetLeft 0 (length text) (pointersLeft (checkedPacket p packet) p) (text ++ drop (length text) room))

@@ -11,7 +11,8 @@ ghost use lib.ListN.{length};
 ghost use lib.Seq.{sets};
 ghost use Rattle.text.specs.Room.{filled, putAt};
 ghost use Rattle.packet.specs.Judge.{Carried, judge, accepted};
-ghost use Rattle.reason.specs.Reason.{pointersLeft, reasonOf, verdictOf};
+ghost use Rattle.card.specs.Run.{checkedPacket};
+ghost use Rattle.reason.specs.Reason.{pointersLeft, reasonOf};
 ghost use Rattle.packet_text.specs.Packet.{refusalText, textBy, packetText};
 ghost use Rattle.packet_text.specs.Inside.{laidAt, OfPacket};
 
@@ -56,9 +57,9 @@ fn lay_accepted(out: &mut [u8], packet: &[u8], p: Pointers) -> Lines
 
 // The packet's text, put as far as there is room: its bytes, and the pointers that the packet leaves.
 pub(crate) fn lay_packet(out: &mut [u8], packet: &[u8], p: Pointers, r: Reason) -> Lines
-    requires { ⌜ r ≡ reasonOf p (now packet) (verdictOf p (now packet)) ⌝ }
+    requires { ⌜ r ≡ reasonOf p (now packet) (checkedPacket p (now packet)) ⌝ }
     ensures { λ l. ⌜ (filled (l .bytes) (now (out .exit)) ≡ laidAt (packetText p (now (packet .entry))) 0 (now (out .entry)))
-        × (l .pointers ≡ pointersLeft (verdictOf p (now (packet .entry))) p) × (l .bytes ≤ 69584) ⌝ }
+        × (l .pointers ≡ pointersLeft (checkedPacket p (now (packet .entry))) p) × (l .bytes ≤ 69584) ⌝ }
 {
     if r.number == 0 {
         return lay_accepted(out, packet, p);

@@ -12,12 +12,12 @@ use Rattle.lbp16.specs.declared.pointer.Pointers.{Pointers}
 use Rattle.packet.specs.Command.{limit}
 use Rattle.packet.specs.Judge.{Carried, Verdict, refused, accepted, judge}
 use Rattle.packet.specs.Verdict.{answerTo}
-use Rattle.card.specs.Run.{badState, checked, runPacket}
+use Rattle.card.specs.Run.{badState, checkedPacket, checked, runPacket}
 use Rattle.card.proofs.RunLaws.{checked-cases, run-answers-check}
-use Rattle.card.proofs.AnswerLaws.{check-judge}
+use Rattle.card.proofs.AnswerLaws.{packet-long, packet-judged, check-judge}
 use Rattle.packet.proofs.RefusalLaws.{refused-in-table}
 use Rattle.packet.proofs.JudgeLaws.{accepted-some}
-use Rattle.reason.specs.Reason.{unnamed, named, reasonOf, verdictOf, explained, FrontAccepted}
+use Rattle.reason.specs.Reason.{unnamed, named, reasonOf, explained, FrontAccepted}
 use Rattle.reason.specs.declared.Reason.{Reason}
 use Rattle.reason.proofs.FrontLaws.{front-judged}
 
@@ -90,8 +90,8 @@ module _ (packet store : List ℕ) (p : Pointers) where
   unfolding explained checked reasonOf
   explained-bad h = rw h refl
 
-  pub explained-fine : badState store p ≡ false → reasonOf p packet (verdictOf p packet) ≡ explained packet store p
-  unfolding explained checked verdictOf
+  pub explained-fine : badState store p ≡ false → reasonOf p packet (checkedPacket p packet) ≡ explained packet store p
+  unfolding explained checked
   explained-fine h = rw h refl
 
   -- From 3 on the bytes before the place are accepted.
@@ -119,22 +119,18 @@ module _ (packet store : List ℕ) (p : Pointers) where
 
 -- Packet and pointers alone, as the code has it.
 module _ (p : Pointers) (packet : List ℕ) where
-  pub reason-long : limit < length packet → unnamed 2 0 ≡ reasonOf p packet (verdictOf p packet)
-  unfolding verdictOf reasonOf
-  reason-long h = rw (lt-ltb limit (length packet) h) refl
+  pub reason-long : limit < length packet → unnamed 2 0 ≡ reasonOf p packet (checkedPacket p packet)
+  unfolding reasonOf
+  reason-long h = rw (packet-long p packet h) refl
 
   module _ (short : length packet ≤ limit) where
-    pub verdict-judged : verdictOf p packet ≡ judge p packet
-    unfolding verdictOf
-    verdict-judged = rw (le-ltb limit (length packet) short) refl
-
     pub reason-accepted : (n : ℕ) → Answer.accepted (n ∷ []) ≡ answerTo (judge p packet)
-        → unnamed 0 0 ≡ reasonOf p packet (verdictOf p packet)
+        → unnamed 0 0 ≡ reasonOf p packet (checkedPacket p packet)
     unfolding reasonOf
-    reason-accepted n e = let (end, a) = accepted-some _ n e in rw (verdict-judged, a) refl
+    reason-accepted n e = let (end, a) = accepted-some _ n e in rw (packet-judged p packet short, a) refl
 
     pub reason-named : (n place : ℕ) → judge p packet ≡ refused n place
-        → named p packet n place ≡ reasonOf p packet (verdictOf p packet)
+        → named p packet n place ≡ reasonOf p packet (checkedPacket p packet)
     unfolding reasonOf
     reason-named n place e =
-        rw (verdict-judged, e, le-ltb n 3 (refused-in-table p packet n place e .in-table .0)) refl
+        rw (packet-judged p packet short, e, le-ltb n 3 (refused-in-table p packet n place e .in-table .0)) refl

@@ -8,7 +8,7 @@ use lib.ListN.{length, take, drop}
 use lib.Dec.{ltb}
 use Rattle.lbp16.specs.Word.{fieldsOf}
 use Rattle.lbp16.specs.declared.pointer.Pointers.{Pointers}
-use Rattle.packet.specs.Command.{limit, fieldsAt, commandBytes, addressUsed}
+use Rattle.packet.specs.Command.{fieldsAt, commandBytes, addressUsed}
 use Rattle.packet.specs.Judge.{Carried, Verdict, refused, accepted, judge}
 use Rattle.card.specs.Run.{checked}
 use Rattle.reason.specs.declared.Reason.{Reason}
@@ -61,10 +61,6 @@ named p packet number place =
 unfoldable pub reasonOf : Pointers → List ℕ → Verdict → Reason
 reasonOf p packet (accepted end) = unnamed 0 0
 reasonOf p packet (refused number place) = cond (ltb number 3) (unnamed number place) (named p packet number place)
-
--- The check of packet and pointers alone, which asks no store: refusal 2, then the packet's commands.
-unfoldable pub verdictOf : Pointers → List ℕ → Verdict
-verdictOf p packet = cond (ltb limit (length packet)) (refused 2 0) (judge p packet)
 
 unfoldable pub explained : List ℕ → List ℕ → Pointers → Reason
 explained packet store p = reasonOf p packet (checked packet store p)

@@ -12,7 +12,8 @@ use packet::judge;
 use packet::judge::Verdict;
 ghost use lib.ListN.{take};
 ghost use mathlib.Core.Path.{_≡_};
-ghost use Rattle.reason.specs.Reason.{unnamed, reasonOf, verdictOf, explained, FrontAccepted};
+ghost use Rattle.card.specs.Run.{checkedPacket};
+ghost use Rattle.reason.specs.Reason.{unnamed, reasonOf, explained, FrontAccepted};
 
 // All 0 where the packet is accepted. `address` is the one that the command uses, given or from a pointer; index, fields and
 // address are 0 too where no command is at fault.
@@ -39,7 +40,7 @@ pub fn no_command(number: u32) -> Reason
 
 // Of the packet and the pointers alone: refusal 1 is not asked.
 pub fn explain_packet(packet: &[u8], p: Pointers) -> Reason
-    ensures { λ r. ⌜ r ≡ reasonOf p (now (packet .entry)) (verdictOf p (now (packet .entry))) ⌝ }
+    ensures { λ r. ⌜ r ≡ reasonOf p (now (packet .entry)) (checkedPacket p (now (packet .entry))) ⌝ }
 {
     if command::LIMIT < packet.len() {
         return no_command(2);
