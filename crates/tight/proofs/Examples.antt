@@ -2,6 +2,7 @@
 use Prim.Native.Nat.{ℕ}
 use mathlib.Core.Path.{_≡_, refl}
 use mathlib.Core.List.{List, [], _∷_, _++_}
+use Rattle.text.specs.Find
 use Rattle.lbp16.specs.Info
 use Rattle.packet.specs.Bytes
 use Rattle.packet.specs.Command
@@ -31,7 +32,7 @@ unfolding all Bytes.pairsOf Command.bytesOfArea Info.areaWords Unset.among Unset
 packets = 0
 
 unfoldable steps : ℕ
-unfolding Tight.unlocks Tight.withoutUnlocks Tight.sameKind Tight.sameBytes Tight.sameStep Tight.sameSteps
+unfolding Tight.unlocks Tight.withoutUnlocks Tight.sameKind Find.sameBytes Tight.sameStep Tight.sameSteps
 steps = 0
 
 unfoldable does : ℕ

@@ -8,7 +8,6 @@ pub mod Demand3Laws
 pub mod OwnLaws
 pub mod Examples
 -- The code's walk over the proposal and the list.
-pub mod BytesLaws
 pub mod StepLaws
 pub mod TakeLaws
 pub mod ElementsLaws

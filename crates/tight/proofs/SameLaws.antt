@@ -6,11 +6,13 @@ use mathlib.Core.Bool.{true, _&&_}
 use native.Mathlib.Omega.{arith}
 use lib.Dec.{eqb}
 use borrow.Author.Tests.{eqb-true, eq-eqb}
+use Rattle.text.specs.Find.{sameBytes}
+use Rattle.text.proofs.FindLaws.{same-self, same-is}
 use Rattle.lbp16.specs.Space.{spaceOf, spaceNumber}
 use Rattle.lbp16.proofs.BoolLaws.{and-true}
 use Rattle.packet.specs.Step.{Kind, read, write, infoRead, Step, isInfo, isWrite}
 use Rattle.cue.proofs.PackingLaws.{space-again}
-use Rattle.tight.specs.Tight.{sameKind, sameBytes, sameStep, sameSteps}
+use Rattle.tight.specs.Tight.{sameKind, sameStep, sameSteps}
 
 same-kind : (k l : Kind) → sameKind k l ≡ true → k ≡ l
 unfolding sameKind isWrite isInfo
@@ -30,19 +32,6 @@ kind-itself read = refl
 kind-itself write = refl
 kind-itself infoRead = refl
 
-same-bytes : (az bs : List ℕ) → sameBytes az bs ≡ true → az ≡ bs
-unfolding sameBytes
-same-bytes [] [] e = refl
-same-bytes [] (b ∷ bs) e = let z : _≡_ {A = ℕ} 0 1 = cc in absurd (omega arith)
-same-bytes (a ∷ az) [] e = let z : _≡_ {A = ℕ} 0 1 = cc in absurd (omega arith)
-same-bytes (a ∷ az) (b ∷ bs) e =
-    let (x, y) = and-true (eqb a b) (sameBytes az bs) e in rw (eqb-true a b x, same-bytes az bs y)
-
-bytes-itself : (az : List ℕ) → sameBytes az az ≡ true
-unfolding sameBytes
-bytes-itself [] = refl
-bytes-itself (a ∷ az) = rw (eq-eqb a a refl) (bytes-itself az)
-
 same-step : (s x : Step) → sameStep s x ≡ true → s ≡ x
 unfolding sameStep
 same-step s x e =
@@ -56,14 +45,14 @@ same-step s x e =
     let kind = same-kind _ _ k in
     let space = sym (space-again (s .space)) ∙ ap spaceOf number ∙ space-again (x .space) in
     let address : s .address ≡ x .address = eqb-true _ _ a in
-    let bytes = same-bytes _ _ b in
+    let bytes = same-is _ _ b in
     λ i. record { kind = kind i; space = space i; address = address i; bytes = bytes i }
 
 step-itself : (s : Step) → sameStep s s ≡ true
 unfolding sameStep
 step-itself s =
     rw (kind-itself (s .kind), eq-eqb (spaceNumber (s .space)) _ refl, eq-eqb (s .address) _ refl)
-    (bytes-itself (s .bytes))
+    (same-self (s .bytes))
 
 -- Lists of steps that the test finds the same are equal, and the test finds equal lists the same.
 pub same-steps : (ss xs : List Step) → sameSteps ss xs ≡ true → ss ≡ xs

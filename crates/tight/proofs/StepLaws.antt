@@ -8,6 +8,7 @@ use lib.Dec.{eqb, ltb}
 use lib.ListN.{length, take, drop}
 use lib.Seq.{take-take}
 use borrow.Author.Tests.{eq-eqb, ne-eqb, eqb-true, eqb-false, lt-ltb, le-ltb}
+use Rattle.text.specs.Find.{sameBytes}
 use Rattle.lbp16.specs.Space.{Space, spaceOf, spaceNumber, isAbsent, row}
 use Rattle.lbp16.specs.declared.space.Row.{Row}
 use Rattle.lbp16.proofs.SpaceLaws.{element-le}
@@ -19,7 +20,7 @@ use Rattle.cue.specs.Records.{recordStep, recordKind, recordSpace, recordBytes,
 use Rattle.cue.specs.Records.{recordAt}
 use Rattle.cue.specs.declared.records.Record.{Record}
 use Rattle.lbp16.proofs.CaseLaws.{space-cases}
-use Rattle.tight.specs.Tight.{unlocks, sameKind, sameStep, sameBytes}
+use Rattle.tight.specs.Tight.{unlocks, sameKind, sameStep}
 use Rattle.tight.specs.Inside.{elementStep, stepTakes}
 use Rattle.tight.specs.declared.walk.Taken.{Taken}
 

@@ -4,6 +4,7 @@ use mathlib.Core.List.{List, [], _∷_, _++_}
 use mathlib.Core.Bool.{Bool, true, false, _&&_, _||_, cond, Bool·beq}
 use lib.ListN.{length}
 use lib.Dec.{eqb, ltb}
+use Rattle.text.specs.Find.{sameBytes}
 use Rattle.lbp16.specs.Space.{spaceNumber}
 use Rattle.lbp16.specs.Pointer.{fresh}
 use Rattle.packet.specs.Bytes.{number}
@@ -61,12 +62,6 @@ withoutUnlocks (s ∷ ss) = cond (unlocks s) (withoutUnlocks ss) (s ∷ withoutU
 
 unfoldable pub sameKind : Kind → Kind → Bool
 sameKind k l = Bool·beq (isWrite k) (isWrite l) && Bool·beq (isInfo k) (isInfo l)
-
-unfoldable pub sameBytes : List ℕ → List ℕ → Bool
-sameBytes [] [] = true
-sameBytes [] (b ∷ bs) = false
-sameBytes (a ∷ az) [] = false
-sameBytes (a ∷ az) (b ∷ bs) = eqb a b && sameBytes az bs
 
 unfoldable pub sameStep : Step → Step → Bool
 sameStep s x =

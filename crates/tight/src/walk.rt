@@ -14,6 +14,7 @@ use packet::command;
 use packet::command::LIMIT;
 use packet::judge;
 use packet::judge::Verdict;
+use text::find;
 ghost use mathlib.Core.Path.{_≡_};
 ghost use mathlib.Core.Bool.{false};
 ghost use mathlib.Core.List.{List};
@@ -26,7 +27,7 @@ ghost use Rattle.packet.specs.Judge.{Carried, accepted, judge};
 ghost use Rattle.card.specs.Inside.{LetPass};
 ghost use Rattle.cue.specs.Records.{records, recordsOf, recordBytes};
 ghost use Rattle.cue.specs.Output.{apart, frontOf};
-ghost use Rattle.tight.specs.Tight.{unlocks, sameBytes, doneBy, framesChecked, checkListed};
+ghost use Rattle.tight.specs.Tight.{unlocks, doneBy, framesChecked, checkListed};
 ghost use Rattle.tight.specs.Inside.{unset, elementStep, stepTakes, stepsTake, doingTakes, packetTakes, frameTakes};
 
 // The bytes that something takes from the front of a list or of a proposal, if it may stand there.
@@ -49,22 +50,6 @@ fn unset() -> Pointers
         plain: spaces,
         info: spaces,
     }
-}
-
-fn same_bytes(a: &[u8], b: &[u8]) -> bool
-    ensures { λ r. ⌜ r ≡ sameBytes (now (a .entry)) (now (b .entry)) ⌝ }
-{
-    if a.len() != b.len() {
-        return false;
-    }
-    let mut i: usize = 0;
-    while i < a.len() {
-        if a[i] != b[i] {
-            return false;
-        }
-        i += 1;
-    }
-    true
 }
 
 // Whether an element writes 0x5A02 to the unlock cell.
@@ -103,7 +88,7 @@ fn element_takes(list: &[u8], write: bool, space: u8, address: u32, bytes: &[u8]
     }
     let m = carried_bytes(write, space);
     let end = 6 + m;
-    if same_bytes(&bytes[..m], &list[6..end]) {
+    if find::same(&bytes[..m], &list[6..end]) {
         Taken::Bytes(n)
     } else {
         Taken::Rejected

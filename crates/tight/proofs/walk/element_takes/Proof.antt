@@ -55,27 +55,27 @@ carried-bytes-requires c κs = search needs
 add-end : tie.Need-add-end
 add-end c = search needs
 
-slice-aggregate-same-bytes : tie.Need-slice-aggregate-same-bytes
-slice-aggregate-same-bytes c =
+slice-aggregate-same : tie.Need-slice-aggregate-same
+slice-aggregate-same c =
     let a = c .before .before .before .before .before .before .before .before .before .before .before .before .before in
     sym (length-take-le _ _ (rw (c .before .carried-bytes .ensures .0) (a .pre .1)))
 
-sub-same-bytes : tie.Need-sub-same-bytes
-sub-same-bytes c = search needs
+sub-same : tie.Need-sub-same
+sub-same c = search needs
 
-part-same-bytes-start : tie.Need-part-same-bytes-start
-part-same-bytes-start c = search needs
+part-same-start : tie.Need-part-same-start
+part-same-start c = search needs
 
-part-same-bytes-end : tie.Need-part-same-bytes-end
-part-same-bytes-end c =
+part-same-end : tie.Need-part-same-end
+part-same-end c =
     let b = c .before .before .before .before .before .before in
     value-within (compared (b .before)) (b .if2 .left) (c .before .before .if3 .left) _ (c .before .carried-bytes .ensures .1)
 
-same-bytes-requires : tie.Need-same-bytes-requires
-same-bytes-requires c κs = search needs
+same-requires : tie.Need-same-requires
+same-requires c κs = search needs
 
 -- the answer, once the bytes are compared
-answer : (c : tie.After-same-bytes) (t : Bool) → c .same-bytes .result ≡ t
+answer : (c : tie.After-same) (t : Bool) → c .same .result ≡ t
     → (let d = c .before .before .before .before .before .before .before .before .before in
     let a = d .before .before .before .before .before .before .args in
     cond t (Taken.Bytes (d .record-bytes .result)) Taken.Rejected
@@ -84,7 +84,7 @@ answer c t e =
     let b = c .before .before .before in
     let d = b .before .before .before .before .before in
     element-taken (compared (d .before)) (d .if2 .left) (b .before .if3 .left) _ (b .carried-bytes .ensures .0) t
-    (c .same-bytes .ensures)
+    (c .same .ensures)
     e
 
 returns-4 : tie.Need-returns-4
@@ -106,10 +106,10 @@ element-takes-spec =
     returns-3
     carried-bytes-requires
     add-end
-    slice-aggregate-same-bytes
-    sub-same-bytes
-    part-same-bytes-start
-    part-same-bytes-end
-    same-bytes-requires
+    slice-aggregate-same
+    sub-same
+    part-same-start
+    part-same-end
+    same-requires
     returns-4
     returns-5)
