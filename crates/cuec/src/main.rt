@@ -3,10 +3,18 @@ use input::Taken;
 use libc::STDIN_FILENO;
 use libc::STDOUT_FILENO;
 
-fn report(list: &[u8]) {
-    let mut room = [0u8; 32768];
-    let said = cuec_output::report(list, &mut room);
-    io::write_all(STDOUT_FILENO, &room[..said]);
+fn say(list: &[u8], room: &mut [u8; 32768]) {
+    let said = cuec_output::report(list, room);
+    input::put(STDOUT_FILENO, room, said);
+}
+
+// `list` has room for one byte more than a list may have, so that a longer one is noticed.
+fn serve(list: &mut [u8; 16385], room: &mut [u8; 32768]) {
+    let taken = input::all(STDIN_FILENO, list);
+    match taken {
+        Taken::Bytes(n) => say(input::front(list, n), room),
+        Taken::Failed => input::cannot_read(),
+    }
 }
 
 fn main() {
@@ -17,11 +25,5 @@ fn main() {
         );
         return;
     }
-    // One byte more than a list may have, so that a longer input is noticed.
-    let mut list = [0u8; 16385];
-    let taken = input::all(STDIN_FILENO, &mut list);
-    match taken {
-        Taken::Bytes(n) => report(&list[..n]),
-        Taken::Failed => input::cannot_read(),
-    }
+    serve(&mut [0; 16385], &mut [0; 32768]);
 }

@@ -17,19 +17,13 @@ fn take(request: Request, bytes: &mut [u8]) -> Taken {
     input::all(STDIN_FILENO, &mut bytes[..most])
 }
 
-fn put(fd: i32, room: &[u8], n: usize) {
-    if n <= room.len() {
-        io::write_all(fd, &room[..n]);
-    }
-}
-
 // The record before a stretch, and the stretch.
 fn put_stretch(fd: i32, list: &[u8], from: usize, start: u64, n: u64, line: &mut [u8; 64]) {
     let mut room = [0u8; 128];
     let k = lines::look(&mut room, list, from, start as usize);
-    put(fd, &room, k);
+    input::put(fd, &room, k);
     let k = lines::skipped(line, start, n);
-    put(fd, line, k);
+    input::put(fd, line, k);
 }
 
 // The place behind a stretch of a list of at most 1,000,000 bytes.
@@ -50,7 +44,7 @@ fn put_skipped(fd: i32, list: &[u8], log: &[u64], line: &mut [u8; 64]) {
 
 fn put_kept(fd: i32, records: usize, bytes: usize, line: &mut [u8; 64]) {
     let n = lines::kept(line, records as u64, bytes as u64);
-    put(fd, line, n);
+    input::put(fd, line, n);
 }
 
 fn put_account(fd: i32, list: &[u8], log: &[u64], counts: Counts, line: &mut [u8; 64]) {
@@ -63,12 +57,12 @@ fn put_account(fd: i32, list: &[u8], log: &[u64], counts: Counts, line: &mut [u8
 
 fn put_usage(line: &mut [u8; 64]) {
     let n = lines::usage(line);
-    put(STDOUT_FILENO, line, n);
+    input::put(STDOUT_FILENO, line, n);
 }
 
 fn put_too_long(line: &mut [u8; 64]) {
     let n = lines::too_long(line);
-    put(STDOUT_FILENO, line, n);
+    input::put(STDOUT_FILENO, line, n);
 }
 
 fn put_told(told: Told, list: &[u8], room: &[u8], log: &[u64], line: &mut [u8; 64]) {
@@ -76,7 +70,7 @@ fn put_told(told: Told, list: &[u8], room: &[u8], log: &[u64], line: &mut [u8; 6
         Told::Usage => put_usage(line),
         Told::TooLong => put_too_long(line),
         Told::List(counts) => {
-            put(STDOUT_FILENO, room, counts.bytes);
+            input::put(STDOUT_FILENO, room, counts.bytes);
             put_account(STDERR_FILENO, list, log, counts, line);
         }
         Told::Account(counts) => put_account(STDOUT_FILENO, list, log, counts, line),
@@ -85,16 +79,11 @@ fn put_told(told: Told, list: &[u8], room: &[u8], log: &[u64], line: &mut [u8; 6
 
 fn answer(
     request: Request,
-    bytes: &[u8],
-    n: usize,
+    list: &[u8],
     room: &mut [u8; 1000000],
     log: &mut [u64; 285716],
     line: &mut [u8; 64],
 ) {
-    if bytes.len() < n {
-        return;
-    }
-    let list = &bytes[..n];
     let told = cuefix_output::answer(request, list, room, log);
     put_told(told, list, room, log, line);
 }
@@ -110,7 +99,7 @@ fn serve(
     let taken = take(request, bytes);
     match taken {
         Taken::Failed => input::cannot_read(),
-        Taken::Bytes(n) => answer(request, bytes, n, room, log, line),
+        Taken::Bytes(n) => answer(request, input::front(bytes, n), room, log, line),
     }
 }
 

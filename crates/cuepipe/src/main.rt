@@ -14,16 +14,10 @@ const ROOM: usize = 25093;
 // A good list has at most 1,000,000 bytes, and a longer one is refused before so many are read.
 const MOST: usize = 1048576;
 
-// Takes the first n bytes of a part that was read, and writes what comes of it. Whether another may follow.
-fn feed(state: &mut [u8], part: &[u8], n: usize, room: &mut [u8]) -> bool {
-    if part.len() < n {
-        return false;
-    }
-    let fed = cuepipe_output::feed(state, &part[..n], room);
-    let bytes = fed.bytes;
-    if bytes <= room.len() {
-        io::write_all(STDOUT_FILENO, &room[..bytes]);
-    }
+// Takes a part that was read, and writes what comes of it. Whether another may follow.
+fn feed(state: &mut [u8], part: &[u8], room: &mut [u8]) -> bool {
+    let fed = cuepipe_output::feed(state, part, room);
+    input::put(STDOUT_FILENO, room, fed.bytes);
     fed.more
 }
 
@@ -37,7 +31,7 @@ fn serve(state: &mut [u8; STATE_BYTES], part: &mut [u8; PART], room: &mut [u8; R
                 return;
             }
             Taken::Bytes(n) => {
-                let more = feed(state, part, n, room);
+                let more = feed(state, input::front(part, n), room);
                 if n == 0 {
                     return;
                 }

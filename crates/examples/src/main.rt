@@ -14,6 +14,14 @@ use input::Taken;
 use libc::STDIN_FILENO;
 use libc::STDOUT_FILENO;
 
+fn serve(script: &mut [u8; 32768]) {
+    let taken = input::all(STDIN_FILENO, script);
+    match taken {
+        Taken::Bytes(n) => script::play(input::front(script, n)),
+        Taken::Failed => input::cannot_read(),
+    }
+}
+
 fn main() {
     if os::arg_count() != 1 {
         io::write_all(
@@ -22,10 +30,5 @@ fn main() {
         );
         return;
     }
-    let mut script = [0u8; 32768];
-    let taken = input::all(STDIN_FILENO, &mut script);
-    match taken {
-        Taken::Bytes(n) => script::play(&script[..n]),
-        Taken::Failed => input::cannot_read(),
-    }
+    serve(&mut [0; 32768]);
 }

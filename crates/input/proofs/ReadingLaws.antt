@@ -1,6 +1,6 @@
 -- What a caller needs of a read.
 use Prim.Native.Nat.{ℕ, _+_, _≤_}
-use mathlib.Core.Path.{_≡_, sym}
+use mathlib.Core.Path.{_≡_}
 use mathlib.Core.List.{List, _++_}
 use native.Mathlib.Omega.{arith}
 use lib.ListN.{length, take, length-append}
@@ -9,13 +9,9 @@ use Rattle.input.specs.Reading.{Within, Behind}
 use Rattle.input.specs.declared.Taken.{Taken}
 
 -- the bytes that came can be taken from the room
-module _ (t : Taken) (room : List ℕ) (w : Within t room) (n : ℕ) (e : t ≡ Taken.Bytes n) where
-  pub taken-within : n ≤ length room
-  unfolding Within
-  taken-within = rw e at w
-
-  pub taken-front : n ≡ length (take n room)
-  taken-front = sym (length-take-le n room taken-within)
+pub taken-within : (t : Taken) (room : List ℕ) → Within t room → (n : ℕ) → t ≡ Taken.Bytes n → n ≤ length room
+unfolding Within
+taken-within t room w n e = rw e at w
 
 -- the same behind bytes that were there before
 pub behind-is : (from : ℕ) (t : Taken) (d ys more : List ℕ) → from ≤ length d → Within t ys

@@ -1,7 +1,9 @@
-// What programs read, over the kit's `libc::read`: a read that fails, or that a signal interrupts, is not the end.
+// What programs read and write, over the kit's `libc::read`: a read that fails, or that a signal interrupts, is not the end.
 use libc::STDERR_FILENO;
+use libc::STDIN_FILENO;
 ghost use Prim.Native.Nat.{_≤_};
-ghost use lib.ListN.{length};
+ghost use mathlib.Core.Path.{_≡_};
+ghost use lib.ListN.{length, take};
 ghost use Rattle.input.specs.Reading.{Within, Behind};
 
 // So many bytes came, none at the end; or a read failed.
@@ -56,6 +58,30 @@ pub fn all(fd: i32, room: &mut [u8]) -> Taken
         }
     }
     Taken::Bytes(n)
+}
+
+// Standard input, of a program that takes no words: how it is used is said without a look there.
+pub fn asked(words: usize, room: &mut [u8]) -> Taken
+    ensures { λ r. ⌜ Within r (now (room .exit)) ⌝ }
+{
+    if words != 1 {
+        return Taken::Bytes(0);
+    }
+    all(STDIN_FILENO, room)
+}
+
+// The first n bytes; all where there are fewer.
+pub fn front(bytes: &[u8], n: usize) -> &[u8]
+    ensures { λ r. ⌜ now r ≡ take n (now (bytes .entry)) ⌝ }
+{
+    if n < bytes.len() {
+        return &bytes[..n];
+    }
+    bytes
+}
+
+pub fn put(fd: i32, room: &[u8], n: usize) {
+    io::write_all(fd, front(room, n));
 }
 
 pub fn cannot_read() {

@@ -8,12 +8,6 @@ use libc::STDOUT_FILENO;
 // The most bytes that the input may have.
 const MOST: usize = 3000000;
 
-fn put(room: &[u8], n: usize) {
-    if n <= room.len() {
-        io::write_all(STDOUT_FILENO, &room[..n]);
-    }
-}
-
 // Part after part, from a fresh card; the pointers are carried on.
 fn show(bytes: &[u8], room: &mut [u8; ROOM]) {
     let mut pointers = Pointers::fresh();
@@ -21,7 +15,7 @@ fn show(bytes: &[u8], room: &mut [u8; ROOM]) {
     let mut i: u64 = 0;
     while i < 3000000 {
         let part = lbpdis_output::put_part(room, i, rest, pointers);
-        put(room, part.bytes);
+        input::put(STDOUT_FILENO, room, part.bytes);
         let n = part.passed;
         if n == 0 {
             return;
@@ -32,14 +26,12 @@ fn show(bytes: &[u8], room: &mut [u8; ROOM]) {
     }
 }
 
-fn report(bytes: &[u8], n: usize, room: &mut [u8; ROOM]) {
-    if MOST < n {
+fn report(bytes: &[u8], room: &mut [u8; ROOM]) {
+    if MOST < bytes.len() {
         io::write_all(STDOUT_FILENO, b"too long\n");
         return;
     }
-    if n <= bytes.len() {
-        show(&bytes[..n], room);
-    }
+    show(bytes, room);
 }
 
 // One byte more is read than the input may have, so that a longer one is noticed.
@@ -47,7 +39,7 @@ fn serve(bytes: &mut [u8; 3000001], room: &mut [u8; ROOM]) {
     let taken = input::all(STDIN_FILENO, bytes);
     match taken {
         Taken::Failed => input::cannot_read(),
-        Taken::Bytes(n) => report(bytes, n, room),
+        Taken::Bytes(n) => report(input::front(bytes, n), room),
     }
 }
 

@@ -137,16 +137,19 @@ fn usage() {
     );
 }
 
+fn serve(card: &mut [u8; 65550], line: &mut [u8; 131200]) {
+    let taken = input::all(STDIN_FILENO, card);
+    match taken {
+        Taken::Failed => input::cannot_read(),
+        Taken::Bytes(n) => show(line, input::front(card, n)),
+    }
+}
+
 // A line has room for a name and a unit that are the whole memory.
 fn main() {
     if os::arg_count() != 1 {
         usage();
         return;
     }
-    let mut card = [0u8; 65550];
-    let taken = input::all(STDIN_FILENO, &mut card);
-    match taken {
-        Taken::Failed => input::cannot_read(),
-        Taken::Bytes(n) => show(&mut [0u8; 131200], &card[..n]),
-    }
+    serve(&mut [0; 65550], &mut [0; 131200]);
 }

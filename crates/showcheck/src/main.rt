@@ -6,37 +6,14 @@ use libc::STDIN_FILENO;
 use libc::STDOUT_FILENO;
 use showcheck_output::given;
 use showcheck_output::given::Given;
-ghost use Rattle.input.specs.Reading.{Within};
 
-fn put(room: &[u8], said: usize) {
-    if said <= room.len() {
-        io::write_all(STDOUT_FILENO, &room[..said]);
-    }
-}
-
-fn report(
-    given: Given,
-    file: &[u8],
-    pointers: &[u8],
-    show: &[u8],
-    n: usize,
-    room: &mut [u8; 24576],
-) -> usize {
-    if show.len() < n {
-        return 0;
-    }
-    showcheck_output::whole(given, file, pointers, &show[..n], room)
-}
-
-fn say(given: Given, file: &[u8], pointers: &[u8], show: &[u8], n: usize, room: &mut [u8; 24576]) {
-    let said = report(given, file, pointers, show, n, room);
-    put(room, said);
+fn say(given: Given, file: &[u8], pointers: &[u8], show: &[u8], room: &mut [u8; 24576]) {
+    let said = showcheck_output::whole(given, file, pointers, show, room);
+    input::put(STDOUT_FILENO, room, said);
 }
 
 // Nothing is read where nothing is done with it, or where the file could not be opened.
-fn take(given: Given, fd: i32, room: &mut [u8]) -> Taken
-    ensures { λ r. ⌜ Within r (now (room .exit)) ⌝ }
-{
+fn take(given: Given, fd: i32, room: &mut [u8]) -> Taken {
     if (given::most_read(given) == 0) | (fd < 0) {
         return Taken::Bytes(0);
     }
@@ -52,7 +29,7 @@ fn hear(
 ) {
     let taken = take(given, STDIN_FILENO, show);
     match taken {
-        Taken::Bytes(n) => say(given, file, pointers, show, n, room),
+        Taken::Bytes(n) => say(given, file, pointers, input::front(show, n), room),
         Taken::Failed => input::cannot_read(),
     }
 }
@@ -67,7 +44,7 @@ fn with_store(
     let mut pointers = [0u8; 33];
     let taken = take(given, fd, &mut pointers);
     match taken {
-        Taken::Bytes(n) => hear(given, file, &pointers[..n], show, room),
+        Taken::Bytes(n) => hear(given, file, input::front(&pointers, n), show, room),
         Taken::Failed => input::cannot_read(),
     }
 }
@@ -77,7 +54,7 @@ fn serve(given: Given, fd: i32, other: i32, show: &mut [u8; 3000001], room: &mut
     let mut file = [0u8; STORE_BYTES + 1];
     let taken = take(given, fd, &mut file);
     match taken {
-        Taken::Bytes(n) => with_store(given, &file[..n], other, show, room),
+        Taken::Bytes(n) => with_store(given, input::front(&file, n), other, show, room),
         Taken::Failed => input::cannot_read(),
     }
 }

@@ -144,16 +144,17 @@ fn all(out: &mut [u8], input: &[u8]) -> usize {
     of_card(out, next, 3, input)
 }
 
-fn put(out: &[u8], n: usize) {
-    if n <= out.len() {
-        io::write_all(STDOUT_FILENO, &out[..n]);
-    }
+fn play(cards: &[u8], out: &mut [u8; 8192]) {
+    let n = all(out, cards);
+    input::put(STDOUT_FILENO, out, n);
 }
 
-fn play(cards: &[u8]) {
-    let mut out = [0u8; 8192];
-    let n = all(&mut out, cards);
-    put(&out, n);
+fn serve(cards: &mut [u8; 8192], out: &mut [u8; 8192]) {
+    let taken = input::all(STDIN_FILENO, cards);
+    match taken {
+        Taken::Bytes(n) => play(input::front(cards, n), out),
+        Taken::Failed => input::cannot_read(),
+    }
 }
 
 fn main() {
@@ -164,10 +165,5 @@ fn main() {
         );
         return;
     }
-    let mut cards = [0u8; 8192];
-    let taken = input::all(STDIN_FILENO, &mut cards);
-    match taken {
-        Taken::Bytes(n) => play(&cards[..n]),
-        Taken::Failed => input::cannot_read(),
-    }
+    serve(&mut [0; 8192], &mut [0; 8192]);
 }

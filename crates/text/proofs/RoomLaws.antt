@@ -6,8 +6,8 @@ use native.Mathlib.Omega.{arith}
 use native.Mathlib.Decide.{decLe}
 use native.Mathlib.Numerals.{add-one}
 use native.Mathlib.Nat.{zero-add}
-use lib.ListN.{length, getD, set, take, drop, length-append, length-set, drop-of-length-le}
-use lib.Seq.{sets, sets-eq, drop-cons, length-sets, length-take-le, set-out}
+use lib.ListN.{length, getD, set, drop, length-append, length-set, drop-of-length-le}
+use lib.Seq.{sets, sets-eq, drop-cons, length-sets, set-out}
 use Rattle.text.specs.Room.{Filled, filled, putAt, textLeft}
 
 alike : {m n : ℕ} {l k : List ℕ} → m ≡ n → l ≡ k → filled m l ≡ filled n k
@@ -98,14 +98,10 @@ unfolding textLeft
 put-whole text room e h = ap (λ (x : Filled). x .room) (e ∙ put-front text room h)
 
 -- and so it may be taken from there
-module _ (text room : List ℕ) {room₁ : List ℕ} {n : ℕ} (e : filled n room₁ ≡ textLeft text room) where
-  pub left-within : n ≤ length room₁
-  unfolding textLeft
-  left-within =
-      let a : n ≡ length text = ap (λ (x : Filled). x .next) e in
-      let b : length room₁ ≡ length text + length (drop (length text) room) =
-      ap (λ (x : Filled). length (x .room)) e ∙ length-append text _ in
-      omega arith
-
-  pub left-taken : n ≡ length (take n room₁)
-  left-taken = sym (length-take-le n room₁ left-within)
+pub left-within : (text room : List ℕ) {room₁ : List ℕ} {n : ℕ} → filled n room₁ ≡ textLeft text room → n ≤ length room₁
+unfolding textLeft
+left-within text room {room₁ = room₁} {n = n} e =
+    let a : n ≡ length text = ap (λ (x : Filled). x .next) e in
+    let b : length room₁ ≡ length text + length (drop (length text) room) =
+    ap (λ (x : Filled). length (x .room)) e ∙ length-append text _ in
+    omega arith

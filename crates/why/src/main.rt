@@ -6,12 +6,6 @@ use libc::STDOUT_FILENO;
 use why_output::words;
 use why_output::words::Words;
 
-fn put(room: &[u8], said: usize) {
-    if said <= room.len() {
-        io::write_all(STDOUT_FILENO, &room[..said]);
-    }
-}
-
 fn take(w: Words, found: bool, bytes: &mut [u8]) -> Taken {
     let most = words::most_read(w, found);
     if bytes.len() < most {
@@ -20,11 +14,9 @@ fn take(w: Words, found: bool, bytes: &mut [u8]) -> Taken {
     input::all(STDIN_FILENO, &mut bytes[..most])
 }
 
-fn answer(w: Words, found: bool, file: &[u8], bytes: &[u8], n: usize, room: &mut [u8; 16384]) {
-    if n <= bytes.len() {
-        let said = why_output::whole(w, found, file, &bytes[..n], room);
-        put(room, said);
-    }
+fn answer(w: Words, found: bool, file: &[u8], bytes: &[u8], room: &mut [u8; 16384]) {
+    let said = why_output::whole(w, found, file, bytes, room);
+    input::put(STDOUT_FILENO, room, said);
 }
 
 // `bytes` has room for one byte more than the input may have, so that a longer one is noticed.
@@ -32,7 +24,7 @@ fn serve(w: Words, found: bool, file: &[u8], bytes: &mut [u8; 3000001], room: &m
     let taken = take(w, found, bytes);
     match taken {
         Taken::Failed => input::cannot_read(),
-        Taken::Bytes(n) => answer(w, found, file, bytes, n, room),
+        Taken::Bytes(n) => answer(w, found, file, input::front(bytes, n), room),
     }
 }
 
@@ -54,18 +46,15 @@ fn open(w: Words, first: &[u8], second: &[u8], third: &[u8]) -> i32 {
     }
 }
 
-// `k`: how many bytes the file has.
-fn judge(w: Words, found: bool, file: &[u8], k: usize) {
-    if k <= file.len() {
-        serve(w, found, &file[..k], &mut [0; 3000001], &mut [0; 16384]);
-    }
+fn judge(w: Words, found: bool, file: &[u8]) {
+    serve(w, found, file, &mut [0; 3000001], &mut [0; 16384]);
 }
 
 fn start(w: Words, fd: i32, file: &mut [u8; 33]) {
     let had = read_file(fd, file);
     match had {
         Taken::Failed => input::cannot_read(),
-        Taken::Bytes(k) => judge(w, 0 <= fd, file, k),
+        Taken::Bytes(k) => judge(w, 0 <= fd, input::front(file, k)),
     }
 }
 

@@ -29,6 +29,9 @@ returns c = search needs
 enum-known-taken : tie.Need-enum-known-taken Inv-loop μ-loop
 enum-known-taken c = search needs
 
+front-requires : tie.Need-front-requires Inv-loop μ-loop
+front-requires c κs = search needs
+
 feed-requires : tie.Need-feed-requires Inv-loop μ-loop
 feed-requires c κs = search needs
 
@@ -40,7 +43,7 @@ returns-3 c = search needs
 
 add-at : tie.Need-add-at Inv-loop μ-loop
 add-at c =
-    let b = c .before .before .before .before .before .before .before .before in
+    let b = c .before .before .before .before .before .before .before .before .before in
     let w = taken-within _ _ (b .before .before .some .ensures) _ (b .taken .given .1) in
     omega (arith, w)
 
@@ -65,6 +68,7 @@ serve-spec =
     cannot-read-requires
     returns
     enum-known-taken
+    front-requires
     feed-requires
     returns-2
     returns-3
