@@ -45,7 +45,7 @@ isWaiting [] = false
 isWaiting (asked k packet ∷ before) = true
 isWaiting (answered k packet reply ∷ before) = false
 
--- 93: a datagram of the card that isn't whole. 94: a reply before any request, or a second one.
+-- 93: a datagram of the card that isn't whole. 94: a second reply to a request; before the first request no card is known, and so no reply.
 unfoldable pub datagramRefusals : Bool → ℕ → Bool → Datagram → List Rule
 datagramRefusals known card waiting d =
     record { number = 93; holds = (requests known card d || replies known card d) && not (d .whole) }

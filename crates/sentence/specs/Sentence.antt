@@ -63,7 +63,7 @@ sentences =
     ∷ entry 91 (ascii "no capture that is read here: fewer than 24 bytes, another magic or another link type")
     ∷ entry 92 (ascii "a frame cut: fewer bytes than its header has, or than it says were captured")
     ∷ entry 93 (ascii "a datagram of the card not whole: more fragments, another UDP length, or bytes not captured")
-    ∷ entry 94 (ascii "a reply before any request, or a second one")
+    ∷ entry 94 (ascii "a second reply to a request")
     ∷ []
 
 -- of any other number

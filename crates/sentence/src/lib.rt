@@ -108,7 +108,7 @@ pub fn put_sentence(out: &mut [u8], at: usize, number: u32) -> usize
         91 no capture that is read here: fewer than 24 bytes, another magic or another link type\0\
         92 a frame cut: fewer bytes than its header has, or than it says were captured\0\
         93 a datagram of the card not whole: more fragments, another UDP length, or bytes not captured\0\
-        94 a reply before any request, or a second one\0";
+        94 a second reply to a request\0";
     say(out, at, table, number)
 }
 

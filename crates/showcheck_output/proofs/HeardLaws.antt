@@ -92,11 +92,11 @@ sentence-length n =
     cond-length 120 (eqb n 92) (ascii "fewer bytes than the frame's header has, or than it says were captured\n")
     (cond (eqb n 93)
     (ascii "a datagram of the card is not whole: more fragments follow, its lengths differ, or bytes were not captured\n")
-    (ascii "a reply before any request, or a second one\n"))
+    (ascii "a second reply to a request\n"))
     (omega arith)
     (cond-length 120 (eqb n 93)
     (ascii "a datagram of the card is not whole: more fragments follow, its lengths differ, or bytes were not captured\n")
-    (ascii "a reply before any request, or a second one\n") (omega arith) (omega arith))
+    (ascii "a second reply to a request\n") (omega arith) (omega arith))
 
 pub refusal-length : (n k : ℕ) → n < 2 ^ 64 → k < 2 ^ 64
     → length (numbered (ascii "refused ") n ++ numbered (ascii " at frame ") k ++ ascii ": " ++ frameSentence n) ≤ 24576

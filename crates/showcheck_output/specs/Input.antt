@@ -34,7 +34,7 @@ frameSentence n =
     cond (eqb n 92) (ascii "fewer bytes than the frame's header has, or than it says were captured\n")
     (cond (eqb n 93)
     (ascii "a datagram of the card is not whole: more fragments follow, its lengths differ, or bytes were not captured\n")
-    (ascii "a reply before any request, or a second one\n"))
+    (ascii "a second reply to a request\n"))
 
 -- Of a capture that is refused. 26 and 27 are of the rooms that the program has.
 unfoldable pub unreadText : ℕ → ℕ → List ℕ

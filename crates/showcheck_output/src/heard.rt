@@ -62,7 +62,7 @@ fn put_sentence(room: &mut [u8], at: usize, number: u32) -> usize
     let t = pick(
         number == 93,
         b"a datagram of the card is not whole: more fragments follow, its lengths differ, or bytes were not captured\n",
-        b"a reply before any request, or a second one\n",
+        b"a second reply to a request\n",
     );
     let t = pick(
         number == 92,

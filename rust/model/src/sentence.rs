@@ -77,7 +77,7 @@ pub fn sentence(number: u32) -> &'static str {
         93 => {
             "a datagram of the card not whole: more fragments, another UDP length, or bytes not captured"
         }
-        94 => "a reply before any request, or a second one",
+        94 => "a second reply to a request",
         _ => "no refusal has this number",
     }
 }
