@@ -1,5 +1,5 @@
 //! Writes calls of the library with all that is lent before and after, as the independent implementation has it, for
-//! `firmware/play.c` to make on another processor.
+//! `rust/compare/processors/play.c` to make on another processor.
 //!
 //! A file is a sequence of calls, numbers low byte first:
 //!
@@ -27,7 +27,7 @@ use std::fmt::Write;
 /// What each byte of a room holds at the start.
 pub const EMPTY: u8 = 0xC3;
 
-/// The most bytes that a file may have: so many does `firmware/link.ld` leave for it on a board.
+/// The most bytes that a file may have: so many does `processors/link.ld` leave for it on a board.
 pub const MOST_BYTES: usize = 8 << 20;
 
 /// What each answer holds before a call.

@@ -1,4 +1,4 @@
-//! Writes a file of calls for firmware/play.c, and prints what it must print.
+//! Writes a file of calls for processors/play.c, and prints what it must print.
 
 use std::process::ExitCode;
 
