@@ -104,15 +104,10 @@ fn defines_name(text: &[u8], place: usize, name: &[u8]) -> bool
     let rest = known::rest_at(text, place);
     let w = word::words_of(rest);
     let shape = line::shape_of(word::part(rest, w.first), w.count);
-    match shape {
-        Shape::Empty => false,
-        Shape::ReadAt => false,
-        Shape::ReadName => false,
-        Shape::WriteAt => false,
-        Shape::WriteName => false,
-        Shape::Names => find::same(word::part(rest, w.second), name),
-        Shape::Unknown => false,
-    }
+    let Shape::Names = shape else {
+        return false;
+    };
+    find::same(word::part(rest, w.second), name)
 }
 
 // Whether a line above defines the name.

@@ -1,7 +1,15 @@
-use mathlib.Core.Path.{_∙_}
+use Prim.Native.Nat.{ℕ}
+use mathlib.Core.Path.{_≡_, refl, _∙_}
+use mathlib.Core.List.{List, [], _∷_}
+use mathlib.Core.Bool.{false}
+use mathlib.Core.Logic.{inl, inr}
+use native.Mathlib.Omega.{arith}
+use types.Run.{OneOf}
+use denote.Enum.Declared.{tagOf}
 use Rattle.cue_text.specs.Inside.{formed}
 use Rattle.cue_text.specs.Fault.{definesName}
 use Rattle.cue_text.specs.declared.line.Shape.{Shape}
+use Rattle.cue_text.proofs.line.Shape.{the-type}
 use Rattle.cue_text.proofs.FaultLaws.{defines-as}
 use borrow.Author.Needs.{needs}
 use Rattle.cue_text.proofs.fault.defines_name.Statement.{statement}
@@ -22,20 +30,31 @@ shape-of-requires c κs = search needs
 enum-told : tie.Need-enum-told
 enum-told c = search needs
 
-enum-told-2 : tie.Need-enum-told-2
-enum-told-2 c = search needs
+-- a line of another form defines no name
+defines-none : (s : Shape) (name b c d : List ℕ) → OneOf (0 ∷ 1 ∷ 2 ∷ 3 ∷ 4 ∷ 6 ∷ []) (tagOf the-type s) → false ≡ definesName name (formed s b c d)
+unfolding definesName formed
+defines-none Shape.Empty name b c d h = refl
+defines-none Shape.ReadAt name b c d h = refl
+defines-none Shape.ReadName name b c d h = refl
+defines-none Shape.WriteAt name b c d h = refl
+defines-none Shape.WriteName name b c d h = refl
+defines-none Shape.Names name b c d h = absurd (another h)
+  where
+    another : OneOf (0 ∷ 1 ∷ 2 ∷ 3 ∷ 4 ∷ 6 ∷ []) 5 → ⊥
+    another (inl e) = omega arith
+    another (inr (inl e)) = omega arith
+    another (inr (inr (inl e))) = omega arith
+    another (inr (inr (inr (inl e)))) = omega arith
+    another (inr (inr (inr (inr (inl e))))) = omega arith
+    another (inr (inr (inr (inr (inr e))))) = omega arith
+defines-none Shape.Unknown name b c d h = refl
 
-enum-told-3 : tie.Need-enum-told-3
-enum-told-3 c = search needs
-
-enum-told-4 : tie.Need-enum-told-4
-enum-told-4 c = search needs
-
-enum-told-5 : tie.Need-enum-told-5
-enum-told-5 c = search needs
-
-enum-told-6 : tie.Need-enum-told-6
-enum-told-6 c = search needs
+returns : tie.Need-returns
+returns c =
+    let s = c .before in
+    let w = s .before .before in
+    defines-none (s .shape-of .result) _ _ _ _ (c .match .keys2)
+    ∙ defines-as _ _ (w .before .rest-at .ensures) _ (w .words-of .ensures) (s .before .part .ensures) (s .shape-of .ensures) _ _ refl
 
 part-requires-2 : tie.Need-part-requires-2
 part-requires-2 c κs = search needs
@@ -43,66 +62,15 @@ part-requires-2 c κs = search needs
 same-requires : tie.Need-same-requires
 same-requires c κs = search needs
 
-enum-told-7 : tie.Need-enum-told-7
-enum-told-7 c = search needs
-
-returns : tie.Need-returns
-unfolding definesName formed
-returns c =
-    let s = c .before .before in
-    let w = s .before .before in
-    defines-as _ _ (w .before .rest-at .ensures) _ (w .words-of .ensures) (s .before .part .ensures) (s .shape-of .ensures) _ Shape.Empty
-    (c .enum-told .given .1)
-
 returns-2 : tie.Need-returns-2
 unfolding definesName formed
 returns-2 c =
-    let s = c .before .before in
-    let w = s .before .before in
-    defines-as _ _ (w .before .rest-at .ensures) _ (w .words-of .ensures) (s .before .part .ensures) (s .shape-of .ensures) _ Shape.ReadAt
-    (c .enum-told2 .given .1)
-
-returns-3 : tie.Need-returns-3
-unfolding definesName formed
-returns-3 c =
-    let s = c .before .before in
-    let w = s .before .before in
-    defines-as _ _ (w .before .rest-at .ensures) _ (w .words-of .ensures) (s .before .part .ensures) (s .shape-of .ensures) _ Shape.ReadName
-    (c .enum-told3 .given .1)
-
-returns-4 : tie.Need-returns-4
-unfolding definesName formed
-returns-4 c =
-    let s = c .before .before in
-    let w = s .before .before in
-    defines-as _ _ (w .before .rest-at .ensures) _ (w .words-of .ensures) (s .before .part .ensures) (s .shape-of .ensures) _ Shape.WriteAt
-    (c .enum-told4 .given .1)
-
-returns-5 : tie.Need-returns-5
-unfolding definesName formed
-returns-5 c =
-    let s = c .before .before in
-    let w = s .before .before in
-    defines-as _ _ (w .before .rest-at .ensures) _ (w .words-of .ensures) (s .before .part .ensures) (s .shape-of .ensures) _ Shape.WriteName
-    (c .enum-told5 .given .1)
-
-returns-6 : tie.Need-returns-6
-unfolding definesName formed
-returns-6 c =
     let t = c .before .before in
     let s = t .before .before in
     let w = s .before .before in
     rw (c .before .part2 .ensures) at (c .same .ensures)
     ∙ defines-as _ _ (w .before .rest-at .ensures) _ (w .words-of .ensures) (s .before .part .ensures) (s .shape-of .ensures) _ Shape.Names
-    (t .enum-told6 .given .1)
-
-returns-7 : tie.Need-returns-7
-unfolding definesName formed
-returns-7 c =
-    let s = c .before .before in
-    let w = s .before .before in
-    defines-as _ _ (w .before .rest-at .ensures) _ (w .words-of .ensures) (s .before .part .ensures) (s .shape-of .ensures) _ Shape.Unknown
-    (c .enum-told7 .given .1)
+    (t .enum-told .given .1)
 
 pub defines-name-spec : {M : Type 1} → statement M
 defines-name-spec =
@@ -113,18 +81,7 @@ defines-name-spec =
     part-requires
     shape-of-requires
     enum-told
-    enum-told-2
-    enum-told-3
-    enum-told-4
-    enum-told-5
-    enum-told-6
+    returns
     part-requires-2
     same-requires
-    enum-told-7
-    returns
-    returns-2
-    returns-3
-    returns-4
-    returns-5
-    returns-6
-    returns-7)
+    returns-2)
