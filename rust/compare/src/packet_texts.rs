@@ -1,4 +1,4 @@
-//! Compares the texts of packets, with pointers carried from one to the next.
+//! Compares the texts of packets, each from pointers of its own, and the pointers that it leaves.
 
 use crate::lent::Lent;
 use crate::rng::Rng;
