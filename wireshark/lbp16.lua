@@ -19,7 +19,7 @@ local SPACES = {
     [7] = { name = "information", bytes = 32, element = 2, code = 1, written = 32 },
 }
 
--- The sentences of crates/why_output/specs/Sentence.antt.
+-- The sentences of crates/sentence/specs/Sentence.antt.
 local SENTENCES = {
     [2] = "the packet is above 1,472 bytes",
     [3] = "command word or its address cut off",
