@@ -1,5 +1,5 @@
 -- Laws of what is wrong with a line.
-use Prim.Native.Nat.{ℕ, zero, suc, _+_, _-_, _%_, _≤_, _<_}
+use Prim.Native.Nat.{ℕ, zero, suc, _+_, _-_, _≤_, _<_}
 use mathlib.Core.Path.{_≡_, refl, sym, ap, _∙_}
 use mathlib.Core.List.{List, []}
 use mathlib.Core.Bool.{Bool, true, false, not, _||_, _&&_, cond}
@@ -8,15 +8,15 @@ use native.Mathlib.Decide.{decLe}
 use lib.Dec.{eqb, ltb}
 use lib.ListN.{length, getD, take, drop, drop-of-length-le}
 use lib.Seq.{take-nil, drop-nil, drop-drop, getD-drop}
-use borrow.Author.Tests.{ltb-true, ltb-false, not-true, not-false, eq-eqb, ne-eqb, lt-ltb, le-ltb}
+use borrow.Author.Tests.{ltb-true, ltb-false, not-true, not-false, eq-eqb, ne-eqb}
 use Rattle.text.specs.Find.{bytesBefore}
 use Rattle.cue_text.specs.Words.{newline, linesOf, wordsOf}
-use Rattle.lbp16.specs.Space.{spaceOf as space, isAbsent, row}
-use Rattle.lbp16.specs.declared.space.Row.{Row}
+use Rattle.packet.specs.Rules.{first}
+use Rattle.list_reason.specs.ListReason.{elementCauses, named}
 use Rattle.cue_text.specs.Numbers.{Value, none, value, spaceOf, addressOf, isName}
 use Rattle.cue_text.specs.Text
 use Rattle.cue_text.specs.Text.{Form, formOf}
-use Rattle.cue_text.specs.Fault.{fault, placeFault, writeFault, usedFault, definedFault, elementCause, elementFault}
+use Rattle.cue_text.specs.Fault.{fault, placeFault, writeFault, usedFault, definedFault, causeNumbered, elementFault}
 use Rattle.cue_text.specs.Fault.{lineNumbered, isNone, numberIn, definesName, defined, formFault, faultOf}
 use Rattle.cue_text.specs.Inside.{lineAt, lineBytes, wordsHere, wordIn, HoldsWords, given, shapeOf, formed, wordNumbered}
 use Rattle.cue_text.specs.declared.word.Words.{Words}
@@ -196,7 +196,11 @@ place-few i s h = pick-few (isNone (spaceOf s)) (few Cause.Space i (omega arith)
 
 element-few : (w : Bool) (i s a : ℕ) → i ≤ 2 → Few (elementFault w i s a)
 unfolding elementFault
-element-few w i s a h = pick-few (isAbsent (space s)) (few Cause.NoSpace i (omega arith)) (few (elementCause w s a) (i + 1) (omega arith))
+element-few w i s a h = few _ _ (go (eqb (first (elementCauses (named w s a))) 1))
+  where
+    go : (b : Bool) → cond b i (i + 1) ≤ 3
+    go true = omega arith
+    go false = omega arith
 
 used-few : (n : List ℕ) → Few (usedFault n)
 unfolding usedFault
@@ -285,30 +289,6 @@ module _ (s a : List ℕ) {r q : Number} (e : r ≡ given (spaceOf s)) (f : q �
       go false true t = refl
       go false false t = let z : _≡_ {A = ℕ} 0 1 = cc in absurd (omega arith)
 
--- the rules that an element breaks, one by one
-module _ (w : Bool) (s a : ℕ) {r : Row} (e : r ≡ row (space s)) where
-  pub misaligned-first : (a % r .element ≡ 0 → ⊥) → Cause.Misaligned ≡ elementCause w s a
-  unfolding elementCause
-  misaligned-first h = rw (← e, ne-eqb _ 0 h) refl
-
-  module _ (even : a % r .element ≡ 0) where
-    pub past-end-next : r .bytes < a + r .element → Cause.PastEnd ≡ elementCause w s a
-    unfolding elementCause
-    past-end-next h = rw (← e, eq-eqb _ 0 even, lt-ltb _ _ h) refl
-
-    module _ (within : a + r .element ≤ r .bytes) where
-      pub read-only-next : (ltb a (r .«read_only») && w) ≡ true → Cause.ReadOnly ≡ elementCause w s a
-      unfolding elementCause
-      read-only-next h = rw (← e, eq-eqb _ 0 even, le-ltb _ _ within, h) refl
-
-      pub unlock-next : (ltb a (r .«read_only») && w) ≡ false → a ≡ 0x1A → Cause.Unlock ≡ elementCause w s a
-      unfolding elementCause
-      unlock-next h u = rw (← e, eq-eqb _ 0 even, le-ltb _ _ within, h, eq-eqb a 0x1A u) refl
-
-      pub count-last : (ltb a (r .«read_only») && w) ≡ false → (a ≡ 0x1A → ⊥) → Cause.PacketCount ≡ elementCause w s a
-      unfolding elementCause
-      count-last h u = rw (← e, eq-eqb _ 0 even, le-ltb _ _ within, h, ne-eqb a 0x1A u) refl
-
 module _ (w : Bool) (i : ℕ) (s a : List ℕ) {r q : Number} (e : r ≡ given (spaceOf s)) (f : q ≡ given (addressOf a)) where
   space-number : r .value ≡ numberIn (spaceOf s)
   space-number = ap (λ (t : Number). t .value) e ∙ number-is (spaceOf s)
@@ -316,12 +296,12 @@ module _ (w : Bool) (i : ℕ) (s a : List ℕ) {r q : Number} (e : r ≡ given (
   address-number : q .value ≡ numberIn (addressOf a)
   address-number = ap (λ (t : Number). t .value) f ∙ number-is (addressOf a)
 
-  pub absent-wrong : {b : Bool} → b ≡ isAbsent (space (r .value)) → b ≡ true
-      → fault Cause.NoSpace i ≡ elementFault w i (numberIn (spaceOf s)) (numberIn (addressOf a))
-  unfolding elementFault
-  absent-wrong g t = rw (← space-number, sym g ∙ t) refl
+  module _ {n : ℕ} (h : n ≡ first (elementCauses (named w (r .value) (q .value)))) where
+    pub absent-wrong : n ≡ 1 → fault Cause.NoSpace i ≡ elementFault w i (numberIn (spaceOf s)) (numberIn (addressOf a))
+    unfolding elementFault causeNumbered
+    absent-wrong t = rw (← space-number, ← address-number, ← h, eq-eqb n 1 t) refl
 
-  pub element-wrong : {b : Bool} → b ≡ isAbsent (space (r .value)) → b ≡ false → {c : Cause} → c ≡ elementCause w (r .value) (q .value)
-      → fault c (i + 1) ≡ elementFault w i (numberIn (spaceOf s)) (numberIn (addressOf a))
-  unfolding elementFault
-  element-wrong g t h = rw (← space-number, ← address-number, sym g ∙ t, h) refl
+    pub element-wrong : (n ≡ 1 → ⊥) → {c : Cause} → c ≡ causeNumbered n
+        → fault c (i + 1) ≡ elementFault w i (numberIn (spaceOf s)) (numberIn (addressOf a))
+    unfolding elementFault
+    element-wrong t g = rw (← space-number, ← address-number, ← h, g, ne-eqb n 1 t) refl

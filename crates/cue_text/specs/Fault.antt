@@ -1,11 +1,12 @@
 -- What is wrong with a bad line, and with which of its words.
-use Prim.Native.Nat.{ℕ, _+_, _-_, _%_}
+use Prim.Native.Nat.{ℕ, _+_, _-_}
 use mathlib.Core.List.{List, [], _∷_}
-use mathlib.Core.Bool.{Bool, true, false, not, _||_, _&&_, cond}
+use mathlib.Core.Bool.{Bool, true, false, _||_, cond}
 use lib.ListN.{getD, take}
-use lib.Dec.{eqb, ltb}
+use lib.Dec.{eqb}
 use Rattle.text.specs.Find.{sameBytes}
-use Rattle.lbp16.specs.Space.{spaceOf as space, isAbsent, row}
+use Rattle.packet.specs.Rules.{first}
+use Rattle.list_reason.specs.ListReason.{elementCauses, named}
 use Rattle.cue_text.specs.Words.{linesOf, wordsOf}
 use Rattle.cue_text.specs.Numbers.{Value, none, value, spaceOf, addressOf, isName}
 use Rattle.cue_text.specs.Text.{Form, empty, reads, writes, names, unknown, at, called, formOf}
@@ -54,17 +55,17 @@ usedFault n = cond (isName n) (fault Cause.NotDefined 1) (fault Cause.NoName 1)
 unfoldable pub definedFault : List (List ℕ) → List ℕ → Fault
 definedFault above n = cond (isName n) (cond (defined n above) (fault Cause.Again 1) (fault Cause.TooMany 1)) (fault Cause.NoName 1)
 
--- 23, by the first rule that the element breaks
-unfoldable pub elementCause : Bool → ℕ → ℕ → Cause
-elementCause write? s a =
-    let r = row (space s) in
-    cond (not (eqb (a % r .element) 0)) Cause.Misaligned
-    (cond (ltb (r .bytes) (a + r .element)) Cause.PastEnd
-    (cond (ltb a (r .«read_only») && write?) Cause.ReadOnly (cond (eqb a 0x1A) Cause.Unlock Cause.PacketCount)))
+-- the causes of 23, by their numbers in a list
+unfoldable pub causeNumbered : ℕ → Cause
+causeNumbered n =
+    cond (eqb n 1) Cause.NoSpace
+    (cond (eqb n 2) Cause.Misaligned
+    (cond (eqb n 3) Cause.PastEnd (cond (eqb n 4) Cause.ReadOnly (cond (eqb n 5) Cause.Unlock Cause.PacketCount))))
 
--- its SPACE is the word i, and its ADDRESS the next
+-- 23, by the first of its causes: the SPACE, which is the word i, or the ADDRESS behind it
 unfoldable pub elementFault : Bool → ℕ → ℕ → ℕ → Fault
-elementFault write? i s a = cond (isAbsent (space s)) (fault Cause.NoSpace i) (fault (elementCause write? s a) (i + 1))
+elementFault write? i s a =
+    let n = first (elementCauses (named write? s a)) in fault (causeNumbered n) (cond (eqb n 1) i (i + 1))
 
 -- 24 is a value's. Of a name that is known the read passes 23, so that only a write can break it: its cell is read only.
 unfoldable pub formFault : ℕ → List (List ℕ) → Form → Fault

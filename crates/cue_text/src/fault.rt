@@ -7,7 +7,6 @@ use crate::walk;
 use crate::word;
 use crate::word::Word;
 use crate::word::Words;
-use lbp16::space;
 use text::find;
 ghost use mathlib.Core.Path.{_≡_};
 ghost use mathlib.Core.List.{List};
@@ -17,7 +16,7 @@ ghost use Rattle.cue_text.specs.Words.{linesOf, wordsOf};
 ghost use Rattle.cue_text.specs.Numbers.{spaceOf, addressOf};
 ghost use Rattle.cue_text.specs.Text.{reads, writes, names, at, called, formOf};
 ghost use Rattle.cue_text.specs.Fault.{fault, numberIn, placeFault, writeFault, definesName, defined, usedFault, definedFault};
-ghost use Rattle.cue_text.specs.Fault.{elementCause, elementFault, formFault, faultOf, faultWord};
+ghost use Rattle.cue_text.specs.Fault.{causeNumbered, elementFault, formFault, faultOf, faultWord};
 ghost use Rattle.cue_text.specs.Inside.{lineAt, wordIn, wordNumbered};
 
 // The rule that the line breaks, or what a word of it is not.
@@ -138,25 +137,18 @@ fn defined_fault(text: &[u8], line: u64, name: &[u8]) -> Fault
     told(Cause::TooMany, 1)
 }
 
-// By the first rule that the element breaks.
-fn element_cause(write: bool, s: u8, a: u16) -> Cause
-    ensures { λ r. ⌜ r ≡ elementCause write s a ⌝ }
+// Of 23.
+fn cause_numbered(n: u32) -> Cause
+    ensures { λ r. ⌜ r ≡ causeNumbered n ⌝ }
 {
-    let row = space::row_of(s);
-    let address = a as u32;
-    if address % row.element != 0 {
-        return Cause::Misaligned;
+    match n {
+        1 => Cause::NoSpace,
+        2 => Cause::Misaligned,
+        3 => Cause::PastEnd,
+        4 => Cause::ReadOnly,
+        5 => Cause::Unlock,
+        _ => Cause::PacketCount,
     }
-    if row.bytes < address + row.element {
-        return Cause::PastEnd;
-    }
-    if (address < row.read_only) & write {
-        return Cause::ReadOnly;
-    }
-    if a == 0x1A {
-        return Cause::Unlock;
-    }
-    Cause::PacketCount
 }
 
 fn element_fault(write: bool, i: usize, space: &[u8], address: &[u8]) -> Fault
@@ -165,10 +157,11 @@ fn element_fault(write: bool, i: usize, space: &[u8], address: &[u8]) -> Fault
 {
     let s = number::space_of(space).value as u8;
     let a = number::address_of(address).value as u16;
-    if space::is_absent(s) {
+    let n = list_reason::element_cause(write, s, a);
+    if n == 1 {
         return told(Cause::NoSpace, i);
     }
-    told(element_cause(write, s, a), i + 1)
+    told(cause_numbered(n), i + 1)
 }
 
 fn read_fault(number: u32, space: &[u8], address: &[u8]) -> Fault

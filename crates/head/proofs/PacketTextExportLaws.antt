@@ -1,6 +1,6 @@
 -- A packet's text as C is given it.
 use Prim.Native.Nat.{ℕ}
-use mathlib.Core.Path.{_≡_, refl, ap, _∙_}
+use mathlib.Core.Path.{_≡_, refl, ap}
 use mathlib.Core.List.{List}
 use mathlib.Core.Bool.{Bool, true, false, not, _||_}
 use native.Mathlib.Omega.{arith}
@@ -9,7 +9,7 @@ use lib.Dec.{eqb}
 use borrow.Author.Tests.{eqb-true}
 use Rattle.lbp16.specs.Pointer.{aboveSize, pointersOf, lentPointers}
 use Rattle.lbp16.specs.declared.pointer.Pointers.{Pointers}
-use Rattle.packet_text.specs.Packet.{PacketLeft, packetLeft, shownPacket}
+use Rattle.packet_text.specs.Packet.{packetLeft, shownPacket}
 use Rattle.head.specs.PacketTextExports.{packetTextLeft, lentLeft, exportPacketText}
 
 module _ (packet pointers room : List ℕ) where

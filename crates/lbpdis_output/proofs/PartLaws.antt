@@ -1,8 +1,7 @@
 -- What is said of a part, and that it fits its room.
 use Prim.Native.Nat.{ℕ, _+_, _^_, _≤_, _<_, min}
-use mathlib.Core.Path.{_≡_, refl, sym, ap, _∙_}
-use mathlib.Core.List.{List, [], _++_}
-use mathlib.Core.Bool.{cond}
+use mathlib.Core.Path.{_≡_, sym, ap, _∙_}
+use mathlib.Core.List.{List, []}
 use native.Mathlib.Omega.{arith}
 use borrow.Author.Tests.{le-ltb}
 use lib.Dec.{eqb}
@@ -11,8 +10,7 @@ use lib.Seq.{take-append-seam}
 use Rattle.lbp16.specs.declared.pointer.Pointers.{Pointers}
 use Rattle.cue.specs.Output.{Front, frontOf, bytesInFrame}
 use Rattle.text.specs.Number.{ascii}
-use Rattle.text.specs.Line.{numbered}
-use Rattle.text.specs.Room.{Filled, filled, putAt, textLeft}
+use Rattle.text.specs.Room.{Filled, filled, putAt}
 use Rattle.text.proofs.LineLaws.{cond-length, numbered-length}
 use Rattle.text.proofs.RoomLaws.{put-front, put-then}
 use Rattle.cue.proofs.FrameLaws.{whole-frame}

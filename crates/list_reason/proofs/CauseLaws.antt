@@ -16,7 +16,7 @@ use Rattle.cue.specs.Records.{recordStep, recordSpace, recordKind, recordBytes,
 use Rattle.cue.specs.Records.{markAt, readMark, writeMark, mostRecords}
 use Rattle.cue.proofs.PackingLaws.{record-bytes-le}
 use Rattle.cue.proofs.ReadingLaws.{write-of}
-use Rattle.list_reason.specs.ListReason.{markCauses, elementCauses, valueCauses, causesOf}
+use Rattle.list_reason.specs.ListReason.{markCauses, elementCauses, named, valueCauses, causesOf}
 
 -- rules 22 and 24
 abbrev pub rule22 : List ℕ → Bool
@@ -112,17 +112,22 @@ element-some x e = go (first (elementCauses x)) (sym (element-causes x) ∙ e)
     go (suc n) e = omega arith
 
 -- and as the code tests them
-pub element-first : (rest : List ℕ)
-    → first (elementCauses (recordStep rest))
-    ≡ (let r = recordAt rest in
-    let s = row (spaceOf (r .space)) in
-    cond (isAbsent (spaceOf (r .space))) 1
-    (cond (not (eqb (r .address % s .element) 0)) 2
-    (cond (ltb (s .bytes) (r .address + s .element)) 3
-    (cond (ltb (r .address) (s .«read_only») && r .write) 4
-    (cond (eqb (r .address) 0x1A && eqb (r .space) 6) 5 (cond (eqb (r .address) 0x0A && eqb (r .space) 6) 6 0))))))
-unfolding first elementCauses recordStep recordSpace recordKind recordAt misaligned pastEnd barred
-element-first rest = rw (row-plain _ _ (pick-plain (eqb (markAt rest) writeMark)), write-of, status-number) refl
+pub element-first : (w : Bool) (n a : ℕ)
+    → first (elementCauses (named w n a))
+    ≡ (let s = row (spaceOf n) in
+    cond (isAbsent (spaceOf n)) 1
+    (cond (not (eqb (a % s .element) 0)) 2
+    (cond (ltb (s .bytes) (a + s .element)) 3
+    (cond (ltb a (s .«read_only») && w) 4
+    (cond (eqb a 0x1A && eqb n 6) 5 (cond (eqb a 0x0A && eqb n 6) 6 0))))))
+unfolding first elementCauses misaligned pastEnd barred
+element-first w n a = rw (row-plain _ _ (pick-plain w), write-of, status-number) refl
+
+-- Of a record they are those of what it names.
+pub record-first : (rest : List ℕ)
+    → first (elementCauses (recordStep rest)) ≡ (let r = recordAt rest in first (elementCauses (named (r .write) (r .space) (r .address))))
+unfolding first elementCauses recordStep recordSpace recordKind recordAt pastEnd barred
+record-first rest = refl
 
 -- Of 24: where the spare byte is good, the value is too wide.
 module _ (index : ℕ) (rest : List ℕ) (e : first (recordRefusals index rest) ≡ 24) where

@@ -2,12 +2,13 @@
 use Prim.Native.Nat.{ℕ, zero, suc, _+_}
 use mathlib.Core.Path.{_≡_}
 use mathlib.Core.List.{List, [], _∷_}
-use mathlib.Core.Bool.{not, _&&_, cond}
+use mathlib.Core.Bool.{Bool, not, _&&_, cond}
 use lib.ListN.{length, take, drop, getD}
 use lib.Dec.{eqb, ltb}
-use Rattle.lbp16.specs.Space.{isAbsent, row}
+use Rattle.lbp16.specs.Space.{spaceOf, isAbsent, row}
 use Rattle.packet.specs.Step.{Step, isWrite, isStatus}
 use Rattle.packet.specs.Rules.{Rule, first, misaligned, pastEnd, barred}
+use Rattle.packet.specs.Command.{pickKind}
 use Rattle.cue.specs.Records.{Listed, refused, records, recordsOf, recordStep, recordKind, recordBytes, markAt, readMark, writeMark, upperHalf}
 use Rattle.list_reason.specs.declared.Reached.{Reached}
 use Rattle.list_reason.specs.declared.ListWhy.{ListWhy}
@@ -30,6 +31,10 @@ elementCauses x =
     ∷ record { number = 5; holds = eqb (x .address) 0x1A && isStatus (x .space) }
     ∷ record { number = 6; holds = eqb (x .address) 0x0A && isStatus (x .space) }
     ∷ []
+
+-- an element by what is named of it, since 23 asks no value
+abbrev pub named : Bool → ℕ → ℕ → Step
+named write? s a = record { kind = pickKind write?; space = spaceOf s; address = a; bytes = [] }
 
 -- Causes of 24: the spare byte is not 0; the value is too wide.
 unfoldable pub valueCauses : List ℕ → List Rule

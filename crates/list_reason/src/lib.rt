@@ -8,7 +8,7 @@ ghost use mathlib.Core.Logic.{_≢_};
 ghost use Prim.Native.Nat.{ℕ, _≤_};
 ghost use Rattle.packet.specs.Rules.{first};
 ghost use Rattle.cue.specs.Records.{recordRefusals, recordStep};
-ghost use Rattle.list_reason.specs.ListReason.{markCauses, elementCauses, valueCauses, causesOf, walked, listWhy, FrontGood};
+ghost use Rattle.list_reason.specs.ListReason.{markCauses, elementCauses, named, valueCauses, causesOf, walked, listWhy, FrontGood};
 
 // How far a list is good: records and bytes before the one that is refused, with its number, or all of them, with 0.
 pub struct Reached {
@@ -39,20 +39,26 @@ fn mark_cause(rest: &[u8]) -> u32
     )
 }
 
-// Of 23.
-fn element_cause(rest: &[u8]) -> u32
+// Of 23, by what a record or a text's line names.
+pub fn element_cause(write: bool, space: u8, a: u16) -> u32
+    ensures { λ r. ⌜ r ≡ first (elementCauses (named write space a)) ⌝ }
+{
+    let row = space::row_of(space);
+    let address = a as u32;
+    let status = space == 6;
+    let c = rule::first_of((address == 0x0A) & status, 6, 0);
+    let c = rule::first_of((address == 0x1A) & status, 5, c);
+    let c = rule::first_of((address < row.read_only) & write, 4, c);
+    let c = rule::first_of(row.bytes < address + row.element, 3, c);
+    let c = rule::first_of(address % row.element != 0, 2, c);
+    rule::first_of(space::is_absent(space), 1, c)
+}
+
+fn record_cause(rest: &[u8]) -> u32
     ensures { λ r. ⌜ r ≡ first (elementCauses (recordStep (now (rest .entry)))) ⌝ }
 {
     let r = records::record_at(rest);
-    let row = space::row_of(r.space);
-    let address = r.address as u32;
-    let status = r.space == 6;
-    let c = rule::first_of((address == 0x0A) & status, 6, 0);
-    let c = rule::first_of((address == 0x1A) & status, 5, c);
-    let c = rule::first_of((address < row.read_only) & r.write, 4, c);
-    let c = rule::first_of(row.bytes < address + row.element, 3, c);
-    let c = rule::first_of(address % row.element != 0, 2, c);
-    rule::first_of(space::is_absent(r.space), 1, c)
+    element_cause(r.write, r.space, r.address)
 }
 
 // Of 24, where it holds: if the spare byte is good, the value is at fault.
@@ -70,7 +76,7 @@ fn cause_of(rest: &[u8], number: u32) -> u32
 {
     match number {
         22 => mark_cause(rest),
-        23 => element_cause(rest),
+        23 => record_cause(rest),
         24 => value_cause(rest),
         _ => 0,
     }

@@ -9,7 +9,7 @@ use native.Mathlib.Numerals.{sub-one}
 use lib.Dec.{eqb}
 use lib.ListN.{length, take, drop, set, length-append}
 use lib.Seq.{sets, take-at, drop-drop}
-use Rattle.lbp16.specs.Space.{Space, registers, eeprom, status, information, absent, spaceOf, isAbsent, row, areaRow}
+use Rattle.lbp16.specs.Space.{registers, eeprom, status, information, absent, spaceOf, isAbsent, row, areaRow}
 use Rattle.lbp16.specs.declared.word.Fields.{Fields}
 use Rattle.packet.specs.Bytes.{number}
 use Rattle.packet.specs.Step.{isInfo, rowBy, carried}
@@ -25,7 +25,6 @@ use Rattle.text.proofs.LineLaws.{cond-length}
 use Rattle.text.proofs.RoomLaws.{put-rest, put-front, put-room, left-within}
 use Rattle.space_text.specs.SpaceText.{spaceText}
 use Rattle.space_text.proofs.SpaceTextLaws.{space-named, word-size}
-use Rattle.packet_text.specs.Wording.{kindText, addressDigits}
 use Rattle.packet_text.specs.Packet.{namedText, usedText, movedText, valuesText, writtenText, lineBy}
 use Rattle.packet_text.specs.Inside.{laidAt, Plain}
 use Rattle.packet_text.proofs.SizeLaws.{kind-few, address-few}

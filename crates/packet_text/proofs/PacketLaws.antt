@@ -1,12 +1,12 @@
 -- Laws of a packet's text: which one it is, and how it is laid into a room.
-use Prim.Native.Nat.{ℕ, zero, suc, _+_, _*_, _≤_, _<_}
+use Prim.Native.Nat.{ℕ, _+_, _≤_, _<_}
 use mathlib.Core.Path.{_≡_, refl, sym, ap, _∙_}
 use mathlib.Core.List.{List, [], _∷_, _++_, append-nil}
 use mathlib.Core.Bool.{Bool, true, false, cond}
 use native.Mathlib.Omega.{arith}
 use native.Mathlib.Nat.{zero-add}
 use borrow.Author.Tests.{lt-ltb, le-ltb, ltb-false, eq-eqb, ne-eqb}
-use lib.Dec.{eqb, ltb}
+use lib.Dec.{ltb}
 use lib.ListN.{length, take, drop, length-append, length-take}
 use lib.Seq.{sets, sets-eq}
 use Rattle.lbp16.specs.declared.pointer.Pointers.{Pointers}
@@ -19,7 +19,7 @@ use Rattle.reason.specs.declared.Reason.{Reason}
 use Rattle.reason.proofs.FrontLaws.{front-judged}
 use Rattle.reason.proofs.ReasonLaws.{told-number, told-place}
 use Rattle.text.specs.Number.{ascii}
-use Rattle.text.specs.Room.{Filled, filled, putAt}
+use Rattle.text.specs.Room.{Filled, filled}
 use Rattle.packet_text.specs.Wording.{refusedText, commandText}
 use Rattle.packet_text.specs.Packet.{linesText, refusalText, refusedPacket, textBy, packetText, packetLeft, shownPacket}
 use Rattle.packet_text.specs.Inside.{laidAt}

@@ -7,7 +7,7 @@ use native.Mathlib.Omega.{arith}
 use native.Mathlib.Decide.{decLe}
 use borrow.Author.Tests.{ltb-false, lt-ltb, le-ltb}
 use lib.Dec.{eqb, ltb}
-use lib.ListN.{length, take, drop, replicate, length-append, length-take, length-drop}
+use lib.ListN.{length, take, replicate, length-append, length-take, length-drop}
 use Rattle.lbp16.specs.Space.{storeBytes}
 use Rattle.lbp16.specs.Pointer.{fresh}
 use Rattle.lbp16.specs.declared.pointer.Pointers.{Pointers}

@@ -1,6 +1,5 @@
 use Prim.Native.Nat.{_-_, _≤_}
 use borrow.Author.Needs.{needs}
-use native.Mathlib.Omega.{arith}
 use Rattle.lbpdis.proofs.show.Statement.{statement}
 use Rattle.lbpdis.proofs.show.Tie as tie
 

@@ -7,8 +7,8 @@ use Rattle.list_reason.proofs.cause_of.Tie as tie
 mark-cause-requires : tie.Need-mark-cause-requires
 mark-cause-requires c κs = search needs
 
-element-cause-requires : tie.Need-element-cause-requires
-element-cause-requires c κs = search needs
+record-cause-requires : tie.Need-record-cause-requires
+record-cause-requires c κs = search needs
 
 value-cause-requires : tie.Need-value-cause-requires
 value-cause-requires c κs = search needs
@@ -17,7 +17,7 @@ returns : tie.Need-returns
 returns c = λ index e. c .mark-cause .ensures ∙ sym (causes-22 _ _ (c .before .match .keys1))
 
 returns-2 : tie.Need-returns-2
-returns-2 c = λ index e. c .element-cause .ensures ∙ sym (causes-23 _ _ (c .before .match .keys2))
+returns-2 c = λ index e. c .record-cause .ensures ∙ sym (causes-23 _ _ (c .before .match .keys2))
 
 returns-3 : tie.Need-returns-3
 returns-3 c =
@@ -34,7 +34,7 @@ cause-of-spec =
     tie.close
     (tie.spec
     mark-cause-requires
-    element-cause-requires
+    record-cause-requires
     value-cause-requires
     returns
     returns-2

@@ -6,14 +6,8 @@ use borrow.Author.Needs.{needs}
 use Rattle.list_reason.proofs.element_cause.Statement.{statement}
 use Rattle.list_reason.proofs.element_cause.Tie as tie
 
-record-at-requires : tie.Need-record-at-requires
-record-at-requires c κs = search needs
-
 row-of-requires : tie.Need-row-of-requires
 row-of-requires c κs = search needs
-
-cast-address : tie.Need-cast-address
-cast-address c = search needs
 
 first-of-requires : tie.Need-first-of-requires
 first-of-requires c κs = search needs
@@ -26,7 +20,7 @@ first-of-requires-3 c κs = search needs
 
 add-first-of : tie.Need-add-first-of
 add-first-of c =
-    let s = c .before .before .before .before .before .before .before .before in
+    let s = c .before .before .before .before .before in
     let h : s .row-of .result .element ≤ 4 = rw (s .row-of .ensures) (element-le _) in omega arith
 
 first-of-requires-4 : tie.Need-first-of-requires-4
@@ -34,7 +28,7 @@ first-of-requires-4 c κs = search needs
 
 rem-first-of : tie.Need-rem-first-of
 rem-first-of c =
-    let s = c .before .before .before .before .before .before .before .before .before .before .before in
+    let s = c .before .before .before .before .before .before .before .before in
     rw (s .row-of .ensures) (element-nonzero _)
 
 first-of-requires-5 : tie.Need-first-of-requires-5
@@ -51,9 +45,9 @@ returns c =
     let p5 = c .before .before in
     let p4 = p5 .before .before in
     let p3 = p4 .before .before .before in
-    let p2 = p3 .before .before .before in
+    let p2 = p3 .before .before in
     let p1 = p2 .before in
-    let s = p1 .before .before .before in
+    let s = p1 .before in
     simp (
       c .first-of6 .ensures,
       c .before .is-absent .ensures,
@@ -63,7 +57,6 @@ returns c =
       p2 .first-of2 .ensures,
       p1 .first-of .ensures,
       s .row-of .ensures,
-      s .before .record-at .ensures,
       element-first,
     )
 
@@ -71,9 +64,7 @@ pub element-cause-spec : {M : Type 1} → statement M
 element-cause-spec =
     tie.close
     (tie.spec
-    record-at-requires
     row-of-requires
-    cast-address
     first-of-requires
     first-of-requires-2
     first-of-requires-3

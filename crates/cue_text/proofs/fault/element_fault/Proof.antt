@@ -25,8 +25,8 @@ cast-a c =
     let h : a .result .value ≤ 65535 = rw (a .ensures) (address-small _) in
     omega arith
 
-is-absent-requires : tie.Need-is-absent-requires
-is-absent-requires c κs = search needs
+element-cause-requires : tie.Need-element-cause-requires
+element-cause-requires c κs = search needs
 
 told-requires : tie.Need-told-requires
 told-requires c κs = search needs
@@ -35,10 +35,10 @@ returns : tie.Need-returns
 returns c =
     let b = c .before .before in
     let a = b .before .before in
-    c .told .ensures ∙ absent-wrong _ _ _ _ (a .before .before .space-of .ensures) (a .address-of .ensures) (b .is-absent .ensures) (c .before .if1 .taken)
+    c .told .ensures ∙ absent-wrong _ _ _ _ (a .before .before .space-of .ensures) (a .address-of .ensures) (b .element-cause .ensures) (c .before .if1 .taken)
 
-element-cause-requires : tie.Need-element-cause-requires
-element-cause-requires c κs = search needs
+cause-numbered-requires : tie.Need-cause-numbered-requires
+cause-numbered-requires c κs = search needs
 
 add-told : tie.Need-add-told
 add-told c = let h = c .before .before .before .before .before .before .before .before .before .pre in omega arith
@@ -52,8 +52,8 @@ returns-2 c =
     let b = i .before in
     let a = b .before .before in
     c .told2 .ensures
-    ∙ element-wrong _ _ _ _ (a .before .before .space-of .ensures) (a .address-of .ensures) (b .is-absent .ensures) (i .if1 .left)
-    (c .before .element-cause .ensures)
+    ∙ element-wrong _ _ _ _ (a .before .before .space-of .ensures) (a .address-of .ensures) (b .element-cause .ensures) (i .if1 .left)
+    (c .before .cause-numbered .ensures)
 
 pub element-fault-spec : {M : Type 1} → statement M
 element-fault-spec =
@@ -63,10 +63,10 @@ element-fault-spec =
     cast-s
     address-of-requires
     cast-a
-    is-absent-requires
+    element-cause-requires
     told-requires
     returns
-    element-cause-requires
+    cause-numbered-requires
     add-told
     told-requires-2
     returns-2)

@@ -1,5 +1,3 @@
-use mathlib.Core.Path.{sym, _∙_, ap}
-use Rattle.cue_text.specs.Text.{Name}
 use Rattle.cue_text.proofs.KnownLaws.{near-bytes, far-bytes}
 use borrow.Author.Needs.{needs}
 use Rattle.cue_text.proofs.known.name_kept.Statement.{statement}

@@ -1,7 +1,5 @@
 use Rattle.text.specs.Number.{ascii}
-use mathlib.Core.Path.{refl}
 use Rattle.text.proofs.RoomLaws.{put-then}
-use Rattle.text.proofs.RoomLaws.{put-none}
 use Rattle.why_output.specs.Packets.{stopText}
 use borrow.Author.Needs.{needs}
 use Rattle.why_output.proofs.packets.put_stop.Statement.{statement}

@@ -1,7 +1,5 @@
 use mathlib.Core.Path.{sym, _∙_}
 use Prim.Native.Nat.{_-_}
-use native.Mathlib.Omega.{arith}
-use lib.ListN.{length}
 use Rattle.why_output.proofs.PointedLaws.{Looking, looking-start, looking-found, looking-next, looking-less, looking-end}
 use borrow.Author.Needs.{needs}
 use Rattle.why_output.proofs.pointed.pointed_before.Statement.{statement}

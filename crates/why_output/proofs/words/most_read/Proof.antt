@@ -1,6 +1,5 @@
 use mathlib.Core.Path.{refl}
 use Rattle.why_output.specs.Words.{mostRead}
-use borrow.Author.Needs.{needs}
 use Rattle.why_output.proofs.words.most_read.Statement.{statement}
 use Rattle.why_output.proofs.words.most_read.Tie as tie
 

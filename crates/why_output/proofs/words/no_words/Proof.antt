@@ -1,6 +1,5 @@
 use mathlib.Core.Path.{refl}
 use Rattle.why_output.specs.Words.{noWords}
-use borrow.Author.Needs.{needs}
 use Rattle.why_output.proofs.words.no_words.Statement.{statement}
 use Rattle.why_output.proofs.words.no_words.Tie as tie
 
