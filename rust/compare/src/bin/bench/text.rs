@@ -1,7 +1,11 @@
-//! A season's list assembled from text, without names and with them, and written as text.
+//! A season's list assembled from text, without names and with them, and written as text; packets written as text.
 
 use super::parts::{season, RECORDS};
-use super::Case;
+use super::{commands, Case};
+use head::packet_text::exports::packet_text;
+use model::area::POINTERS;
+use model::packet_text::put_packet_text;
+use model::store::Space;
 use model::text::{assemble, list_text};
 use std::fmt::Write;
 use std::hint::black_box;
@@ -11,6 +15,7 @@ const FEW: u32 = RECORDS / 10;
 
 pub fn cases() -> Vec<Case> {
     let plain = |records| text_of(&season(records));
+    let writes = |counts: &[usize]| commands(true, Space::Registers.into(), 0, true, counts);
     vec![
         assembled("assemble", "no names", &plain(RECORDS)),
         assembled("assemblefew", "no names", &plain(FEW)),
@@ -23,6 +28,8 @@ pub fn cases() -> Vec<Case> {
         ),
         written("listtext", &season(RECORDS)),
         written("listtextfew", &season(FEW)),
+        packet_written("packettext", "365 writes of 4 bytes", &writes(&[127, 127, 111])),
+        packet_written("packettextsmall", "184 commands of one 4-byte write", &writes(&[1; 184])),
     ]
 }
 
@@ -87,6 +94,26 @@ fn written(name: &str, list: &[u8]) -> Case {
         model: Box::new(move || {
             let answer = list_text(black_box(&other), &mut other_out);
             assert_eq!(answer, Ok(text));
+        }),
+    }
+}
+
+fn packet_written(name: &str, what: &str, packet: &[u8]) -> Case {
+    let (packet, other) = (packet.to_vec(), packet.to_vec());
+    let mut out = vec![0; 64 * packet.len()];
+    let mut other_out = out.clone();
+    let bytes = put_packet_text(&packet, &mut [0; POINTERS], &mut out).expect("room for the text");
+    Case {
+        name: name.to_string(),
+        what: format!("packet written as text: {what}"),
+        bytes,
+        library: Box::new(move || {
+            let answer = packet_text(black_box(&packet), &mut [0; POINTERS], &mut out);
+            assert_eq!(answer, (0, bytes as u64));
+        }),
+        model: Box::new(move || {
+            let answer = put_packet_text(black_box(&other), &mut [0; POINTERS], &mut other_out);
+            assert_eq!(answer, Ok(bytes));
         }),
     }
 }
