@@ -1,8 +1,10 @@
 -- How long the texts are.
 use Prim.Native.Nat.{ℕ, _+_, _^_, _≤_, _<_}
+use mathlib.Core.Path.{_≡_, refl}
 use mathlib.Core.List.{List, []}
 use native.Mathlib.Omega.{arith}
 use lib.ListN.{length, take, length-append}
+use Rattle.lbp16.specs.Space.{storeBytes}
 use Rattle.lbp16.specs.declared.pointer.Pointers.{Pointers}
 use Rattle.cue.specs.Output.{frontOf}
 use Rattle.text.specs.Number.{ascii}
@@ -66,3 +68,7 @@ refused-length frames i packet behind store p a =
     let b = said-fits packet store p in
     let c = unanswered-length behind in
     simp length-append (omega arith)
+
+-- The number that the texts say is the store's.
+pub store-said : storeBytes ≡ 65728
+store-said = refl

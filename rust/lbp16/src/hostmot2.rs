@@ -1,12 +1,11 @@
 //! The few cells by which tools recognise a HostMot2 board, here a 7I92.
 
+use crate::record::start;
+
 /// The packet that asks for the flash chip's id. Flash, space 3, is no part of the library.
 pub const FLASH_ID: [u8; 4] = [0x01, 0x4E, 0x08, 0x00];
 /// A chip of 16 megabits.
 pub const FLASH_ANSWER: [u8; 4] = [0x14, 0, 0, 0];
-
-const EEPROM: usize = 65_536;
-const INFORMATION: usize = 65_696;
 
 const NAME: &[u8; 16] = b"7I92\0\0\0\0\0\0\0\0\0\0\0\0";
 /// Six bytes of a locally administered address, the last one first.
@@ -31,11 +30,12 @@ pub fn fill(store: &mut [u8]) {
     for pin in 0..PORTS * PORT_WIDTH {
         put_numbers(store, IDROM + PINS + 4 * pin as usize, &[GPIO << 24]);
     }
-    put(store, EEPROM + 0x02, &MAC);
-    put(store, EEPROM + 0x10, NAME);
-    put(store, INFORMATION, NAME);
+    let [eeprom, information] = [2, 7].map(|space| start(space) as usize);
+    put(store, eeprom + 0x02, &MAC);
+    put(store, eeprom + 0x10, NAME);
+    put(store, information, NAME);
     // The versions of LBP16 and of the firmware.
-    put(store, INFORMATION + 0x10, &[3, 0, 16, 0]);
+    put(store, information + 0x10, &[3, 0, 16, 0]);
 }
 
 fn idrom() -> [u32; 16] {

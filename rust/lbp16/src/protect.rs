@@ -1,7 +1,7 @@
 //! Cells that nothing may write.
 
 use crate::ending::Stop;
-use crate::record::space;
+use crate::record::{space, start};
 
 /// What can be wrong with a guard whose ranges are in the store.
 const FAULTS: &str = "a range beyond the 64th, or one with a byte of the unlock cell (0x1A of \
@@ -34,16 +34,6 @@ impl Guard {
     }
 }
 
-/// Where a space begins in the store.
-fn start(space: u32) -> u32 {
-    match space {
-        0 => 0,
-        2 => 65_536,
-        6 => 65_664,
-        _ => 65_696,
-    }
-}
-
 /// The two numbers of a guard for SPACE:FIRST-LAST.
 fn range(text: &str) -> Result<[u32; 2], String> {
     let parts = text
@@ -53,7 +43,10 @@ fn range(text: &str) -> Result<[u32; 2], String> {
     let Some((named, first, last)) = parts else {
         return Err(format!("'{text}' is not SPACE:FIRST-LAST in numbers"));
     };
-    let Some((_, bytes, _)) = u8::try_from(named).ok().and_then(space) else {
+    let found = u8::try_from(named)
+        .ok()
+        .and_then(|n| Some((start(n), space(n)?.1)));
+    let Some((start, bytes)) = found else {
         return Err(format!("'{text}': a card has spaces 0, 2, 6 and 7"));
     };
     if first > last {
@@ -62,7 +55,7 @@ fn range(text: &str) -> Result<[u32; 2], String> {
     if last >= bytes {
         return Err(format!("'{text}': space {named} has {bytes} bytes"));
     }
-    Ok([start(named) + first, last - first + 1])
+    Ok([start + first, last - first + 1])
 }
 
 /// A number in decimal, or in hexadecimal behind 0x.

@@ -19,6 +19,14 @@ pub fn space(number: u8) -> Option<(&'static str, u32, u32)> {
     }
 }
 
+/// Where a space begins in the store: behind those with lower numbers.
+pub fn start(number: u8) -> u32 {
+    (0..number)
+        .filter_map(space)
+        .map(|(_, bytes, _)| bytes)
+        .sum()
+}
+
 impl<'a> Record<'a> {
     /// The record at an offset of a list, if it is whole.
     pub fn at(list: &'a [u8], offset: usize) -> Option<Record<'a>> {

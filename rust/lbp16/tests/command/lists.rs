@@ -1,6 +1,7 @@
 //! The parts that take cue lists.
 
 use crate::common::{answers, filled, lbp16, says};
+use model::store::Space;
 
 /// Read register 4, write register 8.
 const LIST: &[u8] = b"RD\0\0\x04\0WR\0\0\x08\0\x01\0\0\0";
@@ -208,4 +209,44 @@ fn two_lists() {
         2,
         "lbp16 either: give two files; see lbp16 either --help\n",
     );
+}
+
+/// The exit status of `guard` with cells FIRST to LAST of a space protected, and its message.
+fn guarded(space: Space, first: u32, last: u32, list: &[u8]) -> (i32, String) {
+    let range = format!("{}:{first}-{last}", space.number());
+    let ended = lbp16(&["guard", "--protect", &range], list);
+    (ended.exit, ended.err)
+}
+
+#[test]
+fn a_space_ends_where_the_card_has_its_end() {
+    for space in Space::ALL {
+        let bytes = space.bytes();
+        assert_eq!(guarded(space, bytes - 1, bytes - 1, b"").0, 0, "{space:?}");
+        let (exit, message) = guarded(space, bytes, bytes, b"");
+        assert_eq!(exit, 2, "{space:?}");
+        let said = format!("space {} has {bytes} bytes", space.number());
+        assert!(message.contains(&said), "{message}");
+    }
+}
+
+#[test]
+fn a_range_protects_its_own_space_alone() {
+    let writable = |space: &Space| space.first_writable().is_some();
+    for space in Space::ALL.into_iter().filter(writable) {
+        let last = space.bytes() - space.element();
+        let mut list = vec![b'W', b'R', space.number(), 0];
+        list.extend((last as u16).to_le_bytes());
+        list.extend([1, 0, 0, 0]);
+        for other in Space::ALL {
+            // The last element of each: in space 6 it is neither the unlock cell nor the packet count.
+            let (first, end) = (other.bytes() - other.element(), other.bytes() - 1);
+            let expected = i32::from(other == space);
+            assert_eq!(
+                guarded(other, first, end, &list).0,
+                expected,
+                "{space:?}, {other:?}"
+            );
+        }
+    }
 }

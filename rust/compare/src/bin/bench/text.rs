@@ -28,8 +28,16 @@ pub fn cases() -> Vec<Case> {
         ),
         written("listtext", &season(RECORDS)),
         written("listtextfew", &season(FEW)),
-        packet_written("packettext", "365 writes of 4 bytes", &writes(&[127, 127, 111])),
-        packet_written("packettextsmall", "184 commands of one 4-byte write", &writes(&[1; 184])),
+        packet_written(
+            "packettext",
+            "365 writes of 4 bytes",
+            &writes(&[127, 127, 111]),
+        ),
+        packet_written(
+            "packettextsmall",
+            "184 commands of one 4-byte write",
+            &writes(&[1; 184]),
+        ),
     ]
 }
 
