@@ -848,8 +848,8 @@ uint32_t head_sentence(uint32_t number,
 /* What it costs, in bytes, by tools/costs; docs/FIRMWARE.md has the rest:
  *
  *                                 x86_64-linux  aarch64-linux  riscv64-linux    armv7-linux      cortex-m4      cortex-m0
- *   code                                61,923         52,088         68,202         78,700         67,202         75,214
- *   constants                            4,632          4,032            440            112            144            144
+ *   code                                61,907         52,076         68,258         78,664         67,176         75,134
+ *   constants                            4,616          4,016            440            112            144            144
  *   data                                     0              0              0              0              0              0
  *   stack of head_assemble               8,792          8,640          8,832          8,764          8,708          8,780
  *   stack of head_capture                  448            400            480            332            316            408
@@ -869,14 +869,14 @@ uint32_t head_sentence(uint32_t number,
  *   stack of head_list_text                304            240            224            176            184            240
  *   stack of head_list_why                 240            112            112             88             88            132
  *   stack of head_pack                     480            368            416            356            340            408
- *   stack of head_packet_text            8,512          8,352          8,608          8,360          8,336          8,888
+ *   stack of head_packet_text            8,496          8,336          8,592          8,344          8,320          8,872
  *   stack of head_panel_reading            136              0              0              8              8             24
  *   stack of head_panel_report             136              0              0             16             16             24
  *   stack of head_panel_start              136              0              0              0              0              0
  *   stack of head_part                   1,064          1,120          1,248          1,268          1,192          1,296
  *   stack of head_run                      480            432            416            480            456            528
  *   stack of head_salvage                  320            176            192            152            144            204
- *   stack of head_sentence               3,120          2,992          3,088          3,000          2,984          3,480
+ *   stack of head_sentence               3,104          2,976          3,072          2,984          2,968          3,464
  *   stack of head_spi                      256            144            144            144            144            152
  *   stack of head_table                    288            160            208            164            184            216
  *   stack of head_tight_check              720            464            592            560            544            612
@@ -887,8 +887,8 @@ uint32_t head_sentence(uint32_t number,
  *
  * A stack is the deepest that the call can need, without that of the functions of libc and libgcc that are named below. No
  * function is reached from itself, none asks for memory, and none keeps anything between calls, so that calls which are lent
- * different memory may run at the same time. On a Cortex-M4 a packet takes at most 240,165 instructions, a burst 1,366, a
- * record of a list 443 in head_compile.
+ * different memory may run at the same time. On a Cortex-M4 a packet takes at most 240,165 instructions in head_run, a burst
+ * 1,366 in head_spi, a record of a list 443 in head_compile.
  * x86_64-linux needs memcpy (libc), memset (libc). Registers beyond the integer ones: assemble, capture, check, compile,
  *   field, guarded_check, guarded_list, guarded_run, guarded_spi, independent, judge, pack, packet_text, panel_reading,
  *   part, run, sentence, spi, table, tight_check, tighten, unpack, why.
