@@ -5,7 +5,7 @@ use crate::input::name_of;
 use crate::json::Object;
 use crate::output;
 use crate::words::Words;
-use std::ffi::OsString;
+use std::ffi::{OsStr, OsString};
 use std::io::{self, IsTerminal};
 
 /// The options that every part with an answer has.
@@ -30,6 +30,18 @@ pub struct Answer {
 pub enum Made {
     Bytes(Vec<u8>),
     Text(Vec<u8>),
+}
+
+/// Runs a part that makes something of one file and has no other options.
+pub fn of_one_file(mut words: Words, made: fn(&OsStr) -> Result<Answer, Stop>) -> Done {
+    let mut common = Common::default();
+    while let Some(option) = words.option()? {
+        if !common.take(&option, &mut words)? {
+            return words.unknown();
+        }
+    }
+    let file = words.one_file()?;
+    common.end(made(&file))
 }
 
 impl Common {

@@ -1,6 +1,6 @@
 //! A text to a cue list.
 
-use crate::answer::{Answer, Common, Made};
+use crate::answer::{of_one_file, Answer, Made};
 use crate::ending::{Done, Stop};
 use crate::json::Object;
 use crate::words::Words;
@@ -19,15 +19,8 @@ SPACE is registers, eeprom, status, information or a number. Numbers are decimal
 A # starts a comment. A line that is refused is named as FILE:LINE.
 ";
 
-pub fn run(mut words: Words) -> Done {
-    let mut common = Common::default();
-    while let Some(option) = words.option()? {
-        if !common.take(&option, &mut words)? {
-            return words.unknown();
-        }
-    }
-    let file = words.one_file()?;
-    common.end(made(&file))
+pub fn run(words: Words) -> Done {
+    of_one_file(words, made)
 }
 
 fn made(file: &OsStr) -> Result<Answer, Stop> {

@@ -1,6 +1,6 @@
 //! A cue list to text.
 
-use crate::answer::{with_room, Answer, Common, Made};
+use crate::answer::{of_one_file, with_room, Answer, Made};
 use crate::ending::{Done, Stop};
 use crate::json::Object;
 use crate::list::{self, Form};
@@ -12,15 +12,8 @@ pub const HELP: &str = "usage: lbp16 dis [-o TEXT] [--json] [LIST]
 Writes a cue list as text, a line for each record. lbp16 asm makes the same list of it again.
 ";
 
-pub fn run(mut words: Words) -> Done {
-    let mut common = Common::default();
-    while let Some(option) = words.option()? {
-        if !common.take(&option, &mut words)? {
-            return words.unknown();
-        }
-    }
-    let file = words.one_file()?;
-    common.end(made(&file))
+pub fn run(words: Words) -> Done {
+    of_one_file(words, made)
 }
 
 fn made(file: &OsStr) -> Result<Answer, Stop> {
