@@ -1,7 +1,10 @@
-use mathlib.Core.Path.{refl, _∙_}
+use Prim.Native.Nat.{_-_}
+use mathlib.Core.Path.{_≡_, refl, _∙_}
 use mathlib.Core.List.{[]}
+use lib.ListN.{take}
 use borrow.Author.Tests.{eq-eqb}
-use Rattle.cue_text.specs.Inside.{formed}
+use Rattle.cue_text.specs.Words.{linesOf}
+use Rattle.cue_text.specs.Inside.{formed, wordIn}
 use Rattle.cue_text.specs.Fault.{formFault, faultOf}
 use Rattle.cue_text.specs.declared.line.Shape.{Shape}
 use Rattle.cue_text.proofs.FaultLaws.{fault-as}
@@ -91,93 +94,60 @@ enum-told-7 c = search needs
 told-requires-3 : tie.Need-told-requires-3
 told-requires-3 c κs = search needs
 
-returns-2 : tie.Need-returns-2
-unfolding formFault formed
-returns-2 c =
-    let t = c .before in
-    let s = t .before .before in
+-- what is wrong with the form that the line has is wrong with the line
+wrong : (s : tie.After-shape-of) (shape : Shape) → s .shape-of .result ≡ shape
+    → (let w = s .before .before in
+    let a = w .before .before .before .before .before .args in
+    let rest = w .before .rest-at .result .now in
+    let ws = w .words-of .result in
+    formFault (a .number) (take (a .line - 1) (linesOf (a .text .now)))
+    (formed shape (wordIn rest (ws .second)) (wordIn rest (ws .third)) (wordIn rest (ws .fourth)))
+    ≡ faultOf (a .number) (a .line) (a .text .now))
+wrong s shape e =
     let w = s .before .before in
     let l = w .before .before in
-    c .told2 .ensures
-    ∙ fault-as _ (l .line-place .result) (w .before .rest-at .ensures) _ (w .words-of .ensures) (s .before .part .ensures) (s .shape-of .ensures) _
-    (l .line-place .ensures .1) _ (l .before .if1 .left) Shape.Empty
-    (t .enum-told .given .1)
+    fault-as _ (l .line-place .result) (w .before .rest-at .ensures) _ (w .words-of .ensures) (s .before .part .ensures) (s .shape-of .ensures) _
+    (l .line-place .ensures .1) _ (l .before .if1 .left) shape e
+
+returns-2 : tie.Need-returns-2
+unfolding formFault formed
+returns-2 c = let t = c .before in c .told2 .ensures ∙ wrong (t .before .before) Shape.Empty (t .enum-told .given .1)
 
 returns-3 : tie.Need-returns-3
 unfolding formFault formed
 returns-3 c =
     let t = c .before .before .before in
-    let s = t .before .before in
-    let w = s .before .before in
-    let l = w .before .before in
     c .read-fault .ensures []
-    ∙ rw (c .before .part3 .ensures, c .before .before .part2 .ensures)
-    (fault-as _ (l .line-place .result) (w .before .rest-at .ensures) _ (w .words-of .ensures) (s .before .part .ensures) (s .shape-of .ensures) _
-    (l .line-place .ensures .1) _ (l .before .if1 .left) Shape.ReadAt
-    (t .enum-told2 .given .1))
+    ∙ rw (c .before .part3 .ensures, c .before .before .part2 .ensures) (wrong (t .before .before) Shape.ReadAt (t .enum-told2 .given .1))
 
 returns-4 : tie.Need-returns-4
 unfolding formFault formed
 returns-4 c =
     let t = c .before .before in
-    let s = t .before .before in
-    let w = s .before .before in
-    let l = w .before .before in
     c .used-fault .ensures
-    ∙ rw (c .before .part4 .ensures)
-    (fault-as _ (l .line-place .result) (w .before .rest-at .ensures) _ (w .words-of .ensures) (s .before .part .ensures) (s .shape-of .ensures) _
-    (l .line-place .ensures .1) _ (l .before .if1 .left) Shape.ReadName
-    (t .enum-told3 .given .1))
+    ∙ rw (c .before .part4 .ensures) (wrong (t .before .before) Shape.ReadName (t .enum-told3 .given .1))
 
 returns-5 : tie.Need-returns-5
 unfolding formFault formed
 returns-5 c =
     let t = c .before .before .before in
-    let s = t .before .before in
-    let w = s .before .before in
-    let l = w .before .before in
     c .write-fault .ensures [] []
-    ∙ rw (c .before .part6 .ensures, c .before .before .part5 .ensures)
-    (fault-as _ (l .line-place .result) (w .before .rest-at .ensures) _ (w .words-of .ensures) (s .before .part .ensures) (s .shape-of .ensures) _
-    (l .line-place .ensures .1) _ (l .before .if1 .left) Shape.WriteAt
-    (t .enum-told4 .given .1))
+    ∙ rw (c .before .part6 .ensures, c .before .before .part5 .ensures) (wrong (t .before .before) Shape.WriteAt (t .enum-told4 .given .1))
 
 returns-6 : tie.Need-returns-6
 unfolding formFault formed
 returns-6 c =
     let t = c .before .before in
-    let s = t .before .before in
-    let w = s .before .before in
-    let l = w .before .before in
     c .named-fault .ensures [] []
-    ∙ rw (c .before .part7 .ensures)
-    (fault-as _ (l .line-place .result) (w .before .rest-at .ensures) _ (w .words-of .ensures) (s .before .part .ensures) (s .shape-of .ensures) _
-    (l .line-place .ensures .1) _ (l .before .if1 .left) Shape.WriteName
-    (t .enum-told5 .given .1))
+    ∙ rw (c .before .part7 .ensures) (wrong (t .before .before) Shape.WriteName (t .enum-told5 .given .1))
 
 returns-7 : tie.Need-returns-7
 unfolding formFault formed
-returns-7 c =
-    let t = c .before in
-    let s = t .before .before in
-    let w = s .before .before in
-    let l = w .before .before in
-    c .name-fault .ensures
-    ∙ fault-as _ (l .line-place .result) (w .before .rest-at .ensures) _ (w .words-of .ensures) (s .before .part .ensures) (s .shape-of .ensures) _
-    (l .line-place .ensures .1) _ (l .before .if1 .left) Shape.Names
-    (t .enum-told6 .given .1)
+returns-7 c = let t = c .before in c .name-fault .ensures ∙ wrong (t .before .before) Shape.Names (t .enum-told6 .given .1)
 
 returns-8 : tie.Need-returns-8
 unfolding formFault formed
-returns-8 c =
-    let t = c .before in
-    let s = t .before .before in
-    let w = s .before .before in
-    let l = w .before .before in
-    c .told3 .ensures
-    ∙ fault-as _ (l .line-place .result) (w .before .rest-at .ensures) _ (w .words-of .ensures) (s .before .part .ensures) (s .shape-of .ensures) _
-    (l .line-place .ensures .1) _ (l .before .if1 .left) Shape.Unknown
-    (t .enum-told7 .given .1)
+returns-8 c = let t = c .before in c .told3 .ensures ∙ wrong (t .before .before) Shape.Unknown (t .enum-told7 .given .1)
 
 pub fault-of-spec : {M : Type 1} → statement M
 fault-of-spec =

@@ -1,22 +1,11 @@
-use mathlib.Core.Path.{refl}
-use mathlib.Core.Path.{sym, _∙_}
-use Rattle.cue_text.specs.Text.{formMeaning}
-use Rattle.cue_text.specs.Inside.{meaningOf, formed}
+use mathlib.Core.Path.{_≡_, refl, sym, _∙_}
+use Rattle.cue_text.specs.Text.{Meaning, formMeaning, lineMeaning}
+use Rattle.cue_text.specs.Inside.{meaningOf, formed, namesAt, wordIn, lineAt}
+use Rattle.cue_text.specs.declared.line.Shape.{Shape}
 use Rattle.cue_text.proofs.SaidLaws.{line-here, said-line}
 use borrow.Author.Needs.{needs}
 use Rattle.cue_text.proofs.line.said_at.Statement.{statement}
 use Rattle.cue_text.proofs.line.said_at.Tie as tie
-use Rattle.cue_text.proofs.line.said_at.Reads as reads
-use Rattle.cue_text.proofs.line.said_at.Lts as lts
-use Rattle.cue_text.proofs.known.rest_at.Reads as rest-at-reads
-use Rattle.cue_text.proofs.line.name_at.Reads as name-at-reads
-use Rattle.cue_text.proofs.line.read_at.Reads as read-at-reads
-use Rattle.cue_text.proofs.line.read_name.Reads as read-name-reads
-use Rattle.cue_text.proofs.line.shape_of.Reads as shape-of-reads
-use Rattle.cue_text.proofs.line.write_at.Reads as write-at-reads
-use Rattle.cue_text.proofs.line.write_name.Reads as write-name-reads
-use Rattle.cue_text.proofs.word.part.Reads as part-reads
-use Rattle.cue_text.proofs.word.words_of.Reads as words-of-reads
 
 rest-at-requires : tie.Need-rest-at-requires
 rest-at-requires c κs = search needs
@@ -68,68 +57,47 @@ name-at-requires c κs =
 enum-told-7 : tie.Need-enum-told-7
 enum-told-7 c = search needs
 
-returns : tie.Need-returns
-unfolding meaningOf formMeaning formed
-returns c =
-    let e = c in
-    let s = e .before .before in
+-- what is said of the form that the line has is said of the line
+said : (s : tie.After-shape-of) (shape : Shape) → s .shape-of .result ≡ shape → {m : Meaning}
+    → (let w = s .before .before in
+    let a = w .before .before .before .before .args in
+    let rest = w .before .rest-at .result .now in
+    let ws = w .words-of .result in
+    let known = namesAt (a .text .now) (a .table .now) in
+    m ≡ formMeaning known (a .index) (formed shape (wordIn rest (ws .second)) (wordIn rest (ws .third)) (wordIn rest (ws .fourth)))
+    → m ≡ lineMeaning known (a .index) (lineAt (a .text .now) (a .place)))
+said s shape e =
     let w = s .before .before in
     let h = line-here _ _ _ _ (w .before .rest-at .ensures) (w .words-of .ensures) (w .before .before .before .before .pre) in
-    said-line _ _ _ _ h _ _ (sym (e .enum-told .given .1) ∙ rw (s .before .part .ensures) at (s .shape-of .ensures)) refl
+    said-line _ _ _ _ h _ _ (sym e ∙ rw (s .before .part .ensures) at (s .shape-of .ensures))
+
+returns : tie.Need-returns
+unfolding meaningOf formMeaning formed
+returns c = said (c .before .before) Shape.Empty (c .enum-told .given .1) refl
 
 returns-2 : tie.Need-returns-2
 unfolding formed
-returns-2 c =
-    let e = c .before in
-    let s = e .before .before in
-    let w = s .before .before in
-    let h = line-here _ _ _ _ (w .before .rest-at .ensures) (w .words-of .ensures) (w .before .before .before .before .pre) in
-    said-line _ _ _ _ h _ _ (sym (e .enum-told2 .given .1) ∙ rw (s .before .part .ensures) at (s .shape-of .ensures)) (c .read-at .ensures _ _)
+returns-2 c = said (c .before .before .before) Shape.ReadAt (c .before .enum-told2 .given .1) (c .read-at .ensures _ _)
 
 returns-3 : tie.Need-returns-3
 unfolding formed
-returns-3 c =
-    let e = c .before in
-    let s = e .before .before in
-    let w = s .before .before in
-    let h = line-here _ _ _ _ (w .before .rest-at .ensures) (w .words-of .ensures) (w .before .before .before .before .pre) in
-    said-line _ _ _ _ h _ _ (sym (e .enum-told3 .given .1) ∙ rw (s .before .part .ensures) at (s .shape-of .ensures)) (c .read-name .ensures)
+returns-3 c = said (c .before .before .before) Shape.ReadName (c .before .enum-told3 .given .1) (c .read-name .ensures)
 
 returns-4 : tie.Need-returns-4
 unfolding formed
-returns-4 c =
-    let e = c .before in
-    let s = e .before .before in
-    let w = s .before .before in
-    let h = line-here _ _ _ _ (w .before .rest-at .ensures) (w .words-of .ensures) (w .before .before .before .before .pre) in
-    said-line _ _ _ _ h _ _ (sym (e .enum-told4 .given .1) ∙ rw (s .before .part .ensures) at (s .shape-of .ensures)) (c .write-at .ensures _ _)
+returns-4 c = said (c .before .before .before) Shape.WriteAt (c .before .enum-told4 .given .1) (c .write-at .ensures _ _)
 
 returns-5 : tie.Need-returns-5
 unfolding formed
-returns-5 c =
-    let e = c .before in
-    let s = e .before .before in
-    let w = s .before .before in
-    let h = line-here _ _ _ _ (w .before .rest-at .ensures) (w .words-of .ensures) (w .before .before .before .before .pre) in
-    said-line _ _ _ _ h _ _ (sym (e .enum-told5 .given .1) ∙ rw (s .before .part .ensures) at (s .shape-of .ensures)) (c .write-name .ensures)
+returns-5 c = said (c .before .before .before) Shape.WriteName (c .before .enum-told5 .given .1) (c .write-name .ensures)
 
 returns-6 : tie.Need-returns-6
 unfolding formed
-returns-6 c =
-    let e = c .before in
-    let s = e .before .before in
-    let w = s .before .before in
-    let h = line-here _ _ _ _ (w .before .rest-at .ensures) (w .words-of .ensures) (w .before .before .before .before .pre) in
-    said-line _ _ _ _ h _ _ (sym (e .enum-told6 .given .1) ∙ rw (s .before .part .ensures) at (s .shape-of .ensures)) (c .name-at .ensures _)
+returns-6 c = said (c .before .before .before) Shape.Names (c .before .enum-told6 .given .1) (c .name-at .ensures _)
 
 returns-7 : tie.Need-returns-7
 unfolding meaningOf formMeaning formed
-returns-7 c =
-    let e = c in
-    let s = e .before .before in
-    let w = s .before .before in
-    let h = line-here _ _ _ _ (w .before .rest-at .ensures) (w .words-of .ensures) (w .before .before .before .before .pre) in
-    said-line _ _ _ _ h _ _ (sym (e .enum-told7 .given .1) ∙ rw (s .before .part .ensures) at (s .shape-of .ensures)) refl
+returns-7 c = said (c .before .before) Shape.Unknown (c .enum-told7 .given .1) refl
 
 pub said-at-spec : {M : Type 1} → statement M
 said-at-spec =
