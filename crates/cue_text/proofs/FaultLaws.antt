@@ -12,7 +12,7 @@ use borrow.Author.Tests.{ltb-true, ltb-false, not-true, not-false, eq-eqb, ne-eq
 use Rattle.text.specs.Find.{bytesBefore}
 use Rattle.cue_text.specs.Words.{newline, linesOf, wordsOf}
 use Rattle.packet.specs.Rules.{first}
-use Rattle.list_reason.specs.ListReason.{elementCauses, named}
+use Rattle.list_reason.specs.ListReason.{elementCauses, elementNamed}
 use Rattle.cue_text.specs.Numbers.{Value, none, value, spaceOf, addressOf, isName}
 use Rattle.cue_text.specs.Text
 use Rattle.cue_text.specs.Text.{Form, formOf}
@@ -196,7 +196,7 @@ place-few i s h = pick-few (isNone (spaceOf s)) (few Cause.Space i (omega arith)
 
 element-few : (w : Bool) (i s a : ℕ) → i ≤ 2 → Few (elementFault w i s a)
 unfolding elementFault
-element-few w i s a h = few _ _ (go (eqb (first (elementCauses (named w s a))) 1))
+element-few w i s a h = few _ _ (go (eqb (first (elementCauses (elementNamed w s a))) 1))
   where
     go : (b : Bool) → cond b i (i + 1) ≤ 3
     go true = omega arith
@@ -296,7 +296,7 @@ module _ (w : Bool) (i : ℕ) (s a : List ℕ) {r q : Number} (e : r ≡ given (
   address-number : q .value ≡ numberIn (addressOf a)
   address-number = ap (λ (t : Number). t .value) f ∙ number-is (addressOf a)
 
-  module _ {n : ℕ} (h : n ≡ first (elementCauses (named w (r .value) (q .value)))) where
+  module _ {n : ℕ} (h : n ≡ first (elementCauses (elementNamed w (r .value) (q .value)))) where
     pub absent-wrong : n ≡ 1 → fault Cause.NoSpace i ≡ elementFault w i (numberIn (spaceOf s)) (numberIn (addressOf a))
     unfolding elementFault causeNumbered
     absent-wrong t = rw (← space-number, ← address-number, ← h, eq-eqb n 1 t) refl

@@ -6,7 +6,7 @@ use lib.ListN.{getD, take}
 use lib.Dec.{eqb}
 use Rattle.text.specs.Find.{sameBytes}
 use Rattle.packet.specs.Rules.{first}
-use Rattle.list_reason.specs.ListReason.{elementCauses, named}
+use Rattle.list_reason.specs.ListReason.{elementCauses, elementNamed}
 use Rattle.cue_text.specs.Words.{linesOf, wordsOf}
 use Rattle.cue_text.specs.Numbers.{Value, none, value, spaceOf, addressOf, isName}
 use Rattle.cue_text.specs.Text.{Form, empty, reads, writes, names, unknown, at, called, formOf}
@@ -65,7 +65,7 @@ causeNumbered n =
 -- 23, by the first of its causes: the SPACE, which is the word i, or the ADDRESS behind it
 unfoldable pub elementFault : Bool → ℕ → ℕ → ℕ → Fault
 elementFault write? i s a =
-    let n = first (elementCauses (named write? s a)) in fault (causeNumbered n) (cond (eqb n 1) i (i + 1))
+    let n = first (elementCauses (elementNamed write? s a)) in fault (causeNumbered n) (cond (eqb n 1) i (i + 1))
 
 -- 24 is a value's. Of a name that is known the read passes 23, so that only a write can break it: its cell is read only.
 unfoldable pub formFault : ℕ → List (List ℕ) → Form → Fault

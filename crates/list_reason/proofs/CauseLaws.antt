@@ -16,7 +16,7 @@ use Rattle.cue.specs.Records.{recordStep, recordSpace, recordKind, recordBytes,
 use Rattle.cue.specs.Records.{markAt, readMark, writeMark, mostRecords}
 use Rattle.cue.proofs.PackingLaws.{record-bytes-le}
 use Rattle.cue.proofs.ReadingLaws.{write-of}
-use Rattle.list_reason.specs.ListReason.{markCauses, elementCauses, named, valueCauses, causesOf}
+use Rattle.list_reason.specs.ListReason.{markCauses, elementCauses, elementNamed, valueCauses, causesOf}
 
 -- rules 22 and 24
 abbrev pub rule22 : List ℕ → Bool
@@ -113,7 +113,7 @@ element-some x e = go (first (elementCauses x)) (sym (element-causes x) ∙ e)
 
 -- and as the code tests them
 pub element-first : (w : Bool) (n a : ℕ)
-    → first (elementCauses (named w n a))
+    → first (elementCauses (elementNamed w n a))
     ≡ (let s = row (spaceOf n) in
     cond (isAbsent (spaceOf n)) 1
     (cond (not (eqb (a % s .element) 0)) 2
@@ -125,7 +125,7 @@ element-first w n a = rw (row-plain _ _ (pick-plain w), write-of, status-number)
 
 -- Of a record they are those of what it names.
 pub record-first : (rest : List ℕ)
-    → first (elementCauses (recordStep rest)) ≡ (let r = recordAt rest in first (elementCauses (named (r .write) (r .space) (r .address))))
+    → first (elementCauses (recordStep rest)) ≡ (let r = recordAt rest in first (elementCauses (elementNamed (r .write) (r .space) (r .address))))
 unfolding first elementCauses recordStep recordSpace recordKind recordAt pastEnd barred
 record-first rest = refl
 

@@ -33,8 +33,8 @@ elementCauses x =
     ∷ []
 
 -- an element by what is named of it, since 23 asks no value
-abbrev pub named : Bool → ℕ → ℕ → Step
-named write? s a = record { kind = pickKind write?; space = spaceOf s; address = a; bytes = [] }
+abbrev pub elementNamed : Bool → ℕ → ℕ → Step
+elementNamed write? s a = record { kind = pickKind write?; space = spaceOf s; address = a; bytes = [] }
 
 -- Causes of 24: the spare byte is not 0; the value is too wide.
 unfoldable pub valueCauses : List ℕ → List Rule

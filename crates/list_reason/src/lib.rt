@@ -8,7 +8,7 @@ ghost use mathlib.Core.Logic.{_≢_};
 ghost use Prim.Native.Nat.{ℕ, _≤_};
 ghost use Rattle.packet.specs.Rules.{first};
 ghost use Rattle.cue.specs.Records.{recordRefusals, recordStep};
-ghost use Rattle.list_reason.specs.ListReason.{markCauses, elementCauses, named, valueCauses, causesOf, walked, listWhy, FrontGood};
+ghost use Rattle.list_reason.specs.ListReason.{markCauses, elementCauses, elementNamed, valueCauses, causesOf, walked, listWhy, FrontGood};
 
 // How far a list is good: records and bytes before the one that is refused, with its number, or all of them, with 0.
 pub struct Reached {
@@ -41,7 +41,7 @@ fn mark_cause(rest: &[u8]) -> u32
 
 // Of 23, by what a record or a text's line names.
 pub fn element_cause(write: bool, space: u8, a: u16) -> u32
-    ensures { λ r. ⌜ r ≡ first (elementCauses (named write space a)) ⌝ }
+    ensures { λ r. ⌜ r ≡ first (elementCauses (elementNamed write space a)) ⌝ }
 {
     let row = space::row_of(space);
     let address = a as u32;
