@@ -121,12 +121,13 @@ class Board:
             self.frames.settimeout(PATIENCE)
 
     def new_lines(self):
-        """The lines that it wrote since this was last asked."""
-        with open(self.path / "text", encoding="ascii") as text:
+        """The lines that it wrote since this was last asked; one that is still being written comes with the next."""
+        with open(self.path / "text", "rb") as text:
             text.seek(self.read)
             lines = text.read()
-            self.read = text.tell()
-        return lines.splitlines()
+        whole = lines[:lines.rfind(b"\n") + 1]
+        self.read += len(whole)
+        return whole.decode("ascii").splitlines()
 
     def piped_lines(self, count):
         """So many lines from the pipe."""

@@ -6,7 +6,7 @@ use crate::file;
 use packet::rule;
 
 // What a frame holds. `seen`: a datagram whose ports can be seen; all else counts only then. Its data are so many bytes from `at` on.
-#[derive(Drop)]
+#[derive(Clone, Copy)]
 pub(crate) struct Datagram {
     pub(crate) seen: bool,
     pub(crate) whole: bool,

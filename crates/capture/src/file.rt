@@ -3,7 +3,7 @@ ghost use Rattle.std.specs.Prelude.{◌≡◌, ◌+◌, ◌≤◌, ◌<◌};
 ghost use Rattle.capture.specs.File.{byte_at, pair_at, quad_at, low_quad_at, number_in, is_magic, is_link, file_of, frame_bytes};
 
 // Whether a capture is read here, whether its numbers have the high byte first, and its link type.
-#[derive(Drop)]
+#[derive(Clone, Copy)]
 pub(crate) struct File {
     pub(crate) good: bool,
     pub(crate) big: bool,

@@ -1,5 +1,7 @@
 // From a capture of Wireshark or tcpdump to the recording of one card. The first walk over the frames finds what is refused and what
 // room is needed, and only the second writes, so that a refusal leaves both rooms as they are.
+#![tactic(auto)]
+
 use lbp16::Refusal;
 
 mod datagram;
@@ -13,7 +15,7 @@ ghost use Rattle.capture.specs.Capture.{captured, left};
 ghost use Rattle.capture.specs.Written.{SameRecording};
 
 // The recording's bytes and packets, or why nothing was written.
-#[derive(Drop)]
+#[derive(Clone, Copy)]
 pub enum CaptureAnswer {
     Read { bytes: usize, packets: usize },
     Refused(Refusal),

@@ -10,7 +10,7 @@ const PORT: u32 = 27181;
 
 // Whether the card's address is known, the address, whether the last request has no reply yet, and the recording's bytes and packets so
 // far.
-#[derive(Drop)]
+#[derive(Clone, Copy)]
 pub(crate) struct Progress {
     pub(crate) known: bool,
     pub(crate) card: u32,
@@ -20,7 +20,7 @@ pub(crate) struct Progress {
 }
 
 // Whether a datagram is a request, or a reply, and the number of its refusal, 0 if there is none.
-#[derive(Drop)]
+#[derive(Clone, Copy)]
 pub(crate) struct Turn {
     pub(crate) request: bool,
     pub(crate) reply: bool,

@@ -8,7 +8,7 @@ use crate::turn::Progress;
 use crate::{datagram, file, turn, write};
 
 // A refusal's number and frame, or 0 twice and the recording's bytes and packets.
-#[derive(Drop)]
+#[derive(Clone, Copy)]
 pub(crate) struct Walked {
     pub(crate) number: u32,
     pub(crate) frame: usize,

@@ -21,7 +21,7 @@ use packet::{command, info, judge, refusal};
 
 // A command's elements in the store or in the info area: the first one's place, from one to the next, their bytes, and
 // how many.
-#[derive(Drop)]
+#[derive(Clone, Copy)]
 struct Span {
     at: usize,
     step: usize,
@@ -182,7 +182,7 @@ fn count_packet(store: &mut [u8])
 }
 
 // The check's answer, and how many elements were moved.
-#[derive(Drop)]
+#[derive(Clone, Copy)]
 pub struct RanLent {
     pub answer: Verdict,
     pub elements: u64,
@@ -229,7 +229,7 @@ pub fn run_lent(packet: &[u8], store: &mut [u8], lent: &mut [u32], reply: &mut [
 }
 
 // The check's answer, how many elements were moved, and the pointers afterwards.
-#[derive(Drop)]
+#[derive(Clone, Copy)]
 pub struct Ran {
     pub answer: Verdict,
     pub elements: u64,

@@ -1,5 +1,7 @@
 // Compiling a cue list into LBP16 packets. The first pass checks every record and counts what the packets need, and
 // only the second writes, so that a refused list leaves the room as it is.
+#![tactic(auto)]
+
 use lbp16::Refusal;
 
 mod emit;
@@ -15,7 +17,7 @@ ghost use Rattle.lbp16.specs.Answer.{Answer};
 ghost use Rattle.cue.specs.Compile.{compiled, compile_listed, left};
 
 // The output's bytes and how many packets it holds, or why the list was refused.
-#[derive(Drop)]
+#[derive(Clone, Copy)]
 pub enum CompileAnswer {
     Compiled { bytes: usize, packets: usize },
     Refused(Refusal),

@@ -22,7 +22,7 @@ const CLOSED: bool = false;
 // The last command's kind, space, address and count; the packet's bytes, its reply's, and whether the unlock is open in
 // it; `unlock`: the last record put an unlock command before its own. `frame`, `word` and `end` are places in the
 // output: of the packet's mark, of the last command's word, and past the packet. `packets` counts this one too.
-#[derive(Drop)]
+#[derive(Clone, Copy)]
 pub struct Packer {
     pub write: bool,
     pub space: u8,

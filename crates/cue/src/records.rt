@@ -17,7 +17,7 @@ pub const READ_MARK: u16 = 0x4452;
 pub const WRITE_MARK: u16 = 0x5257;
 
 // What a record names, a write's value apart.
-#[derive(Drop)]
+#[derive(Clone, Copy)]
 pub struct Record {
     pub write: bool,
     pub space: u8,

@@ -13,7 +13,7 @@ use crate::{known, line, number, walk, word};
 use text::find;
 
 // The rule that the line breaks, or what a word of it is not.
-#[derive(Drop)]
+#[derive(Clone, Copy)]
 pub enum Cause {
     Form,
     Space,
@@ -34,7 +34,7 @@ pub enum Cause {
 }
 
 // The word is counted from 0 in its line.
-#[derive(Drop)]
+#[derive(Clone, Copy)]
 pub struct Fault {
     pub cause: Cause,
     pub word: usize,

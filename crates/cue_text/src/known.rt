@@ -9,7 +9,7 @@ use crate::{number, word};
 use text::{find, least};
 
 // Where a line reads or writes, or nowhere, and then 0.
-#[derive(Drop)]
+#[derive(Clone, Copy)]
 pub(crate) struct Located {
     pub(crate) found: bool,
     pub(crate) space: u8,

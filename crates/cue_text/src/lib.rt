@@ -1,4 +1,6 @@
 // Cue lists as text. A first pass checks and counts, and only the second writes, so that a refusal leaves the room as it is.
+#![tactic(auto)]
+
 use lbp16::Refusal;
 
 pub mod fault;
@@ -14,7 +16,7 @@ ghost use Rattle.cue_text.specs.Assembled.{text_assembled, text_listed, left};
 ghost use Rattle.cue_text.specs.TextShow.{TextShow};
 
 // The bytes written, and how many records or lines they are, or why nothing was written.
-#[derive(Drop)]
+#[derive(Clone, Copy)]
 pub enum TextAnswer {
     Written { bytes: usize, count: usize },
     Refused(Refusal),

@@ -15,7 +15,7 @@ use cue::records;
 use text::find;
 
 // A record as a line says it. A read has the value 0.
-#[derive(Drop)]
+#[derive(Clone, Copy)]
 pub struct Cue {
     pub write: bool,
     pub space: u8,
@@ -24,7 +24,7 @@ pub struct Cue {
 }
 
 // The forms of a line.
-#[derive(Drop)]
+#[derive(Clone, Copy)]
 pub(crate) enum Shape {
     Empty,
     ReadAt,
@@ -36,7 +36,7 @@ pub(crate) enum Shape {
 }
 
 // A name is defined by the number that it is kept as.
-#[derive(Drop)]
+#[derive(Clone, Copy)]
 pub(crate) enum Said {
     Refused(u32),
     Nothing,

@@ -6,7 +6,7 @@ ghost use Rattle.cue_text.specs.Inside.{most_held, held_at, given, kept_to};
 use text::find;
 
 // A number, or none, and then 0.
-#[derive(Drop)]
+#[derive(Clone, Copy)]
 pub(crate) struct Number {
     pub(crate) good: bool,
     pub(crate) value: u64,

@@ -13,7 +13,7 @@ use lbp16::Refusal;
 use text::find;
 
 // Lines, names, the list's bytes and records so far.
-#[derive(Drop)]
+#[derive(Clone, Copy)]
 pub(crate) struct Tally {
     pub(crate) lines: usize,
     pub(crate) names: usize,

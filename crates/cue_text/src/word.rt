@@ -6,14 +6,14 @@ ghost use Rattle.cue_text.specs.Inside.{ends_word, blanks, word_bytes, word_from
 use text::least;
 
 // From its first byte to behind its last; both are one place where there is no word.
-#[derive(Drop)]
+#[derive(Clone, Copy)]
 pub(crate) struct Word {
     pub(crate) from: usize,
     pub(crate) to: usize,
 }
 
 // A line's first four words, and how many it has; five are five or more.
-#[derive(Drop)]
+#[derive(Clone, Copy)]
 pub(crate) struct Words {
     pub(crate) first: Word,
     pub(crate) second: Word,

@@ -1,21 +1,43 @@
 // A cue list from text: a text on standard input, its list or a line on standard output.
-use input::Taken;
-use libc::STDOUT_FILENO;
+#![tactic(auto)]
 
-fn say(words: usize, text: &[u8], room: &mut [u8; 1000000]) {
+use input::Taken;
+use std::io;
+use std::io::{Read, Write};
+
+fn say<W: Write>(
+    to: &mut W,
+    words: usize,
+    text: &[u8],
+    room: &mut [u8; 1000000],
+) -> io::Result<()> {
     let said = cueasm_output::report(words, text, room);
-    input::put(STDOUT_FILENO, room, said);
+    input::put(to, room, said)
 }
 
 // `text` has room for one byte more than a text may have, so that a longer one is noticed.
-fn serve(words: usize, text: &mut [u8; 3400001], room: &mut [u8; 1000000]) {
-    let taken = input::asked(words, text);
+fn serve<R: Read, W: Write>(
+    rt: &impl Eprint,
+    words: usize,
+    from: &mut R,
+    to: &mut W,
+    text: &mut [u8; 3400001],
+    room: &mut [u8; 1000000],
+) -> io::Result<()> {
+    let taken = input::asked(words, from, text);
     match taken {
-        Taken::Bytes(n) => say(words, input::front(text, n), room),
-        Taken::Failed => input::cannot_read(),
+        Taken::Bytes(n) => say(to, words, input::front(text, n), room),
+        Taken::Failed => input::cannot_read(rt),
     }
 }
 
-fn main() {
-    serve(os::arg_count(), &mut [0; 3400001], &mut [0; 1000000]);
+fn main(rt: HostRuntime) -> io::Result<()> {
+    serve(
+        &rt,
+        input::words(&rt),
+        &mut rt.stdin(),
+        &mut rt.stdout(),
+        &mut [0; 3400001],
+        &mut [0; 1000000],
+    )
 }

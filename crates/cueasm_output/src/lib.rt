@@ -1,4 +1,6 @@
 // What the program `cueasm` writes: a text's list, or a line that says why there is none.
+#![tactic(auto)]
+
 mod sentence;
 
 ghost use Rattle.std.specs.Prelude.{◌≡◌};

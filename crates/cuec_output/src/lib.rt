@@ -1,4 +1,6 @@
 // What the compiling program writes: a list's packets, or a line that says why there are none.
+#![tactic(auto)]
+
 ghost use Rattle.std.specs.Prelude.{◌≡◌};
 ghost use Rattle.text.specs.Room.{filled, text_left};
 ghost use Rattle.cuec_output.specs.Report.{said};

@@ -1,21 +1,43 @@
 // A cue list as text: a list on standard input, its text or a line on standard output.
-use input::Taken;
-use libc::STDOUT_FILENO;
+#![tactic(auto)]
 
-fn say(words: usize, list: &[u8], room: &mut [u8; 3400000]) {
+use input::Taken;
+use std::io;
+use std::io::{Read, Write};
+
+fn say<W: Write>(
+    to: &mut W,
+    words: usize,
+    list: &[u8],
+    room: &mut [u8; 3400000],
+) -> io::Result<()> {
     let said = cuedis_output::report(words, list, room);
-    input::put(STDOUT_FILENO, room, said);
+    input::put(to, room, said)
 }
 
 // `list` has room for one byte more than a list may have, so that a longer one is noticed.
-fn serve(words: usize, list: &mut [u8; 1000001], room: &mut [u8; 3400000]) {
-    let taken = input::asked(words, list);
+fn serve<R: Read, W: Write>(
+    rt: &impl Eprint,
+    words: usize,
+    from: &mut R,
+    to: &mut W,
+    list: &mut [u8; 1000001],
+    room: &mut [u8; 3400000],
+) -> io::Result<()> {
+    let taken = input::asked(words, from, list);
     match taken {
-        Taken::Bytes(n) => say(words, input::front(list, n), room),
-        Taken::Failed => input::cannot_read(),
+        Taken::Bytes(n) => say(to, words, input::front(list, n), room),
+        Taken::Failed => input::cannot_read(rt),
     }
 }
 
-fn main() {
-    serve(os::arg_count(), &mut [0; 1000001], &mut [0; 3400000]);
+fn main(rt: HostRuntime) -> io::Result<()> {
+    serve(
+        &rt,
+        input::words(&rt),
+        &mut rt.stdin(),
+        &mut rt.stdout(),
+        &mut [0; 1000001],
+        &mut [0; 3400000],
+    )
 }

@@ -1,4 +1,6 @@
 // What the program `cuedis` writes: a cue list as text, or a line that says why there is none.
+#![tactic(auto)]
+
 ghost use Rattle.std.specs.Prelude.{◌≡◌};
 ghost use Rattle.text.specs.Room.{filled, text_left};
 ghost use Rattle.cuedis_output.specs.Report.{said};

@@ -1,4 +1,6 @@
 // What the salvaging program writes: a playable list, or an account of what was skipped, a line at a time.
+#![tactic(auto)]
+
 use salvage::scan;
 use salvage::scan::Counts;
 use text::find;
@@ -13,7 +15,7 @@ ghost use Rattle.cuefix_output.specs.Inside.{Taken, Saved};
 const MOST: usize = 1000000;
 
 // What the program is asked for.
-#[derive(Drop)]
+#[derive(Clone, Copy)]
 pub enum Request {
     List,
     Log,
@@ -22,7 +24,7 @@ pub enum Request {
 
 // What is to be written: a line; the playable list from the room, and its account to standard error; or the account alone. An account is a line
 // or two for each entry of the log, and one for what was kept.
-#[derive(Drop)]
+#[derive(Clone, Copy)]
 pub enum Told {
     Usage,
     TooLong,

@@ -1,8 +1,11 @@
 // A cue list of any length from standard input, its packets to standard output as they are finished, and in the end the
 // refusal's line if there is one.
+#![tactic(auto)]
+
 use input::Taken;
-use libc::{STDIN_FILENO, STDOUT_FILENO};
 use parts::STATE_BYTES;
+use std::io;
+use std::io::{Read, Write};
 
 // The most bytes of a part: each might finish a packet of 1,476 bytes, and all of these must stand in the room.
 const PART: usize = 16;
@@ -14,42 +17,52 @@ const ROOM: usize = 25093;
 const MOST: usize = 1048576;
 
 // Takes a part that was read, and writes what comes of it. Whether another may follow.
-fn feed(state: &mut [u8], part: &[u8], room: &mut [u8]) -> bool {
+fn feed<W: Write>(to: &mut W, state: &mut [u8], part: &[u8], room: &mut [u8]) -> io::Result<bool> {
     let fed = cuepipe_output::feed(state, part, room);
-    input::put(STDOUT_FILENO, room, fed.bytes);
-    fed.more
+    input::put(to, room, fed.bytes)?;
+    Ok(fed.more)
 }
 
-fn serve(state: &mut [u8; STATE_BYTES], part: &mut [u8; PART], room: &mut [u8; ROOM]) {
+fn serve<R: Read, W: Write>(
+    rt: &impl Eprint,
+    from: &mut R,
+    to: &mut W,
+    state: &mut [u8; STATE_BYTES],
+    part: &mut [u8; PART],
+    room: &mut [u8; ROOM],
+) -> io::Result<()> {
     let mut at: usize = 0;
     while at < MOST {
-        let taken = input::some(STDIN_FILENO, part);
+        let taken = input::some(from, part);
         match taken {
-            Taken::Failed => {
-                input::cannot_read();
-                return;
-            }
+            Taken::Failed => return input::cannot_read(rt),
             Taken::Bytes(n) => {
-                let more = feed(state, input::front(part, n), room);
+                let more = feed(to, state, input::front(part, n), room)?;
                 if n == 0 {
-                    return;
+                    return Ok(());
                 }
                 if !more {
-                    return;
+                    return Ok(());
                 }
                 at += n;
             }
         }
     }
+    Ok(())
 }
 
-fn main() {
-    if os::arg_count() != 1 {
-        io::write_all(
-            STDOUT_FILENO,
-            b"usage: cuepipe < LIST\nThe packets of a cue list of any length, each as it is finished.\n",
+fn main(rt: HostRuntime) -> io::Result<()> {
+    if !input::is_alone(&rt) {
+        return rt.print(
+            "usage: cuepipe < LIST\nThe packets of a cue list of any length, each as it is finished.\n",
         );
-        return;
     }
-    serve(&mut [0; STATE_BYTES], &mut [0; PART], &mut [0; ROOM]);
+    serve(
+        &rt,
+        &mut rt.stdin(),
+        &mut rt.stdout(),
+        &mut [0; STATE_BYTES],
+        &mut [0; PART],
+        &mut [0; ROOM],
+    )
 }

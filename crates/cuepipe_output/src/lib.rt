@@ -1,4 +1,6 @@
 // What the program that takes a list as it comes writes for each part of it.
+#![tactic(auto)]
+
 ghost use Rattle.std.specs.Prelude.{◌≡◌, ◌+◌, ◌*◌, ◌≤◌, length};
 ghost use Rattle.cuepipe_output.specs.Feed.{fed_from, fed_of, fed_left, left_by};
 ghost use Rattle.cuepipe_output.specs.Inside.{call_of, call_left};
@@ -8,14 +10,14 @@ use packet::judge::Verdict;
 use text::line;
 
 // So many bytes are to be written; whether another part may follow.
-#[derive(Drop)]
+#[derive(Clone, Copy)]
 pub struct Fed {
     pub bytes: usize,
     pub more: bool,
 }
 
 // The place behind what a call wrote, the bytes that it took, and whether no call follows it.
-#[derive(Drop)]
+#[derive(Clone, Copy)]
 struct Called {
     next: usize,
     taken: usize,

@@ -1,28 +1,41 @@
 // The planning program: a cue list on standard input, tighter packets for it or a line on standard output.
-use input::Taken;
-use libc::{STDIN_FILENO, STDOUT_FILENO};
+#![tactic(auto)]
 
-fn say(list: &[u8], room: &mut [u8; 32768]) {
+use input::Taken;
+use std::io;
+use std::io::{Read, Write};
+
+fn say<W: Write>(to: &mut W, list: &[u8], room: &mut [u8; 32768]) -> io::Result<()> {
     let said = cuetight_output::report(list, room);
-    input::put(STDOUT_FILENO, room, said);
+    input::put(to, room, said)
 }
 
 // `list` has room for one byte more than a list may have, so that a longer one is noticed.
-fn serve(list: &mut [u8; 16385], room: &mut [u8; 32768]) {
-    let taken = input::all(STDIN_FILENO, list);
+fn serve<R: Read, W: Write>(
+    rt: &impl Eprint,
+    from: &mut R,
+    to: &mut W,
+    list: &mut [u8; 16385],
+    room: &mut [u8; 32768],
+) -> io::Result<()> {
+    let taken = input::all(from, list);
     match taken {
-        Taken::Bytes(n) => say(input::front(list, n), room),
-        Taken::Failed => input::cannot_read(),
+        Taken::Bytes(n) => say(to, input::front(list, n), room),
+        Taken::Failed => input::cannot_read(rt),
     }
 }
 
-fn main() {
-    if os::arg_count() != 1 {
-        io::write_all(
-            STDOUT_FILENO,
-            b"usage: cuetight < LIST\nThe packets of a cue list of at most 16,384 bytes, in fewer bytes than cuec's where it can.\n",
+fn main(rt: HostRuntime) -> io::Result<()> {
+    if !input::is_alone(&rt) {
+        return rt.print(
+            "usage: cuetight < LIST\nThe packets of a cue list of at most 16,384 bytes, in fewer bytes than cuec's where it can.\n",
         );
-        return;
     }
-    serve(&mut [0; 16385], &mut [0; 32768]);
+    serve(
+        &rt,
+        &mut rt.stdin(),
+        &mut rt.stdout(),
+        &mut [0; 16385],
+        &mut [0; 32768],
+    )
 }

@@ -1,4 +1,6 @@
 // What the planning program writes: tighter packets for a list, or a line that says why there are none.
+#![tactic(auto)]
+
 ghost use Rattle.cuetight_output.specs.Report.{Reported};
 
 use cue::CompileAnswer;

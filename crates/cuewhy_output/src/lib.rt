@@ -1,4 +1,6 @@
 // What the program `cuewhy` writes: what is wrong with a list, in words.
+#![tactic(auto)]
+
 mod fault;
 mod shown;
 

@@ -2,12 +2,13 @@
 ghost use Rattle.std.specs.Prelude.{◌≤◌, length};
 
 use crate::slice;
-use libc::STDOUT_FILENO;
 use packet::bytes;
+use std::io;
+use std::io::Write;
 use text::number;
 
-pub(crate) fn say(text: &[u8]) {
-    io::write_all(STDOUT_FILENO, text);
+pub(crate) fn say<W: Write>(to: &mut W, text: &[u8]) -> io::Result<()> {
+    to.write_all(text)
 }
 
 // All bytes, each after a space, or where they are more than `most` the first and the last eight.
@@ -110,13 +111,19 @@ fn filled(room: &mut [u8], form: &[u8], values: [u64; 9], sent: &[u8], got: &[u8
 // A form with values put in, one after the other: # in decimal, % as a byte, @ in four hexadecimal digits. Of [A|B] it is A
 // where the value is not 0, else B; values of the other are passed over. * stands for the bytes sent and ^ for their number,
 // & and $ for those that came of them, whole up to 32 or 128, and ~ for the lengths of the packets in these.
-pub(crate) fn fill_with(form: &[u8], values: [u64; 9], sent: &[u8], got: &[u8]) {
+pub(crate) fn fill_with<W: Write>(
+    to: &mut W,
+    form: &[u8],
+    values: [u64; 9],
+    sent: &[u8],
+    got: &[u8],
+) -> io::Result<()> {
     let mut room = [0u8; 16384];
     let n = filled(&mut room, form, values, sent, got);
-    say(slice::part(&room, 0, n as u64));
+    say(to, slice::part(&room, 0, n as u64))
 }
 
 // The same of values alone.
-pub(crate) fn fill(form: &[u8], values: [u64; 9]) {
-    fill_with(form, values, b"", b"");
+pub(crate) fn fill<W: Write>(to: &mut W, form: &[u8], values: [u64; 9]) -> io::Result<()> {
+    fill_with(to, form, values, b"", b"")
 }

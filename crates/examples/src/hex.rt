@@ -2,7 +2,7 @@
 use text::find;
 
 // The bytes of so many digits; bad where anything else than digits and blanks stood among them.
-#[derive(Drop)]
+#[derive(Clone, Copy)]
 pub(crate) struct Data {
     pub(crate) bytes: [u8; 8192],
     pub(crate) digits: usize,

@@ -1,4 +1,6 @@
 // Runs the examples that standard input has as text: the worked examples of the papers, and shows played end to end.
+#![tactic(auto)]
+
 mod answer;
 mod form;
 mod hex;
@@ -11,23 +13,27 @@ mod wire;
 mod word;
 
 use input::Taken;
-use libc::{STDIN_FILENO, STDOUT_FILENO};
+use std::io;
+use std::io::{Read, Write};
 
-fn serve(script: &mut [u8; 32768]) {
-    let taken = input::all(STDIN_FILENO, script);
+fn serve<R: Read, W: Write>(
+    rt: &impl Eprint,
+    from: &mut R,
+    to: &mut W,
+    script: &mut [u8; 32768],
+) -> io::Result<()> {
+    let taken = input::all(from, script);
     match taken {
-        Taken::Bytes(n) => script::play(input::front(script, n)),
-        Taken::Failed => input::cannot_read(),
+        Taken::Bytes(n) => script::play(to, input::front(script, n)),
+        Taken::Failed => input::cannot_read(rt),
     }
 }
 
-fn main() {
-    if os::arg_count() != 1 {
-        io::write_all(
-            STDOUT_FILENO,
-            b"usage: examples < LINES\nRuns packets, bursts, words and lists; crates/examples/src/script.rt has the kinds of lines.\n",
+fn main(rt: HostRuntime) -> io::Result<()> {
+    if !input::is_alone(&rt) {
+        return rt.print(
+            "usage: examples < LINES\nRuns packets, bursts, words and lists; crates/examples/src/script.rt has the kinds of lines.\n",
         );
-        return;
     }
-    serve(&mut [0; 32768]);
+    serve(&rt, &mut rt.stdin(), &mut rt.stdout(), &mut [0; 32768])
 }

@@ -2,26 +2,30 @@
 use crate::slice::Bytes;
 use crate::wire::Card;
 use crate::{answer, form, list, show, slice, wire};
+use std::io;
+use std::io::Write;
 
 // What the list that came first read, and the card after the other.
-#[derive(Drop)]
+#[derive(Clone, Copy)]
 struct Turn {
     first: Bytes,
     card: Card,
 }
 
 // All packets of one output and then all of the other.
-fn in_turn(one: Bytes, other: Bytes) -> Turn {
-    let between = show::play(one, wire::fresh());
-    let first = between.read;
-    let card = show::play(other, between);
-    Turn { first, card }
+fn in_turn<W: Write>(to: &mut W, one: Bytes, other: Bytes) -> io::Result<Turn> {
+    let mut card = wire::fresh();
+    show::play(to, one, &mut card)?;
+    let first = card.read;
+    show::play(to, other, &mut card)?;
+    Ok(Turn { first, card })
 }
 
-fn compared(forth: Turn, back: Turn) {
+fn compared<W: Write>(to: &mut W, forth: Turn, back: Turn) -> io::Result<()> {
     let a = forth.card;
     let b = back.card;
     form::fill(
+        to,
         b"all bytes of the stores: [equal|different]; packet count # and #; the first list's values: [equal|different]; the second's: [equal|different]\n",
         [
             wire::same_stores(a, b, false),
@@ -34,32 +38,35 @@ fn compared(forth: Turn, back: Turn) {
             0,
             0,
         ],
-    );
+    )
 }
 
-fn orders(one: Bytes, other: Bytes) {
-    form::say(b"in this order:\n");
-    let forth = in_turn(one, other);
-    form::say(b"in the other:\n");
-    compared(forth, in_turn(other, one));
+fn orders<W: Write>(to: &mut W, one: Bytes, other: Bytes) -> io::Result<()> {
+    form::say(to, b"in this order:\n")?;
+    let forth = in_turn(to, one, other)?;
+    form::say(to, b"in the other:\n")?;
+    let back = in_turn(to, other, one)?;
+    compared(to, forth, back)
 }
 
 // Writes the answer. Whether the lists are independent.
-fn answered(first: &[u8], second: &[u8]) -> bool {
+fn answered<W: Write>(to: &mut W, first: &[u8], second: &[u8]) -> io::Result<bool> {
     let values = answer::of_lists(independent::independent(first, second));
     form::fill(
+        to,
         b"[independent|][list #: refused # at #|][not independent: the second list's record # clashes with the first list|]\n",
         values,
-    );
-    answer::is_set(values)
+    )?;
+    Ok(answer::is_set(values))
 }
 
-pub(crate) fn pair(first: &[u8], second: &[u8]) {
-    form::say(b"the first, list");
-    let one = list::compiled(first, 8192);
-    form::say(b"the second, list");
-    let other = list::compiled(second, 8192);
-    if answered(first, second) {
-        orders(one, other);
+pub(crate) fn pair<W: Write>(to: &mut W, first: &[u8], second: &[u8]) -> io::Result<()> {
+    form::say(to, b"the first, list")?;
+    let one = list::compiled(to, first, 8192)?;
+    form::say(to, b"the second, list")?;
+    let other = list::compiled(to, second, 8192)?;
+    if answered(to, first, second)? {
+        return orders(to, one, other);
     }
+    Ok(())
 }

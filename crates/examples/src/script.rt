@@ -24,52 +24,79 @@ use crate::hex::Data;
 use crate::wire::Card;
 use crate::{form, hex, list, pair, show, slice, wire, word};
 use packet::bytes;
+use std::io;
+use std::io::Write;
 use text::find;
 
 // The card, and the list for the next line.
-#[derive(Drop)]
+#[derive(Clone, Copy)]
 struct State {
     card: Card,
     list: Data,
 }
 
 // The examples that leave the card as it is.
-fn apart(kind: u8, list: &[u8], data: &[u8]) {
+fn apart<W: Write>(to: &mut W, kind: u8, list: &[u8], data: &[u8]) -> io::Result<()> {
     match kind {
-        b'w' => word::word(data),
-        b'h' => word::header(wire::word_at(data, 0)),
-        b'j' => list::judged(data),
+        b'w' => word::word(to, data),
+        b'h' => word::header(to, wire::word_at(data, 0)),
+        b'j' => list::judged(to, data),
         b'l' => {
-            list::compiled(list, bytes::pair_at(data, 0) as u64);
+            list::compiled(to, list, bytes::pair_at(data, 0) as u64)?;
+            Ok(())
         }
-        b'd' => list::salvaged(list, data),
-        b'2' => pair::pair(list, data),
-        b't' => list::tightened(list),
-        b's' => show::show(list),
-        _ => {}
+        b'd' => list::salvaged(to, list, data),
+        b'2' => pair::pair(to, list, data),
+        b't' => list::tightened(to, list),
+        b's' => show::show(to, list),
+        _ => Ok(()),
     }
 }
 
-fn on_card(kind: u8, list: &[u8], data: &[u8], card: Card) -> Card {
+fn on_card<W: Write>(
+    to: &mut W,
+    kind: u8,
+    list: &[u8],
+    data: &[u8],
+    card: &mut Card,
+) -> io::Result<()> {
     match kind {
-        b'#' => wire::fresh(),
-        b'p' => wire::packet(data, card),
-        b'm' => wire::moving(list, card),
-        b'b' => wire::burst(data, card),
-        b'n' => wire::named(data, card),
-        _ => card,
+        b'#' => {
+            *card = wire::fresh();
+            Ok(())
+        }
+        b'p' => wire::packet(to, data, card),
+        b'm' => wire::moving(to, list, card),
+        b'b' => wire::burst(to, data, card),
+        b'n' => {
+            wire::named(data, card);
+            Ok(())
+        }
+        _ => Ok(()),
     }
 }
 
-fn with_list(kind: u8, before: Data, data: &[u8], card: Card) -> Card {
+fn with_list<W: Write>(
+    to: &mut W,
+    kind: u8,
+    before: Data,
+    data: &[u8],
+    card: &mut Card,
+) -> io::Result<()> {
     let list = slice::part(&before.bytes, 0, (before.digits / 2) as u64);
-    apart(kind, list, data);
-    on_card(kind, list, data, card)
+    apart(to, kind, list, data)?;
+    on_card(to, kind, list, data, card)
 }
 
-fn example(kind: u8, before: Data, own: Data, card: Card) -> Card {
+fn example<W: Write>(
+    to: &mut W,
+    kind: u8,
+    before: Data,
+    own: Data,
+    card: &mut Card,
+) -> io::Result<()> {
     let data = slice::part(&own.bytes, 0, (own.digits / 2) as u64);
-    with_list(kind, before, data, card)
+    with_list(to, kind, before, data, card)
 }
 
 // How often a line's bytes are put: once where it does not say.
@@ -79,44 +106,47 @@ fn times(count: Data) -> u16 {
 }
 
 // A line that is not read leaves the card, and no list.
-fn unread(state: State) -> State {
-    form::say(b": bad hex\n");
-    let card = state.card;
-    let list = hex::none();
-    State { card, list }
+fn unread<W: Write>(to: &mut W, state: &mut State) -> io::Result<()> {
+    form::say(to, b": bad hex\n")?;
+    state.list = hex::none();
+    Ok(())
 }
 
-fn with_more(name: &[u8], text: &[u8], state: State) -> State {
+fn with_more<W: Write>(to: &mut W, name: &[u8], text: &[u8], state: &mut State) -> io::Result<()> {
     let count = hex::with_text(hex::none(), name, 0);
-    let card = state.card;
-    let list = hex::with_texts(state.list, text, times(count));
-    let next = State { card, list };
-    if hex::is_bad(count) | hex::is_bad(list) {
-        form::say(b"list");
-        return unread(next);
+    state.list = hex::with_texts(state.list, text, times(count));
+    if hex::is_bad(count) | hex::is_bad(state.list) {
+        form::say(to, b"list")?;
+        return unread(to, state);
     }
-    next
+    Ok(())
 }
 
-fn next(kind: u8, name: &[u8], text: &[u8], state: State) -> State {
+fn next<W: Write>(
+    to: &mut W,
+    kind: u8,
+    name: &[u8],
+    text: &[u8],
+    state: &mut State,
+) -> io::Result<()> {
     if kind == b'+' {
-        return with_more(name, text, state);
+        return with_more(to, name, text, state);
     }
-    form::say(name);
+    form::say(to, name)?;
     let own = hex::with_text(hex::none(), text, 0);
     if (kind != b'=') & hex::is_bad(own) {
-        return unread(state);
+        return unread(to, state);
     }
-    let card = example(kind, state.list, own, state.card);
-    let list = hex::none();
-    State { card, list }
+    example(to, kind, state.list, own, &mut state.card)?;
+    state.list = hex::none();
+    Ok(())
 }
 
-fn line(s: &[u8], state: State) -> State {
+fn line<W: Write>(to: &mut W, s: &[u8], state: &mut State) -> io::Result<()> {
     let kind = (bytes::pair_at(s, 0) % 256) as u8;
     let head = find::bytes_before(s, b'=') as u64;
     let name = slice::part(slice::part(s, 0, head), 2, head);
-    next(kind, name, slice::part(s, head, 32768), state)
+    next(to, kind, name, slice::part(s, head, 32768), state)
 }
 
 // The first line, with its end.
@@ -128,15 +158,15 @@ fn line_bytes(rest: &[u8]) -> usize
     if n < rest.len() { n + 1 } else { n }
 }
 
-pub(crate) fn play(script: &[u8]) {
+pub(crate) fn play<W: Write>(to: &mut W, script: &[u8]) -> io::Result<()> {
     let card = wire::fresh();
     let list = hex::none();
     let mut state = State { card, list };
     let mut rest = script;
     while 1 <= rest.len() {
         let k = line_bytes(rest);
-        let next = line(slice::part(rest, 0, k as u64), state);
-        state = next;
+        line(to, slice::part(rest, 0, k as u64), &mut state)?;
         rest = &rest[k..];
     }
+    Ok(())
 }

@@ -8,24 +8,25 @@ use cue::records;
 use lbp16::space;
 use packet::bytes;
 use packet::command::LIMIT;
+use std::io;
+use std::io::Write;
 
 // A packet behind its mark and length.
-fn played(frame: &[u8], before: Card) -> Card {
-    form::say(b"packet");
-    wire::packet(slice::part(frame, 4, LIMIT as u64), before)
+fn played<W: Write>(to: &mut W, frame: &[u8], card: &mut Card) -> io::Result<()> {
+    form::say(to, b"packet")?;
+    wire::packet(to, slice::part(frame, 4, LIMIT as u64), card)
 }
 
 // Runs the packets of an output in order, and keeps what they read.
-pub(crate) fn play(out: Bytes, before: Card) -> Card {
-    let mut left = wire::unread(before);
+pub(crate) fn play<W: Write>(to: &mut W, out: Bytes, card: &mut Card) -> io::Result<()> {
+    card.read = slice::empty();
     let mut rest = slice::part(&out.bytes, 0, out.n);
     while 4 <= rest.len() {
         let k = form::frame_bytes(rest);
-        let next = played(&rest[..k], left);
-        left = next;
+        played(to, &rest[..k], card)?;
         rest = &rest[k..];
     }
-    left
+    Ok(())
 }
 
 // What follows gets the list's bytes from a record on.
@@ -40,7 +41,7 @@ fn record_bytes(rest: &[u8]) -> usize
 }
 
 // Where a record's element stands, and how many bytes of it are read or written.
-#[derive(Drop)]
+#[derive(Clone, Copy)]
 struct Element {
     at: u64,
     read: u64,
@@ -93,31 +94,34 @@ fn alone(list: &[u8]) -> Card {
     left
 }
 
-fn values(read: Bytes) {
+fn values<W: Write>(to: &mut W, read: Bytes) -> io::Result<()> {
     let s = slice::part(&read.bytes, 0, read.n);
-    form::fill_with(b"records one by one, values read:&\n", [0; 9], s, s);
+    form::fill_with(to, b"records one by one, values read:&\n", [0; 9], s, s)
 }
 
-fn compared(packets: Card, records: Card) {
+fn compared<W: Write>(to: &mut W, packets: Card, records: Card) -> io::Result<()> {
     let same = slice::same_bytes(packets.read, records.read);
     let stores = wire::same_stores(packets, records, true);
     form::fill(
+        to,
         b"replies and values read: [equal|different]; stores but for the unlock cell and the packet count: [equal|different]",
         [same, stores, 0, 0, 0, 0, 0, 0, 0],
-    );
+    )?;
     let alone = wire::count(records);
     let packed = wire::count(packets);
     form::fill(
+        to,
         b"; packet count after the records #, after the packets #\n",
         [alone, packed, 0, 0, 0, 0, 0, 0, 0],
-    );
+    )
 }
 
 // A list compiled, and done both ways.
-pub(crate) fn show(list: &[u8]) {
-    let out = list::compiled(list, 8192);
-    let packets = play(out, wire::fresh());
+pub(crate) fn show<W: Write>(to: &mut W, list: &[u8]) -> io::Result<()> {
+    let out = list::compiled(to, list, 8192)?;
+    let mut packets = wire::fresh();
+    play(to, out, &mut packets)?;
     let records = alone(list);
-    values(records.read);
-    compared(packets, records);
+    values(to, records.read)?;
+    compared(to, packets, records)
 }

@@ -1,9 +1,8 @@
 // Bytes cut, joined and compared.
-ghost use Rattle.std.specs.Prelude.{◌≡◌, min, length};
-ghost use Rattle.io.specs.Counts.{IsPrefixLen};
+ghost use Rattle.std.specs.Prelude.{◌≡◌, ◌≤◌, min, length, take};
 
 // Bytes by value: the first n.
-#[derive(Drop)]
+#[derive(Clone, Copy)]
 pub(crate) struct Bytes {
     pub(crate) bytes: [u8; 8192],
     pub(crate) n: u64,
@@ -18,7 +17,7 @@ pub(crate) fn empty() -> Bytes {
 
 // How many of the bytes a number names: all of them where it names more.
 pub(crate) fn within(n: u64, s: &[u8]) -> usize
-    ensures { IsPrefixLen result s.now × (result ≡ min n (length s.now)) }
+    ensures { ((result ≤ length s.now) × (result ≡ length (take result s.now))) × (result ≡ min n (length s.now)) }
 {
     let most = s.len();
     if n < most as u64 { n as usize } else { most }

@@ -7,6 +7,8 @@ use card::check::STORE_BYTES;
 use card::run;
 use packet::bytes;
 use packet::command::LIMIT;
+use std::io;
+use std::io::Write;
 
 // Where the packet count and the card's name stand in the store.
 const COUNT: usize = 65664 + 0x0A;
@@ -14,7 +16,7 @@ const COUNT: usize = 65664 + 0x0A;
 const NAME: usize = 65696;
 
 // A card, and the values that were read from it.
-#[derive(Drop)]
+#[derive(Clone, Copy)]
 pub(crate) struct Card {
     pub(crate) store: [u8; STORE_BYTES],
     pub(crate) pointers: [u32; 8],
@@ -30,31 +32,6 @@ pub(crate) fn fresh() -> Card {
     }
 }
 
-fn with_state(store: [u8; STORE_BYTES], pointers: [u32; 8], read: Bytes) -> Card {
-    Card {
-        store,
-        pointers,
-        read,
-    }
-}
-
-fn with_store(store: [u8; STORE_BYTES], card: Card) -> Card {
-    let pointers = card.pointers;
-    with_state(store, pointers, card.read)
-}
-
-// The same with the values put away.
-pub(crate) fn unread(card: Card) -> Card {
-    let store = card.store;
-    let pointers = card.pointers;
-    let read = slice::empty();
-    Card {
-        store,
-        pointers,
-        read,
-    }
-}
-
 pub(crate) fn count(card: Card) -> u64 {
     bytes::pair_at(&card.store, COUNT) as u64
 }
@@ -63,62 +40,37 @@ pub(crate) fn same_stores(a: Card, b: Card, but: bool) -> u64 {
     slice::same(&a.store, &b.store, but) as u64
 }
 
-// What a packet did.
-#[derive(Drop)]
-struct Done {
-    card: Card,
-    values: [u64; 9],
-    reply: [u8; LIMIT],
-}
-
 // Runs a packet: one that is refused changes nothing.
-fn run_on(sent: &[u8], before: Card) -> Done {
-    let mut reply = [0u8; LIMIT];
-    let mut store = before.store;
-    let mut pointers = before.pointers;
-    let ran = run::run_lent(sent, &mut store, &mut pointers, &mut reply);
-    let values = answer::of_packet(ran);
-    let card = with_state(store, pointers, before.read);
-    Done {
-        card,
-        values,
-        reply,
-    }
-}
-
-fn with_read(card: Card, got: &[u8]) -> Card {
-    let store = card.store;
-    let pointers = card.pointers;
-    let read = slice::with(card.read, got);
-    Card {
-        store,
-        pointers,
-        read,
-    }
+fn run_on(sent: &[u8], card: &mut Card, reply: &mut [u8; LIMIT]) -> [u64; 9] {
+    let ran = run::run_lent(sent, &mut card.store, &mut card.pointers, reply);
+    answer::of_packet(ran)
 }
 
 // Writes the answer in a form, and keeps the reply behind what was read before.
-fn replied(form: &[u8], sent: &[u8], done: Done) -> Card {
-    let reply = done.reply;
-    let values = done.values;
+fn replied<W: Write>(to: &mut W, form: &[u8], sent: &[u8], card: &mut Card) -> io::Result<()> {
+    let mut reply = [0u8; LIMIT];
+    let values = run_on(sent, card, &mut reply);
     let got = slice::part(&reply, 0, answer::first(values));
-    form::fill_with(form, values, sent, got);
-    with_read(done.card, got)
+    form::fill_with(to, form, values, sent, got)?;
+    card.read = slice::with(card.read, got);
+    Ok(())
 }
 
-pub(crate) fn packet(sent: &[u8], before: Card) -> Card {
+pub(crate) fn packet<W: Write>(to: &mut W, sent: &[u8], card: &mut Card) -> io::Result<()> {
     replied(
+        to,
         b"*:[ refused # at #| accepted, # bytes][:|]&\n",
         sent,
-        run_on(sent, before),
+        card,
     )
 }
 
-pub(crate) fn moving(sent: &[u8], before: Card) -> Card {
+pub(crate) fn moving<W: Write>(to: &mut W, sent: &[u8], card: &mut Card) -> io::Result<()> {
     replied(
+        to,
         b" ^:[ refused # at #| accepted, reply of # bytes][|], elements moved #\n",
         sent,
-        run_on(sent, before),
+        card,
     )
 }
 
@@ -145,51 +97,57 @@ fn words_of(s: &[u8]) -> [u32; 8] {
     words
 }
 
-fn word(w: u32) {
-    form::fill(b" @@", [(w / 65536) as u64, w as u64, 0, 0, 0, 0, 0, 0, 0]);
+fn word<W: Write>(to: &mut W, w: u32) -> io::Result<()> {
+    form::fill(
+        to,
+        b" @@",
+        [(w / 65536) as u64, w as u64, 0, 0, 0, 0, 0, 0, 0],
+    )
 }
 
-fn words(all: [u32; 8], n: usize)
+fn words<W: Write>(to: &mut W, all: [u32; 8], n: usize) -> io::Result<()>
     requires { n ≤ 8 }
 {
     let mut i: usize = 0;
     while i < n {
-        word(all[i]);
+        word(to, all[i])?;
         i += 1;
     }
+    Ok(())
 }
 
-fn burst_answered(values: [u64; 9], room: [u32; 8], n: usize)
+fn burst_answered<W: Write>(
+    to: &mut W,
+    values: [u64; 9],
+    room: [u32; 8],
+    n: usize,
+) -> io::Result<()>
     requires { n ≤ 8 }
 {
-    form::fill(b":[ refused # at #| accepted:]", values);
+    form::fill(to, b":[ refused # at #| accepted:]", values)?;
     if !answer::is_set(values) {
-        words(room, n);
+        words(to, room, n)?;
     }
-    form::say(b"\n");
+    form::say(to, b"\n")
 }
 
 // A burst of the first n words.
-fn burst_of(sent: [u32; 8], n: usize, before: Card) -> Card
+fn burst_of<W: Write>(to: &mut W, sent: [u32; 8], n: usize, card: &mut Card) -> io::Result<()>
     requires { n ≤ 8 }
 {
-    let mut store = before.store;
     let mut room = [0u32; 8];
-    let given = spi::burst(&sent[..n], &mut store, &mut room[..n]);
-    burst_answered(answer::of_burst(given), room, n);
-    with_store(store, before)
+    let given = spi::burst(&sent[..n], &mut card.store, &mut room[..n]);
+    burst_answered(to, answer::of_burst(given), room, n)
 }
 
-pub(crate) fn burst(sent: &[u8], before: Card) -> Card {
+pub(crate) fn burst<W: Write>(to: &mut W, sent: &[u8], card: &mut Card) -> io::Result<()> {
     let all = words_of(sent);
     let n = text::least(sent.len() / 4, 8);
-    words(all, n);
-    burst_of(all, n, before)
+    words(to, all, n)?;
+    burst_of(to, all, n, card)
 }
 
 // The card with a name, which no packet can set.
-pub(crate) fn named(name: &[u8], before: Card) -> Card {
-    let mut store = before.store;
-    text::put(&mut store, NAME, name);
-    with_store(store, before)
+pub(crate) fn named(name: &[u8], card: &mut Card) {
+    text::put(&mut card.store, NAME, name);
 }

@@ -4,6 +4,8 @@ use lbp16::word;
 use lbp16::word::Fields;
 use packet::bytes;
 use spi::Header;
+use std::io;
+use std::io::Write;
 
 fn of_fields(f: Fields) -> [u64; 9] {
     [
@@ -19,20 +21,21 @@ fn of_fields(f: Fields) -> [u64; 9] {
     ]
 }
 
-fn word_back(f: Fields) {
+fn word_back<W: Write>(to: &mut W, f: Fields) -> io::Result<()> {
     let written = answer::of_word(word::word_of(f));
-    form::fill(b"[ refused # at #| written back%%]\n", written);
+    form::fill(to, b"[ refused # at #| written back%%]\n", written)
 }
 
-pub(crate) fn word(sent: &[u8]) {
+pub(crate) fn word<W: Write>(to: &mut W, sent: &[u8]) -> io::Result<()> {
     let f = word::fields_of(bytes::pair_at(sent, 0));
     form::fill_with(
+        to,
         b"*: [write|read],[| no] address,[ info,|] space #, # bytes,[| no] increment, count #;",
         of_fields(f),
         sent,
         sent,
-    );
-    word_back(f);
+    )?;
+    word_back(to, f)
 }
 
 fn of_header(w: u32, h: Header) -> [u64; 9] {
@@ -49,16 +52,17 @@ fn of_header(w: u32, h: Header) -> [u64; 9] {
     ]
 }
 
-fn header_back(h: Header) {
+fn header_back<W: Write>(to: &mut W, h: Header) -> io::Result<()> {
     let written = answer::of_header(spi::header_word(h));
-    form::fill(b"[ refused # at #| written back @@]\n", written);
+    form::fill(to, b"[ refused # at #| written back @@]\n", written)
 }
 
-pub(crate) fn header(w: u32) {
+pub(crate) fn header<W: Write>(to: &mut W, w: u32) -> io::Result<()> {
     let h = spi::header_of(w);
     form::fill(
+        to,
         b" @@:[ read|][ write|][ command #|], address @,[| no] increment, count #;",
         of_header(w, h),
-    );
-    header_back(h);
+    )?;
+    header_back(to, h)
 }

@@ -1,4 +1,6 @@
 // What C programs call; include/head.h declares it. A function that can refuse returns the refusal's number, 0 if accepted.
+#![tactic(auto)]
+
 mod capture_exports;
 mod cue_text_exports;
 mod independent_exports;

@@ -8,7 +8,7 @@ use cue::CompileAnswer;
 use packet::judge::Verdict;
 
 // The number returned, and the values that are written beside it.
-#[derive(Drop)]
+#[derive(Clone, Copy)]
 pub(crate) struct Numbers(pub(crate) u32, pub(crate) u64, pub(crate) u64);
 
 pub(crate) fn of_verdict(answer: Verdict) -> Numbers

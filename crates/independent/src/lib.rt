@@ -1,4 +1,6 @@
 // Whether two cue lists may be compiled apart and run in either order.
+#![tactic(auto)]
+
 mod marks;
 
 ghost use Rattle.std.specs.Prelude.{◌≡◌, []};
@@ -12,7 +14,7 @@ use lbp16::Refusal;
 
 // What stands between two lists and either order. `list` is 0 for the first and 1 for the second; `Clash` is the index of the
 // second list's first record that writes a cell which the first names, or names a cell which the first writes.
-#[derive(Drop)]
+#[derive(Clone, Copy)]
 pub enum Independence {
     Independent,
     Refused { list: u64, refusal: Refusal },

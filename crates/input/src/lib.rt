@@ -1,11 +1,18 @@
-// What programs read and write, over the kit's `libc::read`: a read that fails, or that a signal interrupts, is not the end.
-ghost use Rattle.std.specs.Prelude.{◌≤◌, ◌≡◌, length, take};
-ghost use Rattle.input.specs.Reading.{Within, Behind};
+// What programs read and write, over any reader and writer: a read that fails, or that a signal interrupts, is not the end.
+#![tactic(auto)]
 
-use libc::{STDERR_FILENO, STDIN_FILENO};
+ghost use Rattle.std.specs.Prelude.{◌≤◌, ◌≡◌, length, take, OnOk};
+ghost use Rattle.input.specs.Reading.{Within, Behind, TookSome, TookBehind, TookAll};
+ghost use Rattle.std.specs.Io.KnownBytes.{Appends};
+
+use std::env::{Env, FillError};
+use std::fs::File;
+use std::io::{ErrorKind, Read, Write};
+use std::rt::Files;
+use std::{io, str};
 
 // So many bytes came, none at the end; or a read failed.
-#[derive(Drop)]
+#[derive(Clone, Copy)]
 pub enum Taken {
     Bytes(usize),
     Failed,
@@ -15,37 +22,40 @@ pub enum Taken {
 const TRIES: u64 = 1000000;
 
 // What one read gives, at the front of the room: as soon as there is something, and at most as much as the room has.
-pub fn some(fd: i32, room: &mut [u8]) -> Taken
-    ensures { Within result room.new }
+pub fn some<R: Read>(from: &mut R, room: &mut [u8]) -> Taken
+    ensures within { Within result room.new }
+    ensures bytes { TookSome (R.remaining from.old) (R.remaining from.new) result room.new }
 {
-    let mut tries: u64 = 0;
-    while tries < TRIES {
-        let got = libc::read(fd, room);
-        if 0 <= got {
-            return Taken::Bytes(io::count(got, room));
+    for _ in 0..TRIES {
+        match from.read(room) {
+            Ok(n) => return Taken::Bytes(n),
+            Err(e) => {
+                if e.kind() != ErrorKind::Interrupted {
+                    return Taken::Failed;
+                }
+            }
         }
-        if os::errno() != libc::EINTR {
-            return Taken::Failed;
-        }
-        tries += 1;
     }
     Taken::Failed
 }
 
-fn behind(fd: i32, room: &mut [u8], from: usize) -> Taken
+fn behind<R: Read>(reader: &mut R, room: &mut [u8], from: usize) -> Taken
     requires { from ≤ length room.old }
-    ensures { Behind from result room.new }
+    ensures behind { Behind from result room.new }
+    ensures front { take from room.new ≡ take from room.old }
+    ensures bytes { TookBehind (R.remaining reader.old) (R.remaining reader.new) from result room.new }
 {
-    some(fd, &mut room[from..])
+    some(reader, &mut room[from..])
 }
 
 // All that comes, until the end or until the room is full.
-pub fn all(fd: i32, room: &mut [u8]) -> Taken
-    ensures { Within result room.new }
+pub fn all<R: Read>(from: &mut R, room: &mut [u8]) -> Taken
+    ensures within { Within result room.new }
+    ensures bytes { TookAll (R.remaining from.old) (R.remaining from.new) result room.new }
 {
     let mut n: usize = 0;
     while n < room.len() {
-        let taken = behind(fd, room, n);
+        let taken = behind(from, room, n);
         match taken {
             Taken::Failed => return Taken::Failed,
             Taken::Bytes(k) => {
@@ -59,14 +69,15 @@ pub fn all(fd: i32, room: &mut [u8]) -> Taken
     Taken::Bytes(n)
 }
 
-// Standard input, of a program that takes no words: how it is used is said without a look there.
-pub fn asked(words: usize, room: &mut [u8]) -> Taken
-    ensures { Within result room.new }
+// Input of a program that takes no words: how it is used is said without a look there.
+pub fn asked<R: Read>(words: usize, from: &mut R, room: &mut [u8]) -> Taken
+    ensures within { Within result room.new }
+    ensures bytes { words ≡ 1 → TookAll (R.remaining from.old) (R.remaining from.new) result room.new }
 {
     if words != 1 {
         return Taken::Bytes(0);
     }
-    all(STDIN_FILENO, room)
+    all(from, room)
 }
 
 // The first n bytes; all where there are fewer.
@@ -79,10 +90,35 @@ pub fn front(bytes: &[u8], n: usize) -> &[u8]
     bytes
 }
 
-pub fn put(fd: i32, room: &[u8], n: usize) {
-    io::write_all(fd, front(room, n));
+pub fn put<W: Write>(to: &mut W, room: &[u8], n: usize) -> io::Result<()>
+    ensures { OnOk result (Appends (W.contents to.old) (W.contents to.new) (take n room.now)) }
+{
+    to.write_all(front(room, n))
 }
 
-pub fn cannot_read() {
-    io::write_all(STDERR_FILENO, b"cannot read\n");
+pub fn cannot_read(rt: &impl Eprint) -> io::Result<()> {
+    rt.eprintln("cannot read")
+}
+
+// Whether the program was given no word beside its name.
+pub fn is_alone(rt: &impl Env) -> bool {
+    matches!(rt.arg(1, &mut []), Err(FillError::NotPresent))
+}
+
+// How many words the program was started with, its name among them.
+pub fn words(rt: &impl Env) -> usize {
+    for i in 0..usize::MAX {
+        if matches!(rt.arg(i, &mut []), Err(FillError::NotPresent)) {
+            return i;
+        }
+    }
+    usize::MAX
+}
+
+// The file of this name, unless it cannot be opened; a name that is no text names none.
+pub fn opened<F: Files>(rt: &F, name: &[u8]) -> Option<F::File> {
+    match str::from_utf8(name) {
+        Ok(text) => File::open(rt, text).ok(),
+        Err(_) => None,
+    }
 }

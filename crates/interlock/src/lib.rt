@@ -1,4 +1,6 @@
 // Cells that no packet may write: check, run, burst and list with a guard.
+#![tactic(auto)]
+
 mod ranges;
 mod walk;
 

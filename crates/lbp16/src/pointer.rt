@@ -7,7 +7,7 @@ ghost use Rattle.lbp16.specs.Pointer.{spaces_at, pointers_of, lent_pointers, spa
 use crate::space;
 
 // Wider than the sixteen bits of an address, since it may stand past the end of a space.
-#[derive(Drop)]
+#[derive(Clone, Copy)]
 pub struct Pointer {
     pub at: u32,
 }
@@ -44,7 +44,7 @@ impl Pointer {
 }
 
 // One pointer for each space.
-#[derive(Drop)]
+#[derive(Clone, Copy)]
 pub struct SpacePointers {
     pub registers: Pointer,
     pub eeprom: Pointer,
@@ -107,7 +107,7 @@ impl SpacePointers {
 }
 
 // Those of the spaces, and those of their info areas.
-#[derive(Drop)]
+#[derive(Clone, Copy)]
 pub struct Pointers {
     pub plain: SpacePointers,
     pub info: SpacePointers,

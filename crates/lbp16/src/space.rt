@@ -6,7 +6,7 @@ use crate::pointer::Pointer;
 
 // One line of the table. `place` is where the space starts in the store, `element` the bytes of one element and `size`
 // its code in a command word. The first `read_only` bytes are never written; `locked`: the rest only with the unlock open.
-#[derive(Drop)]
+#[derive(Clone, Copy)]
 pub struct Row {
     pub place: u32,
     pub bytes: u32,

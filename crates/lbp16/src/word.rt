@@ -5,7 +5,7 @@ ghost use Rattle.lbp16.specs.Word.{bit, fields_of, out_of_range, written, listed
 use crate::Refusal;
 
 // The size code 0, 1, 2, 3 stands for elements of 1, 2, 4, 8 bytes.
-#[derive(Drop)]
+#[derive(Clone, Copy)]
 pub struct Fields {
     pub write: bool,
     pub address: bool,
@@ -16,7 +16,7 @@ pub struct Fields {
     pub count: u8,
 }
 
-#[derive(Drop)]
+#[derive(Clone, Copy)]
 pub enum Written {
     Word(u16),
     Refused(Refusal),

@@ -1,54 +1,67 @@
 // Packets behind "LB" from standard input, each in words on standard output.
+#![tactic(auto)]
+
 use input::Taken;
 use lbp16::pointer::Pointers;
 use lbpdis_output::ROOM;
-use libc::{STDIN_FILENO, STDOUT_FILENO};
+use std::io;
+use std::io::{Read, Write};
 
 // The most bytes that the input may have.
 const MOST: usize = 3000000;
 
 // Part after part, from a fresh card; the pointers are carried on.
-fn show(bytes: &[u8], room: &mut [u8; ROOM]) {
+fn show<W: Write>(to: &mut W, bytes: &[u8], room: &mut [u8; ROOM]) -> io::Result<()> {
     let mut pointers = Pointers::fresh();
     let mut rest = bytes;
     let mut i: u64 = 0;
     while i < 3000000 {
         let part = lbpdis_output::put_part(room, i, rest, pointers);
-        input::put(STDOUT_FILENO, room, part.bytes);
+        input::put(to, room, part.bytes)?;
         let n = part.passed;
         if n == 0 {
-            return;
+            return Ok(());
         }
         pointers = part.pointers;
         rest = &rest[n..];
         i += 1;
     }
+    Ok(())
 }
 
-fn report(bytes: &[u8], room: &mut [u8; ROOM]) {
+fn report<W: Write>(to: &mut W, bytes: &[u8], room: &mut [u8; ROOM]) -> io::Result<()> {
     if MOST < bytes.len() {
-        io::write_all(STDOUT_FILENO, b"too long\n");
-        return;
+        return to.write_all(b"too long\n");
     }
-    show(bytes, room);
+    show(to, bytes, room)
 }
 
 // One byte more is read than the input may have, so that a longer one is noticed.
-fn serve(bytes: &mut [u8; 3000001], room: &mut [u8; ROOM]) {
-    let taken = input::all(STDIN_FILENO, bytes);
+fn serve<R: Read, W: Write>(
+    rt: &impl Eprint,
+    from: &mut R,
+    to: &mut W,
+    bytes: &mut [u8; 3000001],
+    room: &mut [u8; ROOM],
+) -> io::Result<()> {
+    let taken = input::all(from, bytes);
     match taken {
-        Taken::Failed => input::cannot_read(),
-        Taken::Bytes(n) => report(input::front(bytes, n), room),
+        Taken::Failed => input::cannot_read(rt),
+        Taken::Bytes(n) => report(to, input::front(bytes, n), room),
     }
 }
 
-fn main() {
-    if os::arg_count() != 1 {
-        io::write_all(
-            STDOUT_FILENO,
-            b"usage: lbpdis < OUTPUT\nThe packets of an output, each behind \"LB\" and its length, in words.\n",
+fn main(rt: HostRuntime) -> io::Result<()> {
+    if !input::is_alone(&rt) {
+        return rt.print(
+            "usage: lbpdis < OUTPUT\nThe packets of an output, each behind \"LB\" and its length, in words.\n",
         );
-        return;
     }
-    serve(&mut [0; 3000001], &mut [0; ROOM]);
+    serve(
+        &rt,
+        &mut rt.stdin(),
+        &mut rt.stdout(),
+        &mut [0; 3000001],
+        &mut [0; ROOM],
+    )
 }

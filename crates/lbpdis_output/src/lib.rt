@@ -1,4 +1,6 @@
 // What the program `lbpdis` writes: packets behind "LB", each in words.
+#![tactic(auto)]
+
 ghost use Rattle.std.specs.Prelude.{◌≡◌, ◌+◌, ◌≤◌, length};
 ghost use Rattle.text.specs.Room.{filled, put_at};
 ghost use Rattle.cue.specs.Output.{Front};
@@ -18,7 +20,7 @@ use why_output::packets::in_frame;
 pub const ROOM: usize = 69760;
 
 // So many bytes are to be written; as many of the input are passed, 0 where no more is to be said; and the pointers after the packet.
-#[derive(Drop)]
+#[derive(Clone, Copy)]
 pub struct Part {
     pub bytes: usize,
     pub passed: usize,
@@ -66,7 +68,7 @@ fn put_end(room: &mut [u8], i: u64) -> usize
 }
 
 // The place behind a packet's text, and the pointers that the packet leaves.
-#[derive(Drop)]
+#[derive(Clone, Copy)]
 struct Laid {
     next: usize,
     pointers: Pointers,

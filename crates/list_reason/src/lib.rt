@@ -1,4 +1,6 @@
 // What is wrong with a cue list: the record that the compiler refuses, where it begins, and why.
+#![tactic(auto)]
+
 ghost use Rattle.std.specs.Prelude.{◌≡◌, ◌≢◌, ℕ, ◌≤◌};
 ghost use Rattle.packet.specs.Rules.{first};
 ghost use Rattle.cue.specs.Records.{record_refusals, record_step};
@@ -9,7 +11,7 @@ use lbp16::space;
 use packet::{bytes, rule};
 
 // How far a list is good: records and bytes before the one that is refused, with its number, or all of them, with 0.
-#[derive(Drop)]
+#[derive(Clone, Copy)]
 pub struct Reached {
     pub number: u32,
     pub records: usize,
@@ -17,7 +19,7 @@ pub struct Reached {
 }
 
 // A refusal's number and place, where the record begins, and the first of the number's causes that holds; all 0 of a good list.
-#[derive(Drop)]
+#[derive(Clone, Copy)]
 pub struct ListWhy {
     pub number: u32,
     pub place: u64,

@@ -1,4 +1,6 @@
 // A cue list written as text: a line for each record. A first pass checks and counts, and only the second writes, so that a refusal leaves the room as it is.
+#![tactic(auto)]
+
 ghost use Rattle.std.specs.Prelude.{◌≡◌, List, [], ◌∷◌, ◌++◌, false, ℕ, ◌+◌, ◌*◌, ◌≤◌, length, take};
 ghost use Rattle.text.specs.Room.{filled, put_at};
 ghost use Rattle.lbp16.specs.Answer.{Answer};

@@ -11,7 +11,7 @@ use lbp16::Refusal;
 use lbp16::pointer::Pointers;
 
 // The reply length, or the refusal.
-#[derive(Drop)]
+#[derive(Clone, Copy)]
 pub enum Verdict {
     Accepted(u64),
     Refused(Refusal),

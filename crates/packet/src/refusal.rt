@@ -16,14 +16,14 @@ use lbp16::word::Fields;
 use lbp16::{pointer, space, word};
 
 // A command's number, 0 if no rule refuses it, and then its reach.
-#[derive(Drop)]
+#[derive(Clone, Copy)]
 pub(crate) struct Ruling {
     pub(crate) number: u32,
     pub(crate) reach: Reach,
 }
 
 // What is found at a command, and its reach if it is not refused.
-#[derive(Drop)]
+#[derive(Clone, Copy)]
 pub(crate) struct Judged {
     pub(crate) found: Found,
     pub(crate) reach: Reach,

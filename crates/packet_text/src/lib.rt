@@ -1,4 +1,6 @@
 // Packets in words.
+#![tactic(auto)]
+
 pub mod command;
 mod listing;
 mod whole;
@@ -37,7 +39,7 @@ pub fn put_refused(out: &mut [u8], at: usize, r: Reason) -> usize
 }
 
 // 0, the bytes written and the pointers that the packet leaves; or 26, the bytes needed and the pointers as they were.
-#[derive(Drop)]
+#[derive(Clone, Copy)]
 pub struct Shown {
     pub number: u32,
     pub bytes: usize,

@@ -17,7 +17,7 @@ use space_text::put_space;
 use text::{least, line, number, pick};
 
 // The bytes that lines have, and the pointers that their commands leave.
-#[derive(Drop)]
+#[derive(Clone, Copy)]
 pub(crate) struct Lines {
     pub bytes: usize,
     pub pointers: Pointers,

@@ -5,14 +5,14 @@ ghost use Rattle.panel.specs.Masks.{named, tally_of, start_listed, started, repo
 use lbp16::Refusal;
 
 // The mask asked for, or why it was refused.
-#[derive(Drop)]
+#[derive(Clone, Copy)]
 pub enum StartAnswer {
     Mask(u8),
     Refused(Refusal),
 }
 
 // How many channels were asked, how many of those failed, and the lowest of these, 8 if none.
-#[derive(Drop)]
+#[derive(Clone, Copy)]
 pub struct Tally {
     pub asked: u8,
     pub failed: u8,

@@ -9,13 +9,13 @@ ghost use Rattle.panel.specs.Reading.{Shown, reading_listed};
 use lbp16::Refusal;
 
 // The descriptor's minimum and maximum.
-#[derive(Drop)]
+#[derive(Clone, Copy)]
 pub struct Bounds {
     pub minimum: f32,
     pub maximum: f32,
 }
 
-#[derive(Drop)]
+#[derive(Clone, Copy)]
 pub enum ReadingAnswer {
     Reading(f32),
     Refused(Refusal),

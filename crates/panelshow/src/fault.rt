@@ -5,7 +5,7 @@ ghost use Rattle.std.specs.Prelude.{◌≤◌};
 use text::{find, line, number};
 
 // What stands at an entry.
-#[derive(Drop)]
+#[derive(Clone, Copy)]
 enum Entry {
     End,
     Sound,
@@ -21,7 +21,7 @@ enum Entry {
 }
 
 // The bits of the fields so far.
-#[derive(Drop)]
+#[derive(Clone, Copy)]
 struct Bits {
     inputs: u64,
     outputs: u64,

@@ -1,25 +1,30 @@
 // The panel's readings of one card, a line for each field that the card sends. Standard input has the address of the card's table
 // (2 bytes), a channel's three registers (4 bytes each), all low byte first, and then the card's memory.
+#![tactic(auto)]
+
 mod fault;
 mod line;
 
 use fault::pair;
 use input::Taken;
 use lbp16::Refusal;
-use libc::{STDIN_FILENO, STDOUT_FILENO};
 use sserial::count::TableAnswer;
 use sserial::field::FieldAnswer;
 use sserial::table::{Direction, Field};
 use sserial::{call, count, field};
+use std::env::{Env, FillError};
+use std::io;
+use std::io::{Read, Write};
 
 fn quad(low: u16, high: u16) -> u32 {
     low as u32 + 65536 * high as u32
 }
 
-fn put(out: &[u8], n: usize) {
+fn put<W: Write>(to: &mut W, out: &[u8], n: usize) -> io::Result<()> {
     if n <= out.len() {
-        io::write_all(STDOUT_FILENO, &out[..n]);
+        return to.write_all(&out[..n]);
     }
+    Ok(())
 }
 
 fn put_fault(out: &mut [u8], at: usize, memory: &[u8], table: u16, number: u32) -> usize {
@@ -29,123 +34,175 @@ fn put_fault(out: &mut [u8], at: usize, memory: &[u8], table: u16, number: u32) 
     fault::first_overfull(out, at, memory, table)
 }
 
-fn refused(out: &mut [u8], memory: &[u8], table: u16, r: Refusal) {
+fn refused<W: Write>(
+    to: &mut W,
+    out: &mut [u8],
+    memory: &[u8],
+    table: u16,
+    r: Refusal,
+) -> io::Result<()> {
     let next = text::line::numbered(out, 0, b"the table is refused with ", r.number as u64);
     let n = put_fault(out, next, memory, table, r.number);
-    put(out, n);
+    put(to, out, n)
 }
 
-fn told(out: &mut [u8], memory: &[u8], table: u16, index: u64, f: Field, value: u64) {
+fn told<W: Write>(
+    to: &mut W,
+    out: &mut [u8],
+    memory: &[u8],
+    table: u16,
+    index: u64,
+    f: Field,
+    value: u64,
+) -> io::Result<()> {
     let reading = panel::fields::field_reading(memory, table, index, value);
     let n = line::reading(out, memory, f, value, reading);
-    put(out, n);
+    put(to, out, n)
 }
 
 // How many values have been shown after this field.
-fn shown(out: &mut [u8], memory: &[u8], table: u16, index: u64, values: &[u64], k: usize) -> usize {
+fn shown<W: Write>(
+    to: &mut W,
+    out: &mut [u8],
+    memory: &[u8],
+    table: u16,
+    index: u64,
+    values: &[u64],
+    k: usize,
+) -> io::Result<usize> {
     let answer = field::field(memory, table, index);
     match answer {
-        FieldAnswer::Refused(_) => k,
+        FieldAnswer::Refused(_) => Ok(k),
         FieldAnswer::Field(f) => {
             if f.direction == 0x80 {
-                return k;
+                return Ok(k);
             }
             if values.len() <= k {
-                return k;
+                return Ok(k);
             }
-            told(out, memory, table, index, f, values[k]);
-            k + 1
+            told(to, out, memory, table, index, f, values[k])?;
+            Ok(k + 1)
         }
     }
 }
 
 // A table has at most 96 fields each way.
-fn readings(out: &mut [u8], memory: &[u8], table: u16, values: &[u64]) {
+fn readings<W: Write>(
+    to: &mut W,
+    out: &mut [u8],
+    memory: &[u8],
+    table: u16,
+    values: &[u64],
+) -> io::Result<()> {
     let mut k: usize = 0;
     let mut index: u64 = 0;
     while index < 192 {
-        k = shown(out, memory, table, index, values, k);
+        k = shown(to, out, memory, table, index, values, k)?;
         index += 1;
     }
+    Ok(())
 }
 
-fn unpacked(out: &mut [u8], memory: &[u8], table: u16, registers: &[u32], values: &mut [u64]) {
+fn unpacked<W: Write>(
+    to: &mut W,
+    out: &mut [u8],
+    memory: &[u8],
+    table: u16,
+    registers: &[u32],
+    values: &mut [u64],
+) -> io::Result<()> {
     call::unpack(memory, table, Direction::Inputs, 0, registers, values);
-    readings(out, memory, table, values);
+    readings(to, out, memory, table, values)
 }
 
-fn incoming(
+fn incoming<W: Write>(
+    to: &mut W,
     out: &mut [u8],
     memory: &[u8],
     table: u16,
     n: usize,
     registers: &[u32],
     room: &mut [u64],
-) {
+) -> io::Result<()> {
     if n <= room.len() {
-        unpacked(out, memory, table, registers, &mut room[..n]);
+        return unpacked(to, out, memory, table, registers, &mut room[..n]);
     }
+    Ok(())
 }
 
-fn card(out: &mut [u8], memory: &[u8], table: u16, registers: &[u32]) {
+fn card<W: Write>(
+    to: &mut W,
+    out: &mut [u8],
+    memory: &[u8],
+    table: u16,
+    registers: &[u32],
+) -> io::Result<()> {
     let answer = count::count_fields(memory, table);
     match answer {
-        TableAnswer::Refused(r) => refused(out, memory, table, r),
+        TableAnswer::Refused(r) => refused(to, out, memory, table, r),
         TableAnswer::Fields { inputs, outputs: _ } => {
             let mut room = [0u64; 96];
-            incoming(out, memory, table, inputs, registers, &mut room);
+            incoming(to, out, memory, table, inputs, registers, &mut room)
         }
     }
 }
 
-fn show(out: &mut [u8], input: &[u8]) {
+fn show<W: Write>(to: &mut W, out: &mut [u8], input: &[u8]) -> io::Result<()> {
     if input.len() < 14 {
-        io::write_all(STDOUT_FILENO, b"no table address and three registers\n");
-        return;
+        return to.write_all(b"no table address and three registers\n");
     }
     let mut registers = [0u32; 24];
     registers[0] = quad(pair(input[2], input[3]), pair(input[4], input[5]));
     registers[1] = quad(pair(input[6], input[7]), pair(input[8], input[9]));
     registers[2] = quad(pair(input[10], input[11]), pair(input[12], input[13]));
-    card(out, &input[14..], pair(input[0], input[1]), &registers);
+    card(to, out, &input[14..], pair(input[0], input[1]), &registers)
 }
 
-fn usage() {
-    io::write_all(
-        STDOUT_FILENO,
-        b"usage: panelshow < CARD\nCARD is, low byte first: the address of the card's process table (2 bytes), ",
-    );
-    io::write_all(
-        STDOUT_FILENO,
-        b"a channel's interface registers 0, 1 and 2 (4 bytes each),\nand the card's memory from address 0. ",
-    );
-    io::write_all(
-        STDOUT_FILENO,
-        b"The address is the low word of interface register 2 after a start; the memory is read by\nremote reads; ",
-    );
-    io::write_all(
-        STDOUT_FILENO,
-        b"the registers are those that hold the inputs after an exchange.\n",
-    );
-    io::write_all(
-        STDOUT_FILENO,
-        b"A reading is the value times the maximum by the largest value; the minimum is left out.\n",
-    );
+fn usage(rt: &impl Print) -> io::Result<()> {
+    rt.print(
+        "usage: panelshow < CARD\nCARD is, low byte first: the address of the card's process table (2 bytes), ",
+    )?;
+    rt.print(
+        "a channel's interface registers 0, 1 and 2 (4 bytes each),\nand the card's memory from address 0. ",
+    )?;
+    rt.print(
+        "The address is the low word of interface register 2 after a start; the memory is read by\nremote reads; ",
+    )?;
+    rt.print("the registers are those that hold the inputs after an exchange.\n")?;
+    rt.print(
+        "A reading is the value times the maximum by the largest value; the minimum is left out.\n",
+    )
 }
 
-fn serve(card: &mut [u8; 65550], line: &mut [u8; 131200]) {
-    let taken = input::all(STDIN_FILENO, card);
+fn serve<R: Read, W: Write>(
+    rt: &impl Eprint,
+    from: &mut R,
+    to: &mut W,
+    card: &mut [u8; 65550],
+    line: &mut [u8; 131200],
+) -> io::Result<()> {
+    let taken = input::all(from, card);
     match taken {
-        Taken::Failed => input::cannot_read(),
-        Taken::Bytes(n) => show(line, input::front(card, n)),
+        Taken::Failed => input::cannot_read(rt),
+        Taken::Bytes(n) => show(to, line, input::front(card, n)),
     }
+}
+
+// Whether the program was given no word beside its name.
+fn is_alone(rt: &impl Env) -> bool {
+    matches!(rt.arg(1, &mut []), Err(FillError::NotPresent))
 }
 
 // A line has room for a name and a unit that are the whole memory.
-fn main() {
-    if os::arg_count() != 1 {
-        usage();
-        return;
+fn main(rt: HostRuntime) -> io::Result<()> {
+    if !is_alone(&rt) {
+        return usage(&rt);
     }
-    serve(&mut [0; 65550], &mut [0; 131200]);
+    serve(
+        &rt,
+        &mut rt.stdin(),
+        &mut rt.stdout(),
+        &mut [0; 65550],
+        &mut [0; 131200],
+    )
 }

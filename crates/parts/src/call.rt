@@ -10,7 +10,7 @@ use crate::state::Kept;
 use crate::{STATE_BYTES, layout, single, state, take};
 
 // `number`: 0 where the call is accepted, and `value` the bytes written; otherwise the refusal's number and place.
-#[derive(Drop)]
+#[derive(Clone, Copy)]
 pub struct Outcome {
     pub number: u32,
     pub value: u64,

@@ -1,5 +1,7 @@
 // Compiling a cue list that comes in parts, cut anywhere. What is known between calls stands in a state that the caller
 // lends: 1,504 bytes, all 0 before the first call.
+#![tactic(auto)]
+
 use cue::frame;
 use lbp16::Refusal;
 use packet::judge::Verdict;
@@ -22,7 +24,7 @@ use crate::call::Outcome;
 pub const STATE_BYTES: usize = 1504;
 
 // The bytes written, or why nothing was; `taken` bytes of the part were taken.
-#[derive(Drop)]
+#[derive(Clone, Copy)]
 pub struct Part {
     pub answer: Verdict,
     pub taken: usize,

@@ -14,7 +14,7 @@ use packet::command::LIMIT;
 
 // `stands`: 0 while bytes are taken, 1 after the list's end, otherwise a fault's number. `collected` of `bytes` are the
 // next record's.
-#[derive(Drop)]
+#[derive(Clone, Copy)]
 pub struct Kept {
     pub stands: u32,
     pub collected: usize,

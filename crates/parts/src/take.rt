@@ -14,21 +14,21 @@ use cue::{records, untrusted};
 use packet::bytes;
 
 // The state after a byte, and how many bytes were handed out.
-#[derive(Drop)]
+#[derive(Clone, Copy)]
 pub struct Took {
     pub kept: Kept,
     pub written: usize,
 }
 
 // The packer after a record, and how many bytes were handed out.
-#[derive(Drop)]
+#[derive(Clone, Copy)]
 pub struct Turn {
     pub packer: Packer,
     pub written: usize,
 }
 
 // The state after `taken` bytes.
-#[derive(Drop)]
+#[derive(Clone, Copy)]
 pub struct Stop {
     pub taken: usize,
     pub kept: Kept,
@@ -36,7 +36,7 @@ pub struct Stop {
 }
 
 // The packer and the index after `taken` bytes of whole records, nothing handed out.
-#[derive(Drop)]
+#[derive(Clone, Copy)]
 pub struct Run {
     pub taken: usize,
     pub packer: Packer,

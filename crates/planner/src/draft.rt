@@ -16,7 +16,7 @@ const MOST: usize = 2000000;
 // place of an earlier word whose increment the last record takes away, 0 if none. `pointer`: where the packet left the pointer
 // of the last command's space; `single`: the place of that command's word if it has one element, 0 else. `pointers` and
 // `singles` are the same of the other spaces and their last commands, the rest is as in `cue::packer::Packer`.
-#[derive(Drop)]
+#[derive(Clone, Copy)]
 pub(crate) struct Draft {
     pub write: bool,
     pub space: u8,
@@ -39,7 +39,7 @@ pub(crate) struct Draft {
 }
 
 // The bytes of a record's element, in the packet and in the reply, and whether it is written only with the unlock open.
-#[derive(Drop)]
+#[derive(Clone, Copy)]
 pub(crate) struct Cost {
     pub element: u32,
     pub carried: usize,

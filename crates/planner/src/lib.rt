@@ -1,4 +1,6 @@
 // Packets that are tighter than the packing rule's, for the same cue list.
+#![tactic(auto)]
+
 use cue::{CompileAnswer, plan};
 use lbp16::Refusal;
 use tight::TightAnswer;

@@ -1,4 +1,6 @@
 // Why a packet is refused: the rule's number and place, and the command at fault by its index and fields.
+#![tactic(auto)]
+
 pub mod reader;
 pub mod slice;
 mod walk;
@@ -16,7 +18,7 @@ use packet::{command, judge};
 
 // All 0 where the packet is accepted. `address` is the one that the command uses, given or from a pointer; index, fields and
 // address are 0 too where no command is at fault.
-#[derive(Drop)]
+#[derive(Clone, Copy)]
 pub struct Reason {
     pub number: u32,
     pub place: u64,

@@ -8,14 +8,14 @@ use lbp16::word::Fields;
 use packet::command;
 
 // The packet, and the offset of the command that the reader stands at.
-#[derive(Drop)]
+#[derive(Clone, Copy)]
 pub struct Reader<'a> {
     pub packet: &'a [u8],
     pub place: usize,
 }
 
 // A command's fields, all 0 where its word is cut off, and the address that it uses.
-#[derive(Drop)]
+#[derive(Clone, Copy)]
 pub struct Header {
     pub fields: Fields,
     pub address: u32,

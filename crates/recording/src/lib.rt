@@ -1,4 +1,6 @@
 // A recorded show, packets and replies in turn, judged against the card.
+#![tactic(auto)]
+
 use card::check;
 use lbp16::Refusal;
 use lbp16::pointer::Pointers;
@@ -12,7 +14,7 @@ ghost use Rattle.recording.specs.Recording.{verdict_listed, verdict_of, part_num
 use pair::Pair;
 
 // Packets and parts are counted from 0.
-#[derive(Drop)]
+#[derive(Clone, Copy)]
 pub enum Judgment {
     // So many packets, each with its reply, and all as it should be.
     Yes(u64),
@@ -31,7 +33,7 @@ pub enum Judgment {
 }
 
 // The judgment, where in the recording the last packet looked at begins, and the pointers that the packets left.
-#[derive(Drop)]
+#[derive(Clone, Copy)]
 pub struct Judged {
     pub judgment: Judgment,
     pub at: usize,

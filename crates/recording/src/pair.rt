@@ -12,7 +12,7 @@ use lbp16::pointer::Pointers;
 use packet::judge::Verdict;
 
 // What is found: a fault of the packet or of its reply, or none. Cut and unmarked say whether it is the reply's part.
-#[derive(Drop)]
+#[derive(Clone, Copy)]
 pub enum Pair {
     // No bytes are left.
     End,
@@ -27,7 +27,7 @@ pub enum Pair {
 }
 
 // What is found, and the pointers that the packet leaves.
-#[derive(Drop)]
+#[derive(Clone, Copy)]
 pub struct PairRan {
     pub pair: Pair,
     pub pointers: Pointers,

@@ -1,5 +1,7 @@
 // Saving what can be saved of a damaged cue list. The first pass counts what is kept and skipped, and only the second
 // writes, so that a refusal leaves both rooms as they are.
+#![tactic(auto)]
+
 use lbp16::Refusal;
 
 pub mod scan;
@@ -9,7 +11,7 @@ ghost use Rattle.std.specs.Prelude.{◌≡◌};
 ghost use Rattle.salvage.specs.Salvage.{salvaged, left};
 
 // The bytes kept and the log's entries, or why nothing was written.
-#[derive(Drop)]
+#[derive(Clone, Copy)]
 pub enum SalvageAnswer {
     Salvaged { bytes: usize, entries: usize },
     Refused(Refusal),

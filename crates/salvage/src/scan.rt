@@ -6,14 +6,14 @@ ghost use Rattle.salvage.specs.Inside.{gap_of, first_span, tally, Roomy};
 use cue::records;
 
 // A stretch of a list by its length: a record kept, or bytes skipped.
-#[derive(Drop)]
+#[derive(Clone, Copy)]
 pub(crate) struct Span {
     pub(crate) kept: bool,
     pub(crate) bytes: usize,
 }
 
 // What is kept and skipped of a list: records and their bytes, and stretches.
-#[derive(Drop)]
+#[derive(Clone, Copy)]
 pub struct Counts {
     pub records: usize,
     pub bytes: usize,

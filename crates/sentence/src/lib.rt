@@ -1,4 +1,6 @@
 // What each number means, in words.
+#![tactic(auto)]
+
 ghost use Rattle.std.specs.Prelude.{cond, ◌≡◌, ◌+◌, ◌*◌, ◌≤◌, ◌<◌, eqb, length, get_or};
 ghost use Rattle.text.specs.Find.{string_at};
 ghost use Rattle.text.specs.Room.{filled, put_at};

@@ -1,76 +1,137 @@
 // The judging program: a recorded show or a capture of one on standard input, what is found of it on standard output. The card's store and
 // pointers before the first packet are in the files named, or those of a fresh card.
+#![tactic(auto)]
+
 use card::check::STORE_BYTES;
 use input::Taken;
-use libc::{STDIN_FILENO, STDOUT_FILENO};
 use showcheck_output::given;
 use showcheck_output::given::Given;
+use std::env::Env;
+use std::io;
+use std::io::{Read, Write};
 
-fn say(given: Given, file: &[u8], pointers: &[u8], show: &[u8], room: &mut [u8; 24576]) {
+fn say<W: Write>(
+    to: &mut W,
+    given: Given,
+    file: &[u8],
+    pointers: &[u8],
+    show: &[u8],
+    room: &mut [u8; 24576],
+) -> io::Result<()> {
     let said = showcheck_output::whole(given, file, pointers, show, room);
-    input::put(STDOUT_FILENO, room, said);
+    input::put(to, room, said)
 }
 
-// Nothing is read where nothing is done with it, or where the file could not be opened.
-fn take(given: Given, fd: i32, room: &mut [u8]) -> Taken {
-    if (given::most_read(given) == 0) | (fd < 0) {
+// Nothing is read where nothing is done with it.
+fn take<R: Read>(given: Given, from: &mut R, room: &mut [u8]) -> Taken {
+    if given::most_read(given) == 0 {
         return Taken::Bytes(0);
     }
-    input::all(fd, room)
+    input::all(from, room)
 }
 
-fn hear(
+// Nor where the file could not be opened.
+fn take_file<F: Read>(given: Given, opened: &mut Option<F>, room: &mut [u8]) -> Taken {
+    match opened {
+        None => Taken::Bytes(0),
+        Some(f) => take(given, f, room),
+    }
+}
+
+fn hear<R: Read, W: Write>(
+    rt: &impl Eprint,
+    from: &mut R,
+    to: &mut W,
     given: Given,
     file: &[u8],
     pointers: &[u8],
     show: &mut [u8; 3000001],
     room: &mut [u8; 24576],
-) {
-    let taken = take(given, STDIN_FILENO, show);
+) -> io::Result<()> {
+    let taken = take(given, from, show);
     match taken {
-        Taken::Bytes(n) => say(given, file, pointers, input::front(show, n), room),
-        Taken::Failed => input::cannot_read(),
+        Taken::Bytes(n) => say(to, given, file, pointers, input::front(show, n), room),
+        Taken::Failed => input::cannot_read(rt),
     }
 }
 
-fn with_store(
+fn with_store<R: Read, W: Write, F: Read>(
+    rt: &impl Eprint,
+    from: &mut R,
+    to: &mut W,
     given: Given,
     file: &[u8],
-    fd: i32,
+    other: &mut Option<F>,
     show: &mut [u8; 3000001],
     room: &mut [u8; 24576],
-) {
+) -> io::Result<()> {
     let mut pointers = [0u8; 33];
-    let taken = take(given, fd, &mut pointers);
+    let taken = take_file(given, other, &mut pointers);
     match taken {
-        Taken::Bytes(n) => hear(given, file, input::front(&pointers, n), show, room),
-        Taken::Failed => input::cannot_read(),
+        Taken::Bytes(n) => hear(
+            rt,
+            from,
+            to,
+            given,
+            file,
+            input::front(&pointers, n),
+            show,
+            room,
+        ),
+        Taken::Failed => input::cannot_read(rt),
     }
 }
 
 // Of each input one byte more is read than it may have, so that a longer one is noticed.
-fn serve(given: Given, fd: i32, other: i32, show: &mut [u8; 3000001], room: &mut [u8; 24576]) {
+fn serve<R: Read, W: Write, F: Read>(
+    rt: &impl Eprint,
+    from: &mut R,
+    to: &mut W,
+    given: Given,
+    opened: &mut Option<F>,
+    other: &mut Option<F>,
+    show: &mut [u8; 3000001],
+    room: &mut [u8; 24576],
+) -> io::Result<()> {
     let mut file = [0u8; STORE_BYTES + 1];
-    let taken = take(given, fd, &mut file);
+    let taken = take_file(given, opened, &mut file);
     match taken {
-        Taken::Bytes(n) => with_store(given, input::front(&file, n), other, show, room),
-        Taken::Failed => input::cannot_read(),
+        Taken::Bytes(n) => with_store(
+            rt,
+            from,
+            to,
+            given,
+            input::front(&file, n),
+            other,
+            show,
+            room,
+        ),
+        Taken::Failed => input::cannot_read(rt),
     }
 }
 
-fn main() {
-    let mut path = io::buffer();
-    let n = os::arg(1, &mut path);
-    let fd = os::open_read(&path[..n]);
-    let mut second = io::buffer();
-    let m = os::arg(2, &mut second);
-    let other = os::open_read(&second[..m]);
+fn main(rt: HostRuntime) -> io::Result<()> {
+    let mut path = [0u8; 4096];
+    let n = rt.arg(1, &mut path).unwrap_or(0);
+    let mut opened = input::opened(&rt, &path[..n]);
+    let mut second = [0u8; 4096];
+    let m = rt.arg(2, &mut second).unwrap_or(0);
+    let mut other = input::opened(&rt, &second[..m]);
     let given = given::given_by(
-        os::arg_count(),
+        input::words(&rt),
         &path[..n],
         &second[..m],
-        0 <= fd,
-        0 <= other,
+        opened.is_some(),
+        other.is_some(),
     );
-    serve(given, fd, other, &mut [0; 3000001], &mut [0; 24576]);
+    serve(
+        &rt,
+        &mut rt.stdin(),
+        &mut rt.stdout(),
+        given,
+        &mut opened,
+        &mut other,
+        &mut [0; 3000001],
+        &mut [0; 24576],
+    )
 }

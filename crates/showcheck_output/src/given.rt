@@ -5,7 +5,7 @@ ghost use Rattle.showcheck_output.specs.Given.{has_option, given_by, most_read};
 use why_output::words::is_option;
 
 // No file, so that the card is fresh; a file of the store, or of store and pointers; a name of one that cannot be opened; other words.
-#[derive(Drop)]
+#[derive(Clone, Copy)]
 pub enum Given {
     Nothing,
     Store,

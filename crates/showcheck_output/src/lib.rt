@@ -1,4 +1,6 @@
 // What the judging program writes: `yes` and the number of packets, or what is at fault in a recorded show.
+#![tactic(auto)]
+
 use card::check::STORE_BYTES;
 use given::Given;
 use lbp16::pointer::Pointers;

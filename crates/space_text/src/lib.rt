@@ -1,4 +1,6 @@
 // A space in words.
+#![tactic(auto)]
+
 ghost use Rattle.std.specs.Prelude.{◌≡◌};
 ghost use Rattle.lbp16.specs.Space.{space_of};
 ghost use Rattle.text.specs.Room.{filled, put_at};

@@ -1,4 +1,6 @@
 // SPI headers, and one SPI burst on space 0 of a card store.
+#![tactic(auto)]
+
 ghost use Rattle.std.specs.Prelude.{◌≡◌, ◌||◌, cond, List, [], ◌∷◌, ℕ, ◌*◌, ◌≤◌, length, replicate};
 ghost use Rattle.lbp16.specs.Answer.{Answer};
 ghost use Rattle.lbp16.specs.Space.{registers, row};
@@ -21,7 +23,7 @@ const READ: u8 = 0xA;
 pub const WRITE: u8 = 0xB;
 
 // The fields of a header word, high bits first; the four lowest bits are unused.
-#[derive(Drop)]
+#[derive(Clone, Copy)]
 pub struct Header {
     pub address: u16,
     pub command: u8,
@@ -29,7 +31,7 @@ pub struct Header {
     pub count: u8,
 }
 
-#[derive(Drop)]
+#[derive(Clone, Copy)]
 pub enum HeaderWritten {
     Word(u32),
     Refused(Refusal),

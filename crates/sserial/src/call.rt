@@ -11,7 +11,7 @@ use crate::{channels, count, pack};
 use lbp16::Refusal;
 
 // The answer of packing and of unpacking.
-#[derive(Drop)]
+#[derive(Clone, Copy)]
 pub enum CallAnswer {
     Done,
     Refused(Refusal),

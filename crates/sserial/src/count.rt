@@ -9,14 +9,14 @@ use crate::table::{Direction, Entry, Field};
 use lbp16::Refusal;
 
 // How many fields stand in a direction, and how many bits they take.
-#[derive(Drop)]
+#[derive(Clone, Copy)]
 pub struct Sum {
     pub fields: usize,
     pub bits: usize,
 }
 
 // The fields so far. Once `over` is set the table's refusal is 42 or 41, and the sums stay.
-#[derive(Drop)]
+#[derive(Clone, Copy)]
 pub struct Sums {
     pub inputs: Sum,
     pub outputs: Sum,
@@ -24,7 +24,7 @@ pub struct Sums {
 }
 
 // How many fields each way, or why the table was refused.
-#[derive(Drop)]
+#[derive(Clone, Copy)]
 pub enum TableAnswer {
     Fields { inputs: usize, outputs: usize },
     Refused(Refusal),

@@ -10,14 +10,14 @@ use crate::table::{Direction, Entry, Field};
 use crate::{count, table};
 use lbp16::Refusal;
 
-#[derive(Drop)]
+#[derive(Clone, Copy)]
 pub enum FieldAnswer {
     Field(Field),
     Refused(Refusal),
 }
 
 // A field, and the place of the entry after its own.
-#[derive(Drop)]
+#[derive(Clone, Copy)]
 pub(crate) struct Next {
     pub field: Field,
     pub at: usize,

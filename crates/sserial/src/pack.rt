@@ -7,7 +7,7 @@ use crate::table::Direction;
 use crate::{bits, field, value};
 
 // One direction's values as three words. `good`: each is in its field's range.
-#[derive(Drop)]
+#[derive(Clone, Copy)]
 pub(crate) struct Packed {
     pub good: bool,
     pub words: [u32; 3],

@@ -3,14 +3,14 @@
 use text::find;
 
 // The bytes of so many digits.
-#[derive(Drop)]
+#[derive(Clone, Copy)]
 pub(crate) struct Memory {
     pub(crate) bytes: [u8; 512],
     pub(crate) digits: usize,
 }
 
 // How far the input is read: the card's number, and the line's kind.
-#[derive(Drop)]
+#[derive(Clone, Copy)]
 struct Place {
     card: usize,
     first: bool,

@@ -64,7 +64,7 @@ fn one_field(out: &mut [u8], at: usize, memory: &[u8], f: Field) -> usize {
 }
 
 // The place behind it, and whether the table has this field.
-#[derive(Drop)]
+#[derive(Clone, Copy)]
 struct Put {
     at: usize,
     more: bool,

@@ -1,12 +1,16 @@
 // Worked examples of daughter card fields: document 000's 7I76E in mode 1, and small cards for signed fields, fields across two
 // registers and refused tables. A line for each. Standard input has the cards' memories.
+#![tactic(auto)]
+
 mod cards;
 mod line;
 
 use input::Taken;
-use libc::{STDIN_FILENO, STDOUT_FILENO};
 use sserial::call;
 use sserial::table::Direction;
+use std::env::{Env, FillError};
+use std::io;
+use std::io::{Read, Write};
 
 fn channels(out: &mut [u8], at: usize, registers: [u32; 24]) -> usize {
     let next = line::channel(out, at, 1, &registers[3..6]);
@@ -143,26 +147,41 @@ fn all(out: &mut [u8], input: &[u8]) -> usize {
     of_card(out, next, 3, input)
 }
 
-fn play(cards: &[u8], out: &mut [u8; 8192]) {
+fn play<W: Write>(to: &mut W, cards: &[u8], out: &mut [u8; 8192]) -> io::Result<()> {
     let n = all(out, cards);
-    input::put(STDOUT_FILENO, out, n);
+    input::put(to, out, n)
 }
 
-fn serve(cards: &mut [u8; 8192], out: &mut [u8; 8192]) {
-    let taken = input::all(STDIN_FILENO, cards);
+fn serve<R: Read, W: Write>(
+    rt: &impl Eprint,
+    from: &mut R,
+    to: &mut W,
+    cards: &mut [u8; 8192],
+    out: &mut [u8; 8192],
+) -> io::Result<()> {
+    let taken = input::all(from, cards);
     match taken {
-        Taken::Bytes(n) => play(input::front(cards, n), out),
-        Taken::Failed => input::cannot_read(),
+        Taken::Bytes(n) => play(to, input::front(cards, n), out),
+        Taken::Failed => input::cannot_read(rt),
     }
 }
 
-fn main() {
-    if os::arg_count() != 1 {
-        io::write_all(
-            STDOUT_FILENO,
-            b"usage: sserial_examples < CARDS\nWorked examples of daughter card fields; CARDS are card memories as hexadecimal digits.\n",
+// Whether the program was given no word beside its name.
+fn is_alone(rt: &impl Env) -> bool {
+    matches!(rt.arg(1, &mut []), Err(FillError::NotPresent))
+}
+
+fn main(rt: HostRuntime) -> io::Result<()> {
+    if !is_alone(&rt) {
+        return rt.print(
+            "usage: sserial_examples < CARDS\nWorked examples of daughter card fields; CARDS are card memories as hexadecimal digits.\n",
         );
-        return;
     }
-    serve(&mut [0; 8192], &mut [0; 8192]);
+    serve(
+        &rt,
+        &mut rt.stdin(),
+        &mut rt.stdout(),
+        &mut [0; 8192],
+        &mut [0; 8192],
+    )
 }

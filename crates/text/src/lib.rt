@@ -1,4 +1,6 @@
 // Text put into a lent room: each function answers the place behind what it put, and cuts off at the room's end what does not fit.
+#![tactic(auto)]
+
 pub mod find;
 pub mod line;
 pub mod number;

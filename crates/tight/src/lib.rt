@@ -1,4 +1,6 @@
 // Whether a proposed output may stand for a cue list's own: the checker that alone is trusted.
+#![tactic(auto)]
+
 use cue::{CompileAnswer, plan};
 use lbp16::Refusal;
 
@@ -13,7 +15,7 @@ ghost use Rattle.tight.specs.Demand3.{TightDemand3};
 pub const UNSET_ADDRESS: u32 = 65537;
 
 // The packet count, or that the proposal is rejected, or why the list was refused.
-#[derive(Drop)]
+#[derive(Clone, Copy)]
 pub enum TightAnswer {
     Accepted(u64),
     Rejected,

@@ -22,7 +22,7 @@ use packet::{bytes, command, judge};
 use text::find;
 
 // The bytes that something takes from the front of a list or of a proposal, if it may stand there.
-#[derive(Drop)]
+#[derive(Clone, Copy)]
 pub enum Taken {
     Rejected,
     Bytes(usize),

@@ -1,70 +1,122 @@
 // Why a packet is refused: a captured packet on standard input, or packets behind "LB", or hexadecimal text of these, from a fresh card or
 // from the pointers in the file named.
+#![tactic(auto)]
+
 use input::Taken;
-use libc::{STDIN_FILENO, STDOUT_FILENO};
+use std::env::Env;
+use std::io;
+use std::io::{Read, Write};
+use std::rt::Files;
 use why_output::words;
 use why_output::words::Words;
 
-fn take(w: Words, found: bool, bytes: &mut [u8]) -> Taken {
+fn take<R: Read>(w: Words, found: bool, from: &mut R, bytes: &mut [u8]) -> Taken {
     let most = words::most_read(w, found);
     if bytes.len() < most {
         return Taken::Failed;
     }
-    input::all(STDIN_FILENO, &mut bytes[..most])
+    input::all(from, &mut bytes[..most])
 }
 
-fn answer(w: Words, found: bool, file: &[u8], bytes: &[u8], room: &mut [u8; 16384]) {
+fn answer<W: Write>(
+    to: &mut W,
+    w: Words,
+    found: bool,
+    file: &[u8],
+    bytes: &[u8],
+    room: &mut [u8; 16384],
+) -> io::Result<()> {
     let said = why_output::whole(w, found, file, bytes, room);
-    input::put(STDOUT_FILENO, room, said);
+    input::put(to, room, said)
 }
 
 // `bytes` has room for one byte more than the input may have, so that a longer one is noticed.
-fn serve(w: Words, found: bool, file: &[u8], bytes: &mut [u8; 3000001], room: &mut [u8; 16384]) {
-    let taken = take(w, found, bytes);
+fn serve<R: Read, W: Write>(
+    rt: &impl Eprint,
+    from: &mut R,
+    to: &mut W,
+    w: Words,
+    found: bool,
+    file: &[u8],
+    bytes: &mut [u8; 3000001],
+    room: &mut [u8; 16384],
+) -> io::Result<()> {
+    let taken = take(w, found, from, bytes);
     match taken {
-        Taken::Failed => input::cannot_read(),
-        Taken::Bytes(n) => answer(w, found, file, input::front(bytes, n), room),
+        Taken::Failed => input::cannot_read(rt),
+        Taken::Bytes(n) => answer(to, w, found, file, input::front(bytes, n), room),
     }
 }
 
 // A file that cannot be opened has nothing to read.
-fn read_file(fd: i32, file: &mut [u8]) -> Taken {
-    if fd < 0 {
-        return Taken::Bytes(0);
+fn read_file<F: Read>(opened: &mut Option<F>, file: &mut [u8]) -> Taken {
+    match opened {
+        None => Taken::Bytes(0),
+        Some(f) => input::all(f, file),
     }
-    input::all(fd, file)
 }
 
-fn open(w: Words, first: &[u8], second: &[u8], third: &[u8]) -> i32 {
+fn open<F: Files>(rt: &F, w: Words, first: &[u8], second: &[u8], third: &[u8]) -> Option<F::File> {
     let name = w.name;
     match name {
-        1 => os::open_read(first),
-        2 => os::open_read(second),
-        3 => os::open_read(third),
-        _ => -1,
+        1 => input::opened(rt, first),
+        2 => input::opened(rt, second),
+        3 => input::opened(rt, third),
+        _ => None,
     }
 }
 
-fn judge(w: Words, found: bool, file: &[u8]) {
-    serve(w, found, file, &mut [0; 3000001], &mut [0; 16384]);
+fn judge<R: Read, W: Write>(
+    rt: &impl Eprint,
+    from: &mut R,
+    to: &mut W,
+    w: Words,
+    found: bool,
+    file: &[u8],
+) -> io::Result<()> {
+    serve(
+        rt,
+        from,
+        to,
+        w,
+        found,
+        file,
+        &mut [0; 3000001],
+        &mut [0; 16384],
+    )
 }
 
-fn start(w: Words, fd: i32, file: &mut [u8; 33]) {
-    let had = read_file(fd, file);
+fn start<R: Read, W: Write, F: Read + Drop>(
+    rt: &impl Eprint,
+    from: &mut R,
+    to: &mut W,
+    w: Words,
+    mut opened: Option<F>,
+    file: &mut [u8; 33],
+) -> io::Result<()> {
+    let found = opened.is_some();
+    let had = read_file(&mut opened, file);
     match had {
-        Taken::Failed => input::cannot_read(),
-        Taken::Bytes(k) => judge(w, 0 <= fd, input::front(file, k)),
+        Taken::Failed => input::cannot_read(rt),
+        Taken::Bytes(k) => judge(rt, from, to, w, found, input::front(file, k)),
     }
 }
 
-fn main() {
-    let mut first = io::buffer();
-    let n = os::arg(1, &mut first);
-    let mut second = io::buffer();
-    let m = os::arg(2, &mut second);
-    let mut third = io::buffer();
-    let k = os::arg(3, &mut third);
-    let w = words::words_of(os::arg_count(), &first[..n], &second[..m], &third[..k]);
-    let fd = open(w, &first[..n], &second[..m], &third[..k]);
-    start(w, fd, &mut [0; 33]);
+fn main(rt: HostRuntime) -> io::Result<()> {
+    let mut first = [0u8; 4096];
+    let n = rt.arg(1, &mut first).unwrap_or(0);
+    let mut second = [0u8; 4096];
+    let m = rt.arg(2, &mut second).unwrap_or(0);
+    let mut third = [0u8; 4096];
+    let k = rt.arg(3, &mut third).unwrap_or(0);
+    let w = words::words_of(input::words(&rt), &first[..n], &second[..m], &third[..k]);
+    let opened = open(&rt, w, &first[..n], &second[..m], &third[..k]);
+    start(
+        &rt,
+        &mut rt.stdin(),
+        &mut rt.stdout(),
+        w,
+        opened,
+        &mut [0; 33],
+    )
 }

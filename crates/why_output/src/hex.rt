@@ -6,7 +6,7 @@ ghost use Rattle.why_output.specs.Hex.{is_blank, turn_at, hex_of, has_byte, Read
 use text::find;
 
 // What stands at a place of the text: a blank, a byte, or no digit at the place named.
-#[derive(Drop)]
+#[derive(Clone, Copy)]
 pub enum Turn {
     Blank,
     Byte(u8),
@@ -14,7 +14,7 @@ pub enum Turn {
 }
 
 // So many bytes, at the front of the room, as far as it has space for them; or the place where a digit should stand and none does.
-#[derive(Drop)]
+#[derive(Clone, Copy)]
 pub enum Found {
     Bytes(usize),
     Bad(usize),

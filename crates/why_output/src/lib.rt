@@ -1,4 +1,6 @@
 // What the program `why` writes: why a captured packet is refused, in words.
+#![tactic(auto)]
+
 pub mod given;
 mod hex;
 pub mod packets;

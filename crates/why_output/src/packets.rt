@@ -20,7 +20,7 @@ use reason::slice;
 use text::{line, number, pick};
 
 // What stands at the front; a packet by its bytes, refused or accepted.
-#[derive(Drop)]
+#[derive(Clone, Copy)]
 pub enum Part {
     End,
     Cut,
@@ -30,7 +30,7 @@ pub enum Part {
 }
 
 // What stands there, and the pointers that the packet leaves.
-#[derive(Drop)]
+#[derive(Clone, Copy)]
 pub struct Passed {
     pub part: Part,
     pub pointers: Pointers,

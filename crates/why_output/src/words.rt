@@ -6,7 +6,7 @@ ghost use Rattle.why_output.specs.Words.{is_option, no_words, with_word, words_o
 use text::find;
 
 // `name`: which argument names the file of pointers, from 1, and 0 where none does; `wrong`: a word that is not known, or is there twice.
-#[derive(Drop)]
+#[derive(Clone, Copy)]
 pub struct Words {
     pub hex: bool,
     pub lb: bool,
