@@ -8,7 +8,7 @@ use lib.Dec.{eqb, ltb, leb}
 use lib.ListN.{length, length-append}
 use borrow.Author.Tests.{eqb-true, ltb-true, leb-true, lt-leb}
 use Rattle.lbp16.specs.Space.{Space, space_of, space_number, is_absent, row}
-use Rattle.lbp16.proofs.BoolLaws.{or_false, and-true}
+use Rattle.lbp16.proofs.BoolLaws.{or_false, and_true}
 use Rattle.packet.specs.Step.{Kind, Step, is_info, carried, answered, is_write, is_status, names_unlock, reply_bytes, unlocked_after, unlocked}
 use Rattle.packet.specs.Bytes.{number}
 use Rattle.packet.specs.Rules.{misaligned, past_end, barred}
@@ -215,9 +215,9 @@ module _ (css : List (List Command)) (o : Open) (u : Bool) (x : Step) (f : Fine 
       let k = same_kind c.kind x.kind in
       let s = eqb (space_number c.space) (space_number x.space) in
       let a = eqb x.address (c.address + length c.elements * (row c.space).element) in
-      let q = and-true (k && s && a) (ltb (length c.elements) 127) e in
-      let r = and-true (k && s) a q.0 in
-      let t = and-true k s r.0 in
+      let q = and_true (k && s && a) (ltb (length c.elements) 127) e in
+      let r = and_true (k && s) a q.0 in
+      let t = and_true k s r.0 in
       let number : space_number c.space ≡ space_number x.space = eqb-true _ _ t.1 in
       let space : c.space ≡ x.space = sym (space-again c.space) ∙ ap space_of number ∙ space-again x.space in
       rw (same_kind_lem _ _ plain f.plain t.0, space) refl
@@ -492,14 +492,14 @@ module _ (p : Packer) (r : Record) where
   kept : (q : Packer) → fits q ≡ true → (q.packet ≤ limit) × (q.reply ≤ limit)
   unfolding fits
   kept q e =
-      let t = and-true (leb q.packet limit) (leb q.reply limit) e in
+      let t = and_true (leb q.packet limit) (leb q.reply limit) e in
       (leb-true _ _ t.0, leb-true _ _ t.1)
 
   few : agrees p r ≡ true → p.count < 127
   unfolding agrees
   few e =
       ltb-true _ _
-      (and-true
+      (and_true
       (beq p.write r.write && eqb p.space r.space
       && eqb r.address (p.address + p.count * (row (space_of p.space)).element))
       (ltb p.count 127)

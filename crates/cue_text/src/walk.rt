@@ -91,7 +91,7 @@ pub(crate) fn line_bytes(rest: &[u8]) -> usize
 // Every line is judged, and its record put behind the last. What stands in the room after a refusal is left open.
 fn walk_with(text: &[u8], table: &mut [usize], out: &mut [u8]) -> TextAnswer
     requires { length table.old ≡ most_names }
-    ensures result_value { text_listed result ≡ answered (assembled text.now) }
+    ensures answer { text_listed result ≡ answered (assembled text.now) }
     ensures out_after { (cs : List Cue) → assembled text.now ≡ cues cs
         → out.new ≡ sets out.old 0 (list_of cs) }
 {
@@ -122,7 +122,7 @@ fn walk_with(text: &[u8], table: &mut [usize], out: &mut [u8]) -> TextAnswer
 }
 
 pub(crate) fn walk(text: &[u8], out: &mut [u8]) -> TextAnswer
-    ensures result_value { text_listed result ≡ answered (assembled text.now) }
+    ensures answer { text_listed result ≡ answered (assembled text.now) }
     ensures out_after { (cs : List Cue) → assembled text.now ≡ cues cs
         → out.new ≡ sets out.old 0 (list_of cs) }
 {

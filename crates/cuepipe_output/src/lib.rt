@@ -27,7 +27,7 @@ struct Called {
 fn call(state: &mut [u8], part: &[u8], last: bool, out: &mut [u8], at: usize) -> Called
     ensures out_after { call_left result state.new out.new
         ≡ call_of state.old part.now last at out.old }
-    ensures taken_in_bounds { (result.taken ≤ length part.now) × (result.next ≤ at + 1476) }
+    ensures within { (result.taken ≤ length part.now) × (result.next ≤ at + 1476) }
 {
     let mut packet = [0u8; frame::ROOM];
     let done = parts::compile_part(state, part, last, &mut packet);
@@ -52,7 +52,7 @@ fn call(state: &mut [u8], part: &[u8], last: bool, out: &mut [u8], at: usize) ->
 fn take_all(state: &mut [u8], part: &[u8], out: &mut [u8]) -> Fed
     ensures out_after { left_by result.bytes result.more state.new out.new
         ≡ fed_left (fed_from (length part.now) state.old part.now) 0 out.old }
-    ensures bytes_bound { result.bytes ≤ 1476 * length part.now }
+    ensures bounded { result.bytes ≤ 1476 * length part.now }
 {
     let mut rest = part;
     let mut next: usize = 0;

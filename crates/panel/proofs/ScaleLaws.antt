@@ -27,6 +27,8 @@ unfolding of_int
 whole_float n h l = go (round binary32 false n 1) (round_whole binary32 false n l)
   where
     go : (x : Float) → HasValue x false n 1 → Whole n x
+    go nan v = elim v [ ]
+    go (inf _) v = elim v [ ]
     go (fin true m d) v = absurd (true≢false v.0)
     go (fin false zero d) v =
         absurd (lt_irrefl 0 (rw (zero-mul (up d)) at (rw (← v.1) at (mul-pos h (down_pos d)))))

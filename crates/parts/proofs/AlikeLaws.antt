@@ -82,7 +82,7 @@ module _ {P Q : Type 0} (S : P → Q → Type 0) (r : Packing P) (t : Packing Q)
   bytes-alike a b [] h = record { taken = refl; left = h }
   bytes-alike a b (c ∷ bs) h =
       rw (goes_same S a b h)
-      (go (goes_on b) (bytes-alike _ _ bs (byte-alike a.state b.state c h.state)))
+      (go (goes_on b) (bytes-alike (byte_taken r a.state c) (byte_taken t b.state c) bs (byte-alike a.state b.state c h.state)))
     where
       go : (g : Bool) → AlikeStopped S (bytes_taken r (byte_taken r a.state c) bs) (bytes_taken t (byte_taken t b.state c) bs)
           → AlikeStopped S

@@ -7,7 +7,7 @@ use lib.ListN.{length, drop, length-drop}
 use Rattle.packet.specs.Step.{Step}
 use Rattle.packet.specs.Rules.{first}
 use Rattle.cue.specs.Records.{Listed, records, refused, records_from, record_kind, record_bytes, record_step, record_refusals, with_record}
-use Rattle.cue.specs.Packing.{Command, pack_from, packets}
+use Rattle.cue.specs.Packing.{Command, turn, pack_from, packets}
 use Rattle.cue.proofs.PackingLaws.{record_bytes_le}
 use Rattle.cue.proofs.WalkLaws.{Remains, remains-none, remains-next}
 use Rattle.parts.specs.Rule.{Opened, none, some, closes, opens, last_of, closed_from, good_then, good_from}
@@ -63,7 +63,7 @@ packets-from o xs = closed_from o xs ++ last_of (open_after o xs)
 packets-some : (o : Rattle.cue.specs.Packing.Open) (xs : List Step) → pack_from o xs ≡ packets-from (some o) xs
 unfolding pack_from packets-from closed_from open_after last_of closes opens
 packets-some o [] = refl
-packets-some o (x ∷ xs) = rw (packets-some _ xs, append_assoc) refl
+packets-some o (x ∷ xs) = rw (packets-some (turn o x).open? xs, append_assoc) refl
 
 -- The packing rule's packets are those that the records close, and the one that the list's end closes.
 pub packets_are : (xs : List Step) → packets xs ≡ closed_from none xs ++ last_of (open_after none xs)

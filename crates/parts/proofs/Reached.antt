@@ -105,6 +105,10 @@ module _ (list left : List ℕ) (b : ℕ) (s : State Opened) (css : List (List C
         packet = h.packet;
       }
 
+  still-here : (k : Standing) → k ≡ going → length shown < decided_at s.index shown
+      → Here list left (record { standing = k; index = s.index; collected = shown; packet = s.packet }) css k
+  still-here k g l = rw g (awaits going l)
+
   module _ (d : length shown ≡ decided_at s.index shown) where
     same : first (record_refusals s.index (shown ++ left)) ≡ first (record_refusals s.index shown)
     same = decided-number s.index shown left d
@@ -179,7 +183,7 @@ module _ (list left : List ℕ) (b : ℕ) (s : State Opened) (css : List (List C
           → Ends (cond l
           (record { out = []; state = record { standing = s.standing; index = s.index; collected = shown; packet = s.packet } })
           (record_taken packing_rule (first (record_refusals s.index shown)) s (record_step shown)))
-      go true l = record { css = css; bytes = append-nil out ∙ o; here = rw g (awaits going (ltb-true _ _ l)) }
+      go true l = record { css = css; bytes = append-nil out ∙ o; here = still-here s.standing g (ltb-true _ _ l) }
       go false l =
           let d : length shown ≡ decided_at s.index shown =
           (let a = ltb-false (length shown) (decided_at s.index shown) l in

@@ -86,8 +86,8 @@ pub(crate) fn bad(k: Kept) -> bool
 
 // A byte that is collected, 0 behind the last.
 fn byte_of(k: Kept, i: usize) -> u8
-    requires bytes_len { length k.bytes ≡ 10 }
-    requires i_bound { i < 10 }
+    requires sized { length k.bytes ≡ 10 }
+    requires within { i < 10 }
     ensures { result ≡ get_or (take k.collected k.bytes) i 0 }
 {
     let bytes = k.bytes;

@@ -1,5 +1,5 @@
 -- A part of a list, taken as the code does: no more than there is.
-use Prim.Native.Nat.{ℕ, min, ◌≤◌, ◌-◌}
+use Prim.Native.Nat.{ℕ, min, ◌≤◌}
 use mathlib.Core.Path.{◌≡◌, refl, sym, ◌∙◌}
 use mathlib.Core.List.{List}
 use native.Mathlib.Omega.{arith}

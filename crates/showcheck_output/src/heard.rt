@@ -70,7 +70,7 @@ fn put_sentence(room: &mut [u8], at: usize, number: u32) -> usize
 
 fn put_unread(room: &mut [u8], number: u32, place: u64) -> usize
     ensures room_after { filled result room.new ≡ put_at (unread_text number place) 0 room.old }
-    ensures place_len_bound { length (unread_text number place) ≤ 24576 }
+    ensures fits { length (unread_text number place) ≤ 24576 }
 {
     if number < 91 {
         return line::too_long(room, 0);
@@ -98,7 +98,7 @@ fn put_read(
 ) -> usize
     ensures room_after { filled result room.new
         ≡ put_at (read_text (captured capture.now out.old frames.old) store.old p) 0 room.old }
-    ensures p_len_bound { length (read_text (captured capture.now out.old frames.old) store.old p) ≤ 24576 }
+    ensures fits { length (read_text (captured capture.now out.old frames.old) store.old p) ≤ 24576 }
 {
     let answer = capture::read(capture, out, frames);
     match answer {
@@ -122,14 +122,14 @@ fn put_rooms(
 ) -> usize
     requires { length capture.now ≤ most_bytes }
     ensures room_after { filled result room.new ≡ put_at (capture_text capture.now store.old p) 0 room.old }
-    ensures p_len_bound { length (capture_text capture.now store.old p) ≤ 24576 }
+    ensures fits { length (capture_text capture.now store.old p) ≤ 24576 }
 {
     put_read(room, capture, store, p, out, frames)
 }
 
 pub(crate) fn put_capture(room: &mut [u8], capture: &[u8], store: &mut [u8], p: Pointers) -> usize
     ensures room_after { filled result room.new ≡ put_at (capture_text capture.now store.old p) 0 room.old }
-    ensures p_len_bound { length (capture_text capture.now store.old p) ≤ 24576 }
+    ensures fits { length (capture_text capture.now store.old p) ≤ 24576 }
 {
     if MOST < capture.len() {
         return line::too_long(room, 0);

@@ -36,7 +36,7 @@ pub(crate) fn put_judged(
 ) -> usize
     ensures room_after { filled result room.new
         ≡ put_at (judged_text recording.now frames.now store.old p reply.old) 0 room.old }
-    ensures reply_len_bound { length (judged_text recording.now frames.now store.old p reply.old) ≤ 24576 }
+    ensures fits { length (judged_text recording.now frames.now store.old p reply.old) ≤ 24576 }
 {
     let judged = recording::judge_in(recording, store, p, reply);
     let judgment = judged.judgment;
@@ -48,7 +48,7 @@ pub(crate) fn put_judged(
 // A recording has no frames.
 fn put_recording(room: &mut [u8], recording: &[u8], store: &mut [u8], p: Pointers) -> usize
     ensures room_after { filled result room.new ≡ put_at (recording_text recording.now store.old p) 0 room.old }
-    ensures p_len_bound { length (recording_text recording.now store.old p) ≤ 24576 }
+    ensures fits { length (recording_text recording.now store.old p) ≤ 24576 }
 {
     if MOST < recording.len() {
         return line::too_long(room, 0);
@@ -58,7 +58,7 @@ fn put_recording(room: &mut [u8], recording: &[u8], store: &mut [u8], p: Pointer
 
 fn put_input(room: &mut [u8], input: &[u8], store: &mut [u8], p: Pointers) -> usize
     ensures room_after { filled result room.new ≡ put_at (input_text input.now store.old p) 0 room.old }
-    ensures p_len_bound { length (input_text input.now store.old p) ≤ 24576 }
+    ensures fits { length (input_text input.now store.old p) ≤ 24576 }
 {
     let n = heard::first_number(input);
     if heard::is_pcapng(n) {
@@ -80,7 +80,7 @@ fn put_from(
 ) -> usize
     requires { length file.now ≡ store_bytes }
     ensures room_after { filled result room.new ≡ put_at (input_text input.now file.now p) 0 room.old }
-    ensures p_len_bound { length (input_text input.now file.now p) ≤ 24576 }
+    ensures fits { length (input_text input.now file.now p) ≤ 24576 }
 {
     text::put(store, 0, file);
     put_input(room, input, store, p)
@@ -88,7 +88,7 @@ fn put_from(
 
 fn put_stored(room: &mut [u8], input: &[u8], file: &[u8], p: Pointers) -> usize
     ensures room_after { filled result room.new ≡ put_at (stored_text file.now input.now p) 0 room.old }
-    ensures p_len_bound { length (stored_text file.now input.now p) ≤ 24576 }
+    ensures fits { length (stored_text file.now input.now p) ≤ 24576 }
 {
     if file.len() != STORE_BYTES {
         return text::put(room, 0, b"the file of the store is not 65,728 bytes long\n");
@@ -99,7 +99,7 @@ fn put_stored(room: &mut [u8], input: &[u8], file: &[u8], p: Pointers) -> usize
 fn put_pointed(room: &mut [u8], input: &[u8], file: &[u8], pointers: &[u8]) -> usize
     ensures room_after { filled result room.new
         ≡ put_at (pointed_text file.now pointers.now input.now) 0 room.old }
-    ensures input_len_bound { length (pointed_text file.now pointers.now input.now) ≤ 24576 }
+    ensures fits { length (pointed_text file.now pointers.now input.now) ≤ 24576 }
 {
     if pointers.len() != 32 {
         return text::put(room, 0, b"the file of pointers is not 32 bytes long\n");
@@ -127,7 +127,7 @@ fn put_usage(room: &mut [u8]) -> usize
 fn written(given: Given, file: &[u8], pointers: &[u8], input: &[u8], room: &mut [u8]) -> usize
     ensures room_after { filled result room.new
         ≡ put_at (whole_text given file.now pointers.now input.now) 0 room.old }
-    ensures input_len_bound { length (whole_text given file.now pointers.now input.now) ≤ 24576 }
+    ensures fits { length (whole_text given file.now pointers.now input.now) ≤ 24576 }
 {
     match given {
         Given::Nothing => put_input(room, input, &mut [0; STORE_BYTES], Pointers::fresh()),

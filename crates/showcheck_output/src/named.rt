@@ -8,7 +8,7 @@ use text::line;
 // A number between two texts. Each answers the place behind what it put.
 pub(crate) fn put_between(room: &mut [u8], at: usize, before: &[u8], n: u64, after: &[u8]) -> usize
     ensures room_after { filled result room.new ≡ put_at (between before.now n after.now) at room.old }
-    ensures after_in_bounds { length (between before.now n after.now) ≤ length before.now + length after.now + 20 }
+    ensures within { length (between before.now n after.now) ≤ length before.now + length after.now + 20 }
 {
     let next = line::numbered(room, at, before, n);
     text::put(room, next, after)
@@ -17,7 +17,7 @@ pub(crate) fn put_between(room: &mut [u8], at: usize, before: &[u8], n: u64, aft
 // The frame of packet i.
 fn put_frame(room: &mut [u8], at: usize, frames: &[u32], i: u64) -> usize
     ensures room_after { filled result room.new ≡ put_at (frame_text frames.now i) at room.old }
-    ensures i_len_bound { length (frame_text frames.now i) ≤ 29 }
+    ensures fits { length (frame_text frames.now i) ≤ 29 }
 {
     let k = i as usize;
     if frames.len() <= k {
@@ -35,7 +35,7 @@ pub(crate) fn put_named(
     i: u64,
 ) -> usize
     ensures room_after { filled result room.new ≡ put_at (named label.now n frames.now i) at room.old }
-    ensures i_in_bounds { length (named label.now n frames.now i) ≤ length label.now + 49 }
+    ensures within { length (named label.now n frames.now i) ≤ length label.now + 49 }
 {
     let next = line::numbered(room, at, label, n);
     put_frame(room, next, frames, i)

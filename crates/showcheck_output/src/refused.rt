@@ -14,7 +14,7 @@ use why_output::packets;
 // Each answers the place behind what it put.
 fn put_shown(room: &mut [u8], frames: &[u32], i: u64, packet: &[u8]) -> usize
     ensures room_after { filled result room.new ≡ put_at (shown_text frames.now i packet.now) 0 room.old }
-    ensures packet_len_bound { length (shown_text frames.now i packet.now) ≤ 4485 }
+    ensures fits { length (shown_text frames.now i packet.now) ≤ 4485 }
 {
     let next = named::put_named(room, 0, b"packet ", i, frames, i);
     let next = text::put(room, next, b" is refused:");
@@ -56,7 +56,7 @@ fn put_refused(
 ) -> usize
     ensures room_after { filled result room.new
         ≡ put_at (refused_text frames.now i packet.now behind.now store.now p) 0 room.old }
-    ensures p_len_bound { length (refused_text frames.now i packet.now behind.now store.now p) ≤ 24576 }
+    ensures fits { length (refused_text frames.now i packet.now behind.now store.now p) ≤ 24576 }
 {
     let next = put_shown(room, frames, i, packet);
     let next = why_output::put_said(room, next, packet, store, p);
@@ -74,7 +74,7 @@ pub(crate) fn put_bad_packet(
 ) -> usize
     ensures room_after { filled result room.new
         ≡ put_at (bad_packet_text frames.now i rest.now store.now p) 0 room.old }
-    ensures p_len_bound { length (bad_packet_text frames.now i rest.now store.now p) ≤ 24576 }
+    ensures fits { length (bad_packet_text frames.now i rest.now store.now p) ≤ 24576 }
 {
     let end = replies::frame_end(rest);
     let start = least(4, end);

@@ -58,7 +58,7 @@ pub(crate) fn put_bad_byte(
 ) -> usize
     ensures room_after { filled result room.new
         ≡ put_at (bad_byte_text frames.now packet place rest.now reply.now) 0 room.old }
-    ensures reply_len_bound { length (bad_byte_text frames.now packet place rest.now reply.now) ≤ 256 }
+    ensures fits { length (bad_byte_text frames.now packet place rest.now reply.now) ≤ 256 }
 {
     let next = named::put_named(room, 0, b"packet ", packet, frames, packet);
     let next = named::put_between(room, next, b", byte ", place, b" of its reply is wrong\n");

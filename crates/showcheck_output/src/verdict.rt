@@ -10,7 +10,7 @@ use text::pick;
 
 fn put_yes(room: &mut [u8], n: u64) -> usize
     ensures room_after { filled result room.new ≡ put_at (yes_text n) 0 room.old }
-    ensures n_len_bound { length (yes_text n) ≤ 256 }
+    ensures fits { length (yes_text n) ≤ 256 }
 {
     let t = pick(n == 0, b" packets: nothing to judge\n", b" packets\n");
     named::put_between(room, 0, b"yes, ", n, t)
@@ -20,7 +20,7 @@ fn put_yes(room: &mut [u8], n: u64) -> usize
 fn put_fault(room: &mut [u8], label: &[u8], n: u64, frames: &[u32], i: u64, words: &[u8]) -> usize
     ensures room_after { filled result room.new
         ≡ put_at (named label.now n frames.now i ++ words.now) 0 room.old }
-    ensures words_in_bounds { length (named label.now n frames.now i ++ words.now)
+    ensures within { length (named label.now n frames.now i ++ words.now)
         ≤ length label.now + length words.now + 49 }
 {
     let next = named::put_named(room, 0, label, n, frames, i);
@@ -39,7 +39,7 @@ pub(crate) fn put_verdict(
 ) -> usize
     ensures room_after { filled result room.new
         ≡ put_at (judgment_text judgment frames.now rest.now store.now p reply.now) 0 room.old }
-    ensures reply_len_bound { length (judgment_text judgment frames.now rest.now store.now p reply.now) ≤ 24576 }
+    ensures fits { length (judgment_text judgment frames.now rest.now store.now p reply.now) ≤ 24576 }
 {
     match judgment {
         Judgment::Yes(n) => put_yes(room, n),

@@ -10,7 +10,7 @@ use lib.Dec.{eqb, ltb}
 use borrow.Author.Tests.{ltb-false, le-ltb, eqb-true, eq-eqb, ne_eqb, not-false}
 use Rattle.lbp16.specs.Answer.{Answer, accepted, refused}
 use Rattle.lbp16.proofs.BoolLaws.{or_false, and_true}
-use Rattle.sserial.specs.Table.{laid, checked_at, table_at, directed, bits, any_miswide, overfull, stands_in}
+use Rattle.sserial.specs.Table.{checked_at, table_at, directed, bits, any_miswide, overfull, stands_in}
 use Rattle.sserial.specs.Layout.{joined, words_of, packed, unpacked, in_range, fitting}
 use Rattle.sserial.specs.Calls.{no_channel, packed_by, Outcome, unpacked_by, called_on, counted}
 use Rattle.sserial.specs.Inside.{Each, AllWide, Packable, fields_in, fields_left, chosen, rows_from, flat}

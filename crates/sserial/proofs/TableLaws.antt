@@ -1,14 +1,14 @@
 -- Laws of reading a table's records.
 use Prim.Native.Nat.{ℕ, ◌+◌, ◌≤◌, ◌<◌}
 use mathlib.Core.Path.{◌≡◌, refl, sym, ap, ◌∙◌}
-use mathlib.Core.Bool.{Bool, true, false, not, ◌&&◌, cond}
+use mathlib.Core.Bool.{Bool, true, false, ◌&&◌, cond}
 use mathlib.Core.List.{List}
 use native.Mathlib.Omega.{arith}
 use native.Mathlib.Numerals.{add-one}
 use lib.ListN.{length, get_or, drop_of_length-le}
 use lib.Seq.{drop-cons}
 use lib.Dec.{ltb}
-use borrow.Author.Tests.{ltb-true, ltb-false, eq-eqb, ne_eqb, lt-ltb, le-ltb, not-true, not-false}
+use borrow.Author.Tests.{ltb-true, ltb-false, eq-eqb, ne_eqb, lt-ltb, le-ltb}
 use Rattle.sserial.specs.Table.{text_bytes, nul_of, name_place, field_of, is_direction, sound_field, sound_mode, pair_at, record_at, entry_of}
 use Rattle.sserial.specs.Inside.{field_record, mode_record, entry_at}
 use Rattle.sserial.specs.declared.table.Entry.{Entry}
@@ -60,13 +60,13 @@ module _ (m : List ℕ) (p : ℕ) where
     field-lent h = let n = nul_from m (p + 14) in let k = nul_from m (r₁ + 1) in omega arith
 
     module _ (h : r₂ < length m) (t : Bool) (e : t ≡ is_direction (get_or m (p + 3) 0)) where
-      pub unlisted : not (ltb (get_or m (p + 2) 0) 8 && t) ≡ true → field_record m p ≡ Unreadable
+      pub unlisted : ltb (get_or m (p + 2) 0) 8 && t ≡ false → field_record m p ≡ Unreadable
       unfolding field_record sound_field
-      unlisted n = rw (name-end, lt-ltb _ _ h, ← e, not-true (ltb (get_or m (p + 2) 0) 8 && t) n)
+      unlisted n = rw (name-end, lt-ltb _ _ h, ← e, n)
 
-      pub listed : not (ltb (get_or m (p + 2) 0) 8 && t) ≡ false → field_record m p ≡ Entry.Field (field_of m p)
+      pub listed : ltb (get_or m (p + 2) 0) 8 && t ≡ true → field_record m p ≡ Entry.Field (field_of m p)
       unfolding field_record sound_field
-      listed n = rw (name-end, lt-ltb _ _ h, ← e, not-false (ltb (get_or m (p + 2) 0) 8 && t) n)
+      listed n = rw (name-end, lt-ltb _ _ h, ← e, n)
 
 abbrev pub readable : Entry → Bool
 readable End = true

@@ -65,7 +65,7 @@ read_from v (d ∷ ds) = read_from (10 * v + (d - digit 0)) ds
 read-append : (v : ℕ) (ds es : List ℕ) → read_from v (ds ++ es) ≡ read_from (read_from v ds) es
 unfolding read_from
 read-append v [] es = refl
-read-append v (d ∷ ds) es = read-append _ ds es
+read-append v (d ∷ ds) es = read-append (10 * v + (d - digit 0)) ds es
 
 -- The digits of a number, read back, give the number.
 pub decimal-reads : (n : ℕ) → read_from 0 (decimal n) ≡ n

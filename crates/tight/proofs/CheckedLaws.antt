@@ -74,6 +74,7 @@ let_through (p ∷ ps) ss e = go (packet_does p) (packets_do ps) refl refl (let_
 
 through : (ps : List (List ℕ)) (ss : List Step) → AcceptedAll ps ss → SetAll ps → any_step info_step ss ≡ false → packets_do ps ≡ steps ss
 unfolding packets_do both
+through [] (_ ∷ _) x8 _ i = elim x8 [ ]
 through [] [] AcceptedAll.none SetAll.none i = refl
 through (p ∷ ps) ss (AcceptedAll.more {end = end} {ss = us} short judged accepts) (SetAll.more set sets) i =
     let (here, later) = any_split info_step end.steps us i in

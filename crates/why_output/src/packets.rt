@@ -124,7 +124,7 @@ fn put_all(room: &mut [u8], n: u64) -> usize
 // A packet's bytes; of one above 1,472 their number and the first 16.
 pub fn put_bytes(room: &mut [u8], at: usize, packet: &[u8]) -> usize
     ensures room_after { filled result room.new ≡ put_at (shown_bytes packet.now) at room.old }
-    ensures packet_len_bound { length (shown_bytes packet.now) ≤ 4416 }
+    ensures fits { length (shown_bytes packet.now) ≤ 4416 }
 {
     if packet.len() <= LIMIT {
         return number::bytes(room, at, packet);

@@ -1,0 +1,9 @@
+use lib.ListN.{length}
+use Rattle.capture.proofs.WalkLaws.{Walking}
+use Rattle.capture.proofs.walk.walk.Given as goal
+
+abbrev pub invariant-loop-rest : goal.invariant-loop-rest
+invariant-loop-rest l = Walking l.f l.frames l.write l.initial.out l.initial.numbers l.p l.k l.rest l.out l.numbers
+
+abbrev pub decreases-loop-rest : goal.decreases-loop-rest
+decreases-loop-rest l = length l.rest

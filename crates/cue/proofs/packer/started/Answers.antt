@@ -1,0 +1,5 @@
+use borrow.Author.Rules.{rules}
+use Rattle.cue.proofs.packer.started.Goals as goal
+
+pub returns : goal.returns
+returns c = simp c.counted-unlock.ensures.0

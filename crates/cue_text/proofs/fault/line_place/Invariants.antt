@@ -1,0 +1,13 @@
+use mathlib.Core.Path.{ap, ◌∙◌}
+use Prim.Native.Nat.{◌-◌}
+use native.Mathlib.Omega.{arith}
+use Rattle.cue_text.specs.Inside.{line_bytes}
+use Rattle.cue_text.proofs.FaultLaws.{Seeking, seek_first, more_within, seek_next, seek_last}
+use borrow.Author.Rules.{rules}
+use Rattle.cue_text.proofs.fault.line_place.Given as goal
+
+abbrev pub invariant-loop-k : goal.invariant-loop-k
+invariant-loop-k l = Seeking l.text l.line l.at l.k
+
+abbrev pub decreases-loop-k : goal.decreases-loop-k
+decreases-loop-k l = l.line - l.k

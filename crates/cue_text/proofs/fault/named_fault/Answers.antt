@@ -1,0 +1,24 @@
+use mathlib.Core.Path.{◌∙◌}
+use mathlib.Core.Path.{refl}
+use borrow.Author.Tests.{eq-eqb, ne_eqb}
+use Rattle.cue_text.specs.Fault.{form_fault}
+use borrow.Author.Rules.{rules}
+use Rattle.cue_text.proofs.fault.named_fault.Goals as goal
+
+pub returns-then-number-eq82 : goal.returns-then-number-eq82
+unfolding form_fault
+returns-then-number-eq82 c = λ above v. c.told.ensures ∙ rw (eq-eqb _ _ c.if-number-eq82.true) refl
+
+pub returns-then-number-eq83 : goal.returns-then-number-eq83
+unfolding form_fault
+returns-then-number-eq83 c = λ above v. c.used_fault.ensures ∙ rw (ne_eqb _ _ c.if-number-eq82.false, eq-eqb _ _ c.if-number-eq83.true) refl
+
+pub returns-then-number-eq24 : goal.returns-then-number-eq24
+unfolding form_fault
+returns-then-number-eq24 c = λ above v.
+    c.told-then-number-eq24.ensures ∙ rw (ne_eqb _ _ c.if-number-eq82.false, ne_eqb _ _ c.if-number-eq83.false, eq-eqb _ _ c.if-number-eq24.true) refl
+
+pub returns : goal.returns
+unfolding form_fault
+returns c = λ above v.
+    c.told-2.ensures ∙ rw (ne_eqb _ _ c.if-number-eq82.false, ne_eqb _ _ c.if-number-eq83.false, ne_eqb _ _ c.if-number-eq24.false) refl

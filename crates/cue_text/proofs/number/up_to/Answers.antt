@@ -1,0 +1,14 @@
+use mathlib.Core.Path.{refl}
+use Rattle.cue_text.specs.Inside.{given, kept_to}
+use borrow.Author.Rules.{rules}
+use Rattle.cue_text.proofs.number.up_to.Reads as reads
+use Rattle.cue_text.proofs.number.up_to.Lts as lts
+use Rattle.cue_text.proofs.number.up_to.Goals as goal
+
+pub returns-then-n-most : goal.returns-then-n-most
+unfolding kept_to
+returns-then-n-most c = rw c.if-n-most.true refl
+
+pub returns : goal.returns
+unfolding kept_to given
+returns c = rw c.if-n-most.false refl

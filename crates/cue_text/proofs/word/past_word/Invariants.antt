@@ -1,0 +1,18 @@
+use mathlib.Core.Path.{sym, ◌∙◌}
+use native.Mathlib.Omega.{arith}
+use borrow.Author.Rules.{rules}
+use Prim.Native.Nat.{◌+◌, ◌-◌, ◌≤◌}
+use mathlib.Core.Path.{◌≡◌}
+use lib.ListN.{length, drop}
+use Rattle.cue_text.specs.Inside.{in_word, word_bytes}
+use Rattle.cue_text.proofs.WordLaws.{front-more, front-here, front-end, word_over, word_on}
+use Rattle.cue_text.proofs.word.past_word.Reads as reads
+use Rattle.cue_text.proofs.word.past_word.Lts as lts
+use Rattle.cue_text.proofs.word.ends_word.Reads as ends-word-reads
+use Rattle.cue_text.proofs.word.past_word.Given as goal
+
+abbrev pub invariant-loop-i : goal.invariant-loop-i
+invariant-loop-i l = (l.i + word_bytes (drop l.i l.rest) ≡ l.from + word_bytes (drop l.from l.rest)) × (l.i ≤ length l.rest)
+
+abbrev pub decreases-loop-i : goal.decreases-loop-i
+decreases-loop-i l = length l.rest - l.i

@@ -1,0 +1,22 @@
+use native.Mathlib.Omega.{arith}
+use Rattle.text.specs.Number.{ascii}
+use Rattle.cueasm_output.specs.Report.{usage_line}
+use Rattle.cueasm_output.proofs.ReportLaws.{usage_reported, too_long-reported, list-reported, sentence-reported}
+use borrow.Author.Rules.{rules}
+use Rattle.cueasm_output.proofs.report.Goals as goal
+
+pub returns-then-words-ne1 : goal.returns-then-words-ne1
+unfolding usage_line ascii
+returns-then-words-ne1 c = usage_reported _ _ _ (omega arith) c.if-words-ne1.true _ _ c.put.ensures
+
+pub returns-then-input-gt-MOST : goal.returns-then-input-gt-MOST
+returns-then-input-gt-MOST c = too_long-reported _ _ _ (omega arith) c.if-words-ne1.false (omega arith) _ _ c.too_long.ensures
+
+pub returns-in-Written : goal.returns-in-Written
+returns-in-Written c = list-reported _ _ _ (omega arith) c.if-words-ne1.false (omega arith) _ _ c.assemble.ensures.assembled _ _ c.in-Written.is
+
+pub returns-in-Refused : goal.returns-in-Refused
+returns-in-Refused c = sentence-reported _ _ _ (omega arith) c.if-words-ne1.false (omega arith) _ _ c.assemble.ensures.assembled _
+    (omega arith)
+    c.in-Refused.is _ _
+    c.put_sentence.ensures

@@ -1,0 +1,13 @@
+use Rattle.text.specs.Number.{ascii}
+use Rattle.text.proofs.RoomLaws.{put_then}
+use Rattle.cueasm_output.specs.Sentence.{sentence}
+use borrow.Author.Rules.{rules}
+use Rattle.cueasm_output.proofs.sentence.put_sentence.Goals as goal
+
+pub returns : goal.returns
+unfolding sentence ascii
+returns c = put_then _ _ _ _
+    (put_then _ _ _ _
+    (put_then _ _ _ _ (put_then _ _ _ _ c.numbered-at.ensures c.put-at.ensures) (rw c.word_of.ensures at c.put_quoted-at.ensures))
+    (rw c.fault_of-f.ensures at c.put_cause-at.ensures))
+    c.put.ensures

@@ -1,0 +1,17 @@
+use mathlib.Core.Path.{refl, sym, ap, ◌∙◌}
+use Rattle.panel.specs.Reading.{reading_listed}
+use Rattle.panel.proofs.ScaleLaws.{shown-number}
+use Rattle.head.specs.PanelExports.{reading_number, bits_left, export_reading}
+use Rattle.head.proofs.panel_exports.head_panel_reading.Goals as goal
+
+pub float_to_bits-reading_bits : goal.float_to_bits-reading_bits
+unfolding reading_listed
+float_to_bits-reading_bits c = shown-number _ _ _ _ _ _ (sym c.reading-answer.ensures ∙ ap reading_listed c.in-Reading.is)
+
+pub returns-in-Reading : goal.returns-in-Reading
+unfolding reading_listed reading_number bits_left export_reading
+returns-in-Reading c = rw (← c.reading-answer.ensures, c.in-Reading.is) refl
+
+pub returns-in-Refused : goal.returns-in-Refused
+unfolding reading_listed reading_number bits_left export_reading
+returns-in-Refused c = rw (← c.reading-answer.ensures, c.in-Refused.is) refl

@@ -1,0 +1,20 @@
+use mathlib.Core.Path.{refl, ap}
+use mathlib.Core.List.{List}
+use Prim.Native.Nat.{ℕ}
+use Rattle.sserial.specs.Calls.{field_listed, shown}
+use Rattle.head.specs.SserialExports.{call_left, shown_in, field_words}
+use Rattle.head.proofs.SserialExportLaws.{numbered, other-room, seven_words}
+use Rattle.head.proofs.sserial_exports.head_field.Goals as goal
+
+pub returns-then-field-ne7 : goal.returns-then-field-ne7
+returns-then-field-ne7 c = rw (other-room _ _ _ c.if-field-ne7.true) (numbered _ c.table_or_40.ensures)
+
+pub returns-in-Field : goal.returns-in-Field
+unfolding shown_in field_listed shown field_words
+returns-in-Field c = rw
+    (seven_words _ _ _ c.if-field-ne7.false, ← c.field-answer.ensures, c.in-Field.is)
+    (ap (λ (l : List ℕ). call_left 0 l) c.put_field.ensures)
+
+pub returns-in-Refused : goal.returns-in-Refused
+unfolding shown_in field_listed
+returns-in-Refused c = rw (seven_words _ _ _ c.if-field-ne7.false, ← c.field-answer.ensures, c.in-Refused.is) refl

@@ -1,0 +1,13 @@
+use borrow.Author.Rules.{rules}
+use Prim.Native.Nat.{◌/◌, ◌≤◌, ◌<◌}
+use native.Mathlib.Omega.{arith}
+use lib.ListN.{length}
+use Rattle.independent.proofs.WalkLaws.{place-inside_here, whole_here, shorter}
+use Rattle.independent.proofs.LoopLaws.{Marking, marking_first, marking_again, marking_last}
+use Rattle.independent.proofs.marks.mark.Given as goal
+
+abbrev pub invariant-loop-rest : goal.invariant-loop-rest
+invariant-loop-rest l = Marking l.list l.rest l.marks
+
+abbrev pub decreases-loop-rest : goal.decreases-loop-rest
+decreases-loop-rest l = length l.rest

@@ -1,0 +1,7 @@
+use borrow.Author.Rules.{rules}
+use Rattle.independent.specs.Inside.{place_by}
+use Rattle.independent.proofs.marks.place_of.Goals as goal
+
+pub returns : goal.returns
+unfolding place_by
+returns c = simp c.row_of-row.ensures

@@ -1,0 +1,19 @@
+use Prim.Native.Nat.{◌≤◌, ◌<◌, ◌+◌, ◌-◌, ◌*◌}
+use mathlib.Core.Path.{◌≡◌, refl, sym, ◌∙◌}
+use native.Mathlib.Omega.{arith}
+use lib.ListN.{drop}
+use Rattle.lbp16.specs.Space.{status}
+use Rattle.packet.specs.Step.{write, unlocked}
+use Rattle.packet.specs.Command.{elements}
+use Rattle.packet.proofs.UnlockLaws.{unlock-again}
+use borrow.Author.Rules.{rules}
+use native.Mathlib.Nat.{sub-zero}
+use Rattle.packet.proofs.command.unlock_after.Given as goal
+
+abbrev pub invariant-loop-i : goal.invariant-loop-i
+invariant-loop-i l = (l.i ≤ l.n) × (l.n < 256) × (l.step ≤ 4) × (l.address ≤ l.used + l.i * 4)
+    × (unlocked l.open (elements write status l.n l.used l.step l.data)
+    ≡ unlocked l.now_open (elements write status (l.n - l.i) l.address l.step (drop (l.i * 2) l.data)))
+
+abbrev pub decreases-loop-i : goal.decreases-loop-i
+decreases-loop-i l = l.n - l.i

@@ -1,0 +1,8 @@
+use Rattle.text.specs.Number.{ascii}
+use Rattle.packet_text.specs.Wording.{span_text}
+use Rattle.text.proofs.RoomLaws.{put_then}
+use Rattle.packet_text.proofs.command.span.Goals as goal
+
+pub returns : goal.returns
+unfolding span_text ascii
+returns c = put_then _ _ _ _ (put_then _ _ _ _ c.numbered-at.ensures c.numbered-at-2.ensures) c.numbered.ensures

@@ -1,0 +1,10 @@
+use Rattle.text.specs.Number.{ascii}
+use Rattle.text.proofs.RoomLaws.{put_then}
+use Rattle.packet_text.specs.Packet.{used_text}
+use Rattle.packet_text.proofs.listing.put_used.Goals as goal
+
+pub returns : goal.returns
+unfolding used_text ascii
+returns c = put_then _ _ _ _
+    (put_then _ _ _ _ (rw c.pick.ensures at c.put-at.ensures) (rw c.address_digits.ensures at c.hex-at.ensures))
+    (rw c.pick-2.ensures at c.put.ensures)

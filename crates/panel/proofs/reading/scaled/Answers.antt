@@ -1,0 +1,11 @@
+use mathlib.Core.Path.{refl, sym, ◌∙◌}
+use Rattle.panel.specs.Reading.{reading_listed, scaled, product, quotient}
+use Rattle.panel.proofs.reading.scaled.Goals as goal
+
+pub returns-then-finite : goal.returns-then-finite
+unfolding reading_listed scaled product quotient
+returns-then-finite c = rw (sym c.finite.ensures ∙ c.if-finite.true, c.full-most.ensures.0) refl
+
+pub returns-else-finite : goal.returns-else-finite
+unfolding scaled product quotient
+returns-else-finite c = rw (sym c.finite.ensures ∙ c.if-finite.false) c.refused.ensures

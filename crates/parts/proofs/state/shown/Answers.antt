@@ -1,0 +1,9 @@
+use mathlib.Core.Path.{refl}
+use Rattle.parts.proofs.StateLaws.{numbers-none, numbers-some}
+use Rattle.parts.proofs.state.shown.Goals as goal
+
+pub returns-then-p-eq0 : goal.returns-then-p-eq0
+returns-then-p-eq0 c = numbers-none _ _ c.if-p-eq0.true refl
+
+pub returns : goal.returns
+returns c = numbers-some _ c.if-p-eq0.false

@@ -1,0 +1,6 @@
+use mathlib.Core.Path.{refl}
+use borrow.Author.Rules.{rules}
+use Rattle.sentence.proofs.is_row.Goals as goal
+
+pub returns : goal.returns
+returns c = rw (c.wide-2.ensures.0, c.wide.ensures.0) refl

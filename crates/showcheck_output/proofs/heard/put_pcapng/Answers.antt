@@ -1,0 +1,8 @@
+use Rattle.text.specs.Number.{ascii}
+use Rattle.showcheck_output.specs.Input.{pcapng_text}
+use borrow.Author.Rules.{rules}
+use Rattle.showcheck_output.proofs.heard.put_pcapng.Goals as goal
+
+pub returns : goal.returns
+unfolding pcapng_text ascii
+returns c = c.put.ensures

@@ -1,0 +1,14 @@
+use Prim.Native.Nat.{◌-◌, ◌≤◌}
+use mathlib.Core.Path.{◌≡◌, refl, sym, ◌∙◌}
+use native.Mathlib.Omega.{arith}
+use borrow.Author.Rules.{rules}
+use lib.ListN.{length, drop}
+use Rattle.text.specs.Find.{same_bytes}
+use Rattle.text.proofs.FindLaws.{same_lengths, same_next, same_differs, same_end}
+use Rattle.text.proofs.find.same.Given as goal
+
+abbrev pub invariant-loop-i : goal.invariant-loop-i
+invariant-loop-i l = (same_bytes (drop l.i l.a) (drop l.i l.b) ≡ same_bytes l.a l.b) × (l.i ≤ length l.a)
+
+abbrev pub decreases-loop-i : goal.decreases-loop-i
+decreases-loop-i l = length l.a - l.i

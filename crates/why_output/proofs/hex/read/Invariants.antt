@@ -1,0 +1,12 @@
+use native.Mathlib.Omega.{arith}
+use Prim.Native.Nat.{◌-◌}
+use lib.ListN.{length}
+use Rattle.why_output.proofs.HexLaws.{Reading, reading-start, reading-bad, reading-blank, reading-byte, reading-end, byte-within}
+use borrow.Author.Rules.{rules}
+use Rattle.why_output.proofs.hex.read.Given as goal
+
+abbrev pub invariant-loop-i : goal.invariant-loop-i
+invariant-loop-i l = Reading l.text l.initial.room l.room l.n l.i
+
+abbrev pub decreases-loop-i : goal.decreases-loop-i
+decreases-loop-i l = length l.text - l.i

@@ -1,0 +1,9 @@
+use Rattle.text.proofs.RoomLaws.{put_then}
+use Rattle.text.specs.Number.{ascii}
+use Rattle.why_output.specs.Packets.{fault_text}
+use borrow.Author.Rules.{rules}
+use Rattle.why_output.proofs.packets.put_fault.Goals as goal
+
+pub returns : goal.returns
+unfolding fault_text ascii
+returns c = put_then _ _ _ _ (put_then _ _ _ _ c.numbered-at.ensures c.put-at.ensures) c.put_state.ensures

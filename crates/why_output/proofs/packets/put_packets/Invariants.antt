@@ -1,0 +1,13 @@
+use mathlib.Core.Path.{◌≡◌, refl, ap, ◌∙◌}
+use native.Mathlib.Omega.{arith}
+use lib.ListN.{length, length-take, length-drop}
+use Rattle.text.proofs.RoomLaws.{put-within}
+use Rattle.why_output.proofs.PacketsLaws.{Judging, judging_start, judging_stop, judging_within, judging_next}
+use borrow.Author.Rules.{rules}
+use Rattle.why_output.proofs.packets.put_packets.Given as goal
+
+abbrev pub invariant-loop-room : goal.invariant-loop-room
+invariant-loop-room l = Judging l.given l.bytes l.initial.store l.initial.pointers l.store l.pointers l.used l.i l.rest × (l.room ≡ l.initial.room)
+
+abbrev pub decreases-loop-room : goal.decreases-loop-room
+decreases-loop-room l = length l.rest
