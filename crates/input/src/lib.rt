@@ -1,7 +1,10 @@
 // What programs read and write, over any reader and writer: a read that fails, or that a signal interrupts, is not the end.
 #![tactic(auto)]
 
-ghost use Rattle.std.specs.Prelude.{◌≤◌, ◌≡◌, length, take, OnOk};
+ghost use Rattle.std.specs.Prelude.{◌≤◌, ◌≡◌, length, take, OnOk, ¬};
+ghost use Rattle.std.specs.Str.{IsUtf8};
+ghost use Rattle.std.specs.declared.option.Option.TheVariants.{None};
+ghost use Rattle.text.specs.Number.{ascii};
 ghost use Rattle.input.specs.Reading.{Within, Behind, TookSome, TookBehind, TookAll};
 ghost use Rattle.std.specs.Io.KnownBytes.{Appends};
 
@@ -96,27 +99,29 @@ pub fn put<W: Write>(to: &mut W, room: &[u8], n: usize) -> io::Result<()>
     to.write_all(front(room, n))
 }
 
-pub fn cannot_read(rt: &impl Eprint) -> io::Result<()> {
-    rt.eprintln("cannot read")
+// What is said of a read that failed.
+pub fn cannot_read<W: Write>(to: &mut W) -> io::Result<()>
+    ensures { OnOk result (Appends (W.contents to.old) (W.contents to.new) (ascii "cannot read\n")) }
+{
+    to.write_all(b"cannot read\n")
 }
 
-// Whether the program was given no word beside its name.
-pub fn is_alone(rt: &impl Env) -> bool {
-    matches!(rt.arg(1, &mut []), Err(FillError::NotPresent))
-}
-
-// How many words the program was started with, its name among them.
-pub fn words(rt: &impl Env) -> usize {
-    for i in 0..usize::MAX {
+// How many words the program was started with, its name among them, counted up to `most`.
+pub fn words(rt: &impl Env, most: usize) -> usize
+    ensures { result ≤ most }
+{
+    for i in 0..most {
         if matches!(rt.arg(i, &mut []), Err(FillError::NotPresent)) {
             return i;
         }
     }
-    usize::MAX
+    most
 }
 
 // The file of this name, unless it cannot be opened; a name that is no text names none.
-pub fn opened<F: Files>(rt: &F, name: &[u8]) -> Option<F::File> {
+pub fn opened<F: Files>(rt: &F, name: &[u8]) -> Option<F::File>
+    ensures { ¬ (IsUtf8 name.now) → result ≡ None }
+{
     match str::from_utf8(name) {
         Ok(text) => File::open(rt, text).ok(),
         Err(_) => None,
