@@ -16,8 +16,8 @@ fn say<W: Write>(
 }
 
 // `text` has room for one byte more than a text may have, so that a longer one is noticed.
-fn serve<R: Read, W: Write>(
-    rt: &impl Eprint,
+fn serve<R: Read, W: Write, E: Write>(
+    beside: &mut E,
     words: usize,
     from: &mut R,
     to: &mut W,
@@ -27,14 +27,14 @@ fn serve<R: Read, W: Write>(
     let taken = input::asked(words, from, text);
     match taken {
         Taken::Bytes(n) => say(to, words, input::front(text, n), room),
-        Taken::Failed => input::cannot_read(rt),
+        Taken::Failed => input::cannot_read(beside),
     }
 }
 
 fn main(rt: HostRuntime) -> io::Result<()> {
     serve(
-        &rt,
-        input::words(&rt),
+        &mut rt.stderr(),
+        input::words(&rt, 2),
         &mut rt.stdin(),
         &mut rt.stdout(),
         &mut [0; 3400001],

@@ -124,7 +124,6 @@ fn answer<W: Write, E: Write>(
 
 // `bytes` has room for one byte more than a list may have, so that a longer one is noticed.
 fn serve<R: Read, W: Write, E: Write>(
-    rt: &impl Eprint,
     from: &mut R,
     to: &mut W,
     beside: &mut E,
@@ -136,7 +135,7 @@ fn serve<R: Read, W: Write, E: Write>(
 ) -> io::Result<()> {
     let taken = take(request, from, bytes);
     match taken {
-        Taken::Failed => input::cannot_read(rt),
+        Taken::Failed => input::cannot_read(beside),
         Taken::Bytes(n) => answer(to, beside, request, input::front(bytes, n), room, log, line),
     }
 }
@@ -144,9 +143,8 @@ fn serve<R: Read, W: Write, E: Write>(
 fn main(rt: HostRuntime) -> io::Result<()> {
     let mut word = [0u8; 8];
     let n = rt.arg(1, &mut word).unwrap_or(0);
-    let request = cuefix_output::request_of(input::words(&rt), &word[..n]);
+    let request = cuefix_output::request_of(input::words(&rt, 3), &word[..n]);
     serve(
-        &rt,
         &mut rt.stdin(),
         &mut rt.stdout(),
         &mut rt.stderr(),

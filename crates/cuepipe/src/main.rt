@@ -23,8 +23,8 @@ fn feed<W: Write>(to: &mut W, state: &mut [u8], part: &[u8], room: &mut [u8]) ->
     Ok(fed.more)
 }
 
-fn serve<R: Read, W: Write>(
-    rt: &impl Eprint,
+fn serve<R: Read, W: Write, E: Write>(
+    beside: &mut E,
     from: &mut R,
     to: &mut W,
     state: &mut [u8; STATE_BYTES],
@@ -35,7 +35,7 @@ fn serve<R: Read, W: Write>(
     while at < MOST {
         let taken = input::some(from, part);
         match taken {
-            Taken::Failed => return input::cannot_read(rt),
+            Taken::Failed => return input::cannot_read(beside),
             Taken::Bytes(n) => {
                 let more = feed(to, state, input::front(part, n), room)?;
                 if n == 0 {
@@ -52,13 +52,13 @@ fn serve<R: Read, W: Write>(
 }
 
 fn main(rt: HostRuntime) -> io::Result<()> {
-    if !input::is_alone(&rt) {
+    if input::words(&rt, 2) != 1 {
         return rt.print(
             "usage: cuepipe < LIST\nThe packets of a cue list of any length, each as it is finished.\n",
         );
     }
     serve(
-        &rt,
+        &mut rt.stderr(),
         &mut rt.stdin(),
         &mut rt.stdout(),
         &mut [0; STATE_BYTES],

@@ -11,8 +11,8 @@ fn say<W: Write>(to: &mut W, list: &[u8], room: &mut [u8; 32768]) -> io::Result<
 }
 
 // `list` has room for one byte more than a list may have, so that a longer one is noticed.
-fn serve<R: Read, W: Write>(
-    rt: &impl Eprint,
+fn serve<R: Read, W: Write, E: Write>(
+    beside: &mut E,
     from: &mut R,
     to: &mut W,
     list: &mut [u8; 16385],
@@ -21,18 +21,18 @@ fn serve<R: Read, W: Write>(
     let taken = input::all(from, list);
     match taken {
         Taken::Bytes(n) => say(to, input::front(list, n), room),
-        Taken::Failed => input::cannot_read(rt),
+        Taken::Failed => input::cannot_read(beside),
     }
 }
 
 fn main(rt: HostRuntime) -> io::Result<()> {
-    if !input::is_alone(&rt) {
+    if input::words(&rt, 2) != 1 {
         return rt.print(
             "usage: cuetight < LIST\nThe packets of a cue list of at most 16,384 bytes, in fewer bytes than cuec's where it can.\n",
         );
     }
     serve(
-        &rt,
+        &mut rt.stderr(),
         &mut rt.stdin(),
         &mut rt.stdout(),
         &mut [0; 16385],

@@ -16,8 +16,8 @@ use input::Taken;
 use std::io;
 use std::io::{Read, Write};
 
-fn serve<R: Read, W: Write>(
-    rt: &impl Eprint,
+fn serve<R: Read, W: Write, E: Write>(
+    beside: &mut E,
     from: &mut R,
     to: &mut W,
     script: &mut [u8; 32768],
@@ -25,15 +25,20 @@ fn serve<R: Read, W: Write>(
     let taken = input::all(from, script);
     match taken {
         Taken::Bytes(n) => script::play(to, input::front(script, n)),
-        Taken::Failed => input::cannot_read(rt),
+        Taken::Failed => input::cannot_read(beside),
     }
 }
 
 fn main(rt: HostRuntime) -> io::Result<()> {
-    if !input::is_alone(&rt) {
+    if input::words(&rt, 2) != 1 {
         return rt.print(
             "usage: examples < LINES\nRuns packets, bursts, words and lists; crates/examples/src/script.rt has the kinds of lines.\n",
         );
     }
-    serve(&rt, &mut rt.stdin(), &mut rt.stdout(), &mut [0; 32768])
+    serve(
+        &mut rt.stderr(),
+        &mut rt.stdin(),
+        &mut rt.stdout(),
+        &mut [0; 32768],
+    )
 }

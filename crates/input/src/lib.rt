@@ -1,7 +1,7 @@
 // What programs read and write, over any reader and writer: a read that fails, or that a signal interrupts, is not the end.
 #![tactic(auto)]
 
-ghost use Rattle.std.specs.Prelude.{◌≤◌, ◌≡◌, length, take, OnOk, ¬};
+ghost use Rattle.std.specs.Prelude.{◌≤◌, ◌≡◌, length, take, OnOk};
 ghost use Rattle.std.specs.Str.{IsUtf8};
 ghost use Rattle.std.specs.declared.option.Option.TheVariants.{None};
 ghost use Rattle.text.specs.Number.{ascii};

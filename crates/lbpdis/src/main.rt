@@ -37,8 +37,8 @@ fn report<W: Write>(to: &mut W, bytes: &[u8], room: &mut [u8; ROOM]) -> io::Resu
 }
 
 // One byte more is read than the input may have, so that a longer one is noticed.
-fn serve<R: Read, W: Write>(
-    rt: &impl Eprint,
+fn serve<R: Read, W: Write, E: Write>(
+    beside: &mut E,
     from: &mut R,
     to: &mut W,
     bytes: &mut [u8; 3000001],
@@ -46,19 +46,19 @@ fn serve<R: Read, W: Write>(
 ) -> io::Result<()> {
     let taken = input::all(from, bytes);
     match taken {
-        Taken::Failed => input::cannot_read(rt),
+        Taken::Failed => input::cannot_read(beside),
         Taken::Bytes(n) => report(to, input::front(bytes, n), room),
     }
 }
 
 fn main(rt: HostRuntime) -> io::Result<()> {
-    if !input::is_alone(&rt) {
+    if input::words(&rt, 2) != 1 {
         return rt.print(
             "usage: lbpdis < OUTPUT\nThe packets of an output, each behind \"LB\" and its length, in words.\n",
         );
     }
     serve(
-        &rt,
+        &mut rt.stderr(),
         &mut rt.stdin(),
         &mut rt.stdout(),
         &mut [0; 3000001],

@@ -12,7 +12,6 @@ use sserial::count::TableAnswer;
 use sserial::field::FieldAnswer;
 use sserial::table::{Direction, Field};
 use sserial::{call, count, field};
-use std::env::{Env, FillError};
 use std::io;
 use std::io::{Read, Write};
 
@@ -174,8 +173,8 @@ fn usage(rt: &impl Print) -> io::Result<()> {
     )
 }
 
-fn serve<R: Read, W: Write>(
-    rt: &impl Eprint,
+fn serve<R: Read, W: Write, E: Write>(
+    beside: &mut E,
     from: &mut R,
     to: &mut W,
     card: &mut [u8; 65550],
@@ -183,23 +182,18 @@ fn serve<R: Read, W: Write>(
 ) -> io::Result<()> {
     let taken = input::all(from, card);
     match taken {
-        Taken::Failed => input::cannot_read(rt),
+        Taken::Failed => input::cannot_read(beside),
         Taken::Bytes(n) => show(to, line, input::front(card, n)),
     }
 }
 
-// Whether the program was given no word beside its name.
-fn is_alone(rt: &impl Env) -> bool {
-    matches!(rt.arg(1, &mut []), Err(FillError::NotPresent))
-}
-
 // A line has room for a name and a unit that are the whole memory.
 fn main(rt: HostRuntime) -> io::Result<()> {
-    if !is_alone(&rt) {
+    if input::words(&rt, 2) != 1 {
         return usage(&rt);
     }
     serve(
-        &rt,
+        &mut rt.stderr(),
         &mut rt.stdin(),
         &mut rt.stdout(),
         &mut [0; 65550],

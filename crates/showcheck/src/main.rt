@@ -38,8 +38,8 @@ fn take_file<F: Read>(given: Given, opened: &mut Option<F>, room: &mut [u8]) -> 
     }
 }
 
-fn hear<R: Read, W: Write>(
-    rt: &impl Eprint,
+fn hear<R: Read, W: Write, E: Write>(
+    beside: &mut E,
     from: &mut R,
     to: &mut W,
     given: Given,
@@ -51,12 +51,12 @@ fn hear<R: Read, W: Write>(
     let taken = take(given, from, show);
     match taken {
         Taken::Bytes(n) => say(to, given, file, pointers, input::front(show, n), room),
-        Taken::Failed => input::cannot_read(rt),
+        Taken::Failed => input::cannot_read(beside),
     }
 }
 
-fn with_store<R: Read, W: Write, F: Read>(
-    rt: &impl Eprint,
+fn with_store<R: Read, W: Write, F: Read, E: Write>(
+    beside: &mut E,
     from: &mut R,
     to: &mut W,
     given: Given,
@@ -69,7 +69,7 @@ fn with_store<R: Read, W: Write, F: Read>(
     let taken = take_file(given, other, &mut pointers);
     match taken {
         Taken::Bytes(n) => hear(
-            rt,
+            beside,
             from,
             to,
             given,
@@ -78,13 +78,13 @@ fn with_store<R: Read, W: Write, F: Read>(
             show,
             room,
         ),
-        Taken::Failed => input::cannot_read(rt),
+        Taken::Failed => input::cannot_read(beside),
     }
 }
 
 // Of each input one byte more is read than it may have, so that a longer one is noticed.
-fn serve<R: Read, W: Write, F: Read>(
-    rt: &impl Eprint,
+fn serve<R: Read, W: Write, F: Read, E: Write>(
+    beside: &mut E,
     from: &mut R,
     to: &mut W,
     given: Given,
@@ -97,7 +97,7 @@ fn serve<R: Read, W: Write, F: Read>(
     let taken = take_file(given, opened, &mut file);
     match taken {
         Taken::Bytes(n) => with_store(
-            rt,
+            beside,
             from,
             to,
             given,
@@ -106,7 +106,7 @@ fn serve<R: Read, W: Write, F: Read>(
             show,
             room,
         ),
-        Taken::Failed => input::cannot_read(rt),
+        Taken::Failed => input::cannot_read(beside),
     }
 }
 
@@ -118,14 +118,14 @@ fn main(rt: HostRuntime) -> io::Result<()> {
     let m = rt.arg(2, &mut second).unwrap_or(0);
     let mut other = input::opened(&rt, &second[..m]);
     let given = given::given_by(
-        input::words(&rt),
+        input::words(&rt, 4),
         &path[..n],
         &second[..m],
         opened.is_some(),
         other.is_some(),
     );
     serve(
-        &rt,
+        &mut rt.stderr(),
         &mut rt.stdin(),
         &mut rt.stdout(),
         given,

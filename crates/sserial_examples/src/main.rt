@@ -8,7 +8,6 @@ mod line;
 use input::Taken;
 use sserial::call;
 use sserial::table::Direction;
-use std::env::{Env, FillError};
 use std::io;
 use std::io::{Read, Write};
 
@@ -152,8 +151,8 @@ fn play<W: Write>(to: &mut W, cards: &[u8], out: &mut [u8; 8192]) -> io::Result<
     input::put(to, out, n)
 }
 
-fn serve<R: Read, W: Write>(
-    rt: &impl Eprint,
+fn serve<R: Read, W: Write, E: Write>(
+    beside: &mut E,
     from: &mut R,
     to: &mut W,
     cards: &mut [u8; 8192],
@@ -162,23 +161,18 @@ fn serve<R: Read, W: Write>(
     let taken = input::all(from, cards);
     match taken {
         Taken::Bytes(n) => play(to, input::front(cards, n), out),
-        Taken::Failed => input::cannot_read(rt),
+        Taken::Failed => input::cannot_read(beside),
     }
 }
 
-// Whether the program was given no word beside its name.
-fn is_alone(rt: &impl Env) -> bool {
-    matches!(rt.arg(1, &mut []), Err(FillError::NotPresent))
-}
-
 fn main(rt: HostRuntime) -> io::Result<()> {
-    if !is_alone(&rt) {
+    if input::words(&rt, 2) != 1 {
         return rt.print(
             "usage: sserial_examples < CARDS\nWorked examples of daughter card fields; CARDS are card memories as hexadecimal digits.\n",
         );
     }
     serve(
-        &rt,
+        &mut rt.stderr(),
         &mut rt.stdin(),
         &mut rt.stdout(),
         &mut [0; 8192],

@@ -31,8 +31,8 @@ fn answer<W: Write>(
 }
 
 // `bytes` has room for one byte more than the input may have, so that a longer one is noticed.
-fn serve<R: Read, W: Write>(
-    rt: &impl Eprint,
+fn serve<R: Read, W: Write, E: Write>(
+    beside: &mut E,
     from: &mut R,
     to: &mut W,
     w: Words,
@@ -43,7 +43,7 @@ fn serve<R: Read, W: Write>(
 ) -> io::Result<()> {
     let taken = take(w, found, from, bytes);
     match taken {
-        Taken::Failed => input::cannot_read(rt),
+        Taken::Failed => input::cannot_read(beside),
         Taken::Bytes(n) => answer(to, w, found, file, input::front(bytes, n), room),
     }
 }
@@ -66,8 +66,8 @@ fn open<F: Files>(rt: &F, w: Words, first: &[u8], second: &[u8], third: &[u8]) -
     }
 }
 
-fn judge<R: Read, W: Write>(
-    rt: &impl Eprint,
+fn judge<R: Read, W: Write, E: Write>(
+    beside: &mut E,
     from: &mut R,
     to: &mut W,
     w: Words,
@@ -75,7 +75,7 @@ fn judge<R: Read, W: Write>(
     file: &[u8],
 ) -> io::Result<()> {
     serve(
-        rt,
+        beside,
         from,
         to,
         w,
@@ -86,8 +86,8 @@ fn judge<R: Read, W: Write>(
     )
 }
 
-fn start<R: Read, W: Write, F: Read + Drop>(
-    rt: &impl Eprint,
+fn start<R: Read, W: Write, F: Read + Drop, E: Write>(
+    beside: &mut E,
     from: &mut R,
     to: &mut W,
     w: Words,
@@ -97,8 +97,8 @@ fn start<R: Read, W: Write, F: Read + Drop>(
     let found = opened.is_some();
     let had = read_file(&mut opened, file);
     match had {
-        Taken::Failed => input::cannot_read(rt),
-        Taken::Bytes(k) => judge(rt, from, to, w, found, input::front(file, k)),
+        Taken::Failed => input::cannot_read(beside),
+        Taken::Bytes(k) => judge(beside, from, to, w, found, input::front(file, k)),
     }
 }
 
@@ -109,10 +109,10 @@ fn main(rt: HostRuntime) -> io::Result<()> {
     let m = rt.arg(2, &mut second).unwrap_or(0);
     let mut third = [0u8; 4096];
     let k = rt.arg(3, &mut third).unwrap_or(0);
-    let w = words::words_of(input::words(&rt), &first[..n], &second[..m], &third[..k]);
+    let w = words::words_of(input::words(&rt, 5), &first[..n], &second[..m], &third[..k]);
     let opened = open(&rt, w, &first[..n], &second[..m], &third[..k]);
     start(
-        &rt,
+        &mut rt.stderr(),
         &mut rt.stdin(),
         &mut rt.stdout(),
         w,
