@@ -1,6 +1,7 @@
-# What the tools share: they work from the repository's top, and name a crate that is not there.
+# What the tools share: they work from the repository's top, name a crate that is not there, and call the kit's rattle as rt does.
 import os
 import pathlib
+import subprocess
 import sys
 
 ROOT = pathlib.Path(__file__).resolve().parent.parent
@@ -18,6 +19,38 @@ def crates(names):
         if not pathlib.Path("crates", name, "src").is_dir():
             fail(f"no crate {name} in crates/")
     return names
+
+
+def uses():
+    """Of each crate of crates.txt what it stands on, libraries of the kit among it."""
+    rows = [row.partition("#")[0].partition(":") for row in pathlib.Path("crates.txt").read_text().split("\n")]
+    return {name.split()[0]: names.split() for name, colon, names in rows if colon}
+
+
+def below(crate, used, found):
+    """All crates below one, each before those that stand on it."""
+    for name in used[crate]:
+        if name in used and name not in found:
+            below(name, used, found)
+            found.append(name)
+    return found
+
+
+def check_words(crate):
+    """What the kit's rattle is called with to check a crate, in its folder or a copy; the crates below are taken as `rt` built them."""
+    kit = pathlib.Path(subprocess.run(["rt", "doc"], check=True, capture_output=True, text=True).stdout.strip()).parent
+    used, words = uses(), [f"{kit}/bin/rattle", "check", "--crate-name", crate]
+    words.append("src/main.rt" if pathlib.Path("crates", crate, "src/main.rt").exists() else "src/lib.rt")
+    for name in ["std", *(n for n in used[crate] if n not in used)]:
+        words += ["--extern", f"{name}={kit}/rlibs/{name}.rlib"]
+    words += ["-L", f"dependency={kit}/rlibs"]
+    for name in below(crate, used, []):
+        folder = ROOT / "crates" / name / "out/rlib"
+        if not (folder / f"{name}.rlib").is_dir():
+            fail(f"{name} is not built: `rt ci` or, in a crate above it, `rt check` does")
+        words += ["--extern", f"{name}={folder}/{name}.rlib"] if name in used[crate] else []
+        words += ["-L", f"dependency={folder}"]
+    return [*words, "--antt-project", f"{kit}/rattle/logic/antt-project.json", "--logic-built", f"{kit}/logic_built"]
 
 
 os.chdir(ROOT)
