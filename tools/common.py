@@ -36,6 +36,16 @@ def below(crate, used, found):
     return found
 
 
+def build_below(crate):
+    """Has the crates below built, where `rt ci` did not do it in a clean clone: those that it built bear no stamp."""
+    folders = [pathlib.Path("crates", name, "out/rlib") for name in below(crate, uses(), [])]
+    if all(f.is_dir() and not (f / "stamp").exists() for f in folders):
+        return
+    run = subprocess.run(["rt", "check"], cwd=f"crates/{crate}", capture_output=True, text=True)
+    if run.returncode:
+        fail(f"{crate} is not proved:\n{(run.stdout + run.stderr)[-600:]}")
+
+
 def check_words(crate):
     """What the kit's rattle is called with to check a crate, in its folder or a copy; the crates below are taken as `rt` built them."""
     kit = pathlib.Path(subprocess.run(["rt", "doc"], check=True, capture_output=True, text=True).stdout.strip()).parent
@@ -46,8 +56,6 @@ def check_words(crate):
     words += ["-L", f"dependency={kit}/rlibs"]
     for name in below(crate, used, []):
         folder = ROOT / "crates" / name / "out/rlib"
-        if not (folder / f"{name}.rlib").is_dir():
-            fail(f"{name} is not built: `rt ci` or, in a crate above it, `rt check` does")
         words += ["--extern", f"{name}={folder}/{name}.rlib"] if name in used[crate] else []
         words += ["-L", f"dependency={folder}"]
     return [*words, "--antt-project", f"{kit}/rattle/logic/antt-project.json", "--logic-built", f"{kit}/logic_built"]
