@@ -7,7 +7,6 @@ use lib.ListN.{length}
 use borrow.Author.Tests.{lt-ltb, le-ltb}
 use Rattle.lbp16.specs.Answer.{Answer}
 use Rattle.cue.specs.Records.{Listed, refused, records, records_of}
-use Rattle.cue.specs.Packing.{packets}
 use Rattle.cue.specs.Compile.{Compiled, compiled_to, compiled, compile_listed, needed, packed, output, bytes_of_output}
 use Rattle.cue.specs.declared.CompileAnswer.{CompileAnswer}
 use Rattle.lbp16.specs.declared.Refusal.{Refusal}

@@ -18,7 +18,6 @@ use Rattle.packet.specs.Bytes.{number, bytes_of}
 use Rattle.packet.specs.Step.{is_status}
 use Rattle.packet.specs.Inside.{status_write}
 use Rattle.packet.specs.Rules.{misaligned, past_end}
-use Rattle.packet.specs.Judge.{accepted}
 use Rattle.packet.proofs.StoreLaws.{Apart, get_d_sets, sets_sets, sets_twice, slice_sets, length-after, store-after_append}
 use Rattle.packet.proofs.StoreLaws.{values-read_append}
 use Rattle.packet.proofs.StepLaws.{row_plain}

@@ -1,5 +1,5 @@
 -- A text assembled into a cue list.
-use Rattle.std.specs.Prelude.{ℕ, suc, ◌+◌, List, [], ◌∷◌, ◌++◌, map, cond, length, drop, ltb}
+use Rattle.std.specs.Prelude.{ℕ, suc, List, [], ◌∷◌, ◌++◌, map, cond, length, drop, ltb}
 use Rattle.lbp16.specs.Answer.{Answer, refusal}
 use Rattle.packet.specs.Step.{Step}
 use Rattle.cue.specs.Packing.{join_all}

@@ -10,7 +10,7 @@ use Rattle.lbp16.specs.Answer.{Answer}
 use Rattle.lbp16.specs.declared.Refusal.{Refusal}
 use Rattle.packet.specs.Step.{Step}
 use Rattle.cue.specs.Records.{refused, records, records_of}
-use Rattle.cue.specs.Compile.{Compiled, compiled, compiled_to, compile_listed, left, output}
+use Rattle.cue.specs.Compile.{compiled, compiled_to, compile_listed, left, output}
 use Rattle.cue.specs.declared.CompileAnswer.{CompileAnswer}
 use Rattle.cue.proofs.CompileLaws.{accepted-list, answers-alike, outputs-alike, room-beyond, refusal_changes_nothing}
 use Rattle.cue.proofs.CompileLaws.{accepted_exactly, output-at_front}

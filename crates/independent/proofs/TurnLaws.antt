@@ -12,7 +12,6 @@ use Rattle.lbp16.specs.declared.pointer.Pointers.{Pointers}
 use Rattle.packet.specs.Bytes.{number, bytes_of}
 use Rattle.packet.specs.Step.{Step, store_after, values_read}
 use Rattle.packet.specs.Command.{limit}
-use Rattle.packet.specs.Judge.{accepted}
 use Rattle.packet.proofs.StoreLaws.{length-after}
 use Rattle.card.specs.Run.{bad_state, unlock_cell, count_cell, cleared, bytes_of_count, counted, outcome}
 use Rattle.card.proofs.RunLaws.{length-cleared, length-counted, good-state, state-again, run_accepted, count-on}

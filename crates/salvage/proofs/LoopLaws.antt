@@ -7,7 +7,7 @@ use native.Mathlib.Nat.{add-zero, zero-add, add_assoc}
 use lib.ListN.{length, take, drop, length-append, length-drop, drop_of_length-le}
 use lib.Seq.{drop-drop}
 use Rattle.packet.proofs.SliceLaws.{tail-whole}
-use Rattle.salvage.specs.Salvage.{Stretch, kept, skipped, scan, scan_from, bytes_of_kept, log_from, kept_count, entry_count, counted, entries}
+use Rattle.salvage.specs.Salvage.{Stretch, kept, skipped, scan, scan_from, bytes_of_kept, log_from, kept_count, entry_count, counted}
 use Rattle.salvage.specs.Inside.{first_span, span_of, tally, record_part, entry_part, Roomy}
 use Rattle.salvage.specs.declared.scan.Span.{Span}
 use Rattle.salvage.specs.declared.scan.Counts.{Counts}

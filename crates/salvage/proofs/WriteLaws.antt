@@ -8,7 +8,7 @@ use native.Mathlib.Numerals.{add-one}
 use lib.ListN.{length, take, drop, set, length-append, length-drop}
 use lib.Seq.{sets, sets-eq, drop-drop, take-append_seam, drop-append-add, length-take-le}
 use Rattle.packet.proofs.SliceLaws.{tail-whole}
-use Rattle.salvage.specs.Salvage.{Stretch, kept, scan, bytes_of_kept, log_from, entry_count, counted, output, logged, entries}
+use Rattle.salvage.specs.Salvage.{Stretch, scan, bytes_of_kept, log_from, entry_count, counted, output, logged, entries}
 use Rattle.salvage.specs.Inside.{first_span, tally, record_part, entry_part, Ready}
 use Rattle.salvage.specs.declared.scan.Span.{Span}
 use Rattle.salvage.specs.declared.scan.Counts.{Counts}

@@ -1,4 +1,3 @@
-use borrow.Author.Rules.{rules}
 use Rattle.cue.specs.Compile.{compile_listed, left}
 use Rattle.cue.proofs.Demand3.{demand3-of}
 use Rattle.cue.proofs.AnswerLaws.{turned-away, too_small, may_write, all-written}

@@ -1,10 +1,6 @@
 use Rattle.cue_text.specs.declared.TextAnswer.{TextAnswer}
 use Rattle.cue_text.specs.Assembled.{text_listed, left}
 use Rattle.cue_text.proofs.AssembleLaws.{answer-refused, good, answer-small, answer-whole, lent_none, shown}
-use borrow.Author.Rules.{rules}
-use Rattle.cue_text.proofs.assemble.Reads as reads
-use Rattle.cue_text.proofs.assemble.Lts as lts
-use Rattle.cue_text.proofs.walk.walk.Reads as walk-reads
 use Rattle.cue_text.proofs.assemble.Goals as goal
 
 -- a lemma's facts, as the clauses have names

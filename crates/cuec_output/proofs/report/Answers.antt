@@ -1,6 +1,5 @@
 use native.Mathlib.Omega.{arith}
 use Rattle.cuec_output.proofs.ReportLaws.{too_long-reported, output-reported, refusal-reported}
-use borrow.Author.Rules.{rules}
 use Rattle.cuec_output.proofs.report.Goals as goal
 
 pub returns-then-input-gt-MOST : goal.returns-then-input-gt-MOST

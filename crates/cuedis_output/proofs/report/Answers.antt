@@ -2,7 +2,6 @@ use native.Mathlib.Omega.{arith}
 use Rattle.text.specs.Number.{ascii}
 use Rattle.cuedis_output.specs.Report.{usage_line}
 use Rattle.cuedis_output.proofs.ReportLaws.{usage_reported, too_long-reported, text-reported, refusal-reported}
-use borrow.Author.Rules.{rules}
 use Rattle.cuedis_output.proofs.report.Goals as goal
 
 pub returns-then-words-ne1 : goal.returns-then-words-ne1

@@ -1,6 +1,5 @@
 use native.Mathlib.Omega.{arith}
 use Rattle.cuefix_output.proofs.AccountLaws.{usage_answered, list-too_long, log-too_long, list-answered, log-answered}
-use borrow.Author.Rules.{rules}
 use Rattle.cuefix_output.proofs.answer.Goals as goal
 
 pub returns-then-input-gt-MOST : goal.returns-then-input-gt-MOST

@@ -1,6 +1,5 @@
 use Rattle.text.specs.Number.{ascii}
 use Rattle.cuefix_output.specs.Account.{is_log}
-use borrow.Author.Rules.{rules}
 use Rattle.cuefix_output.proofs.is_log.Goals as goal
 
 pub returns : goal.returns

@@ -1,5 +1,4 @@
 use Rattle.cuefix_output.specs.Account.{most_read}
-use borrow.Author.Rules.{rules}
 use Rattle.cuefix_output.proofs.most_read.Goals as goal
 
 pub returns-in-Usage : goal.returns-in-Usage

@@ -1,6 +1,5 @@
 use borrow.Author.Tests.{eq-eqb, ne_eqb}
 use Rattle.cuefix_output.specs.Account.{requested}
-use borrow.Author.Rules.{rules}
 use Rattle.cuefix_output.proofs.request_of.Goals as goal
 
 pub returns-then-count-eq1 : goal.returns-then-count-eq1

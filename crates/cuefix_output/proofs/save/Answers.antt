@@ -1,6 +1,5 @@
 use Rattle.salvage.proofs.SalvageLaws.{parts}
 use Rattle.cuefix_output.proofs.AccountLaws.{list-saved}
-use borrow.Author.Rules.{rules}
 use Rattle.cuefix_output.proofs.save.Goals as goal
 
 pub returns : goal.returns

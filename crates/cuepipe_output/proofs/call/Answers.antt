@@ -2,7 +2,6 @@ use mathlib.Core.Path.{refl}
 use native.Mathlib.Omega.{arith}
 use Rattle.parts.proofs.FitLaws.{answer-taken, answer-written, answer-front}
 use Rattle.cuepipe_output.proofs.FeedLaws.{packet-said, packet-short, refusal-said, refusal-short}
-use borrow.Author.Rules.{rules}
 use Rattle.cuepipe_output.proofs.call.Goals as goal
 
 -- a lemma's facts, as the clauses have names

@@ -1,6 +1,5 @@
 use native.Mathlib.Omega.{arith}
 use Rattle.cuepipe_output.proofs.FeedLaws.{fed-last, fed-some}
-use borrow.Author.Rules.{rules}
 use Rattle.cuepipe_output.proofs.feed.Goals as goal
 
 pub returns-then-part-eq0 : goal.returns-then-part-eq0

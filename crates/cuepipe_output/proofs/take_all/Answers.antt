@@ -1,7 +1,7 @@
-use mathlib.Core.Path.{◌≡◌, refl}
+use mathlib.Core.Path.{refl}
 use native.Mathlib.Omega.{arith}
-use lib.ListN.{length, length-take, length-drop}
-use Rattle.cuepipe_output.proofs.FeedLaws.{Feeding, feeding_first, feeding_last, feeding_stops, feeding_bound, feeding_next, goes-taken}
+use lib.ListN.{length-take, length-drop}
+use Rattle.cuepipe_output.proofs.FeedLaws.{feeding_first, feeding_last, feeding_stops, feeding_bound, feeding_next, goes-taken}
 use borrow.Author.Rules.{rules}
 use Rattle.cuepipe_output.proofs.take_all.Goals as goal
 

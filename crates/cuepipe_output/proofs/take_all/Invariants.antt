@@ -1,8 +1,6 @@
-use mathlib.Core.Path.{◌≡◌, refl}
-use native.Mathlib.Omega.{arith}
-use lib.ListN.{length, length-take, length-drop}
-use Rattle.cuepipe_output.proofs.FeedLaws.{Feeding, feeding_first, feeding_last, feeding_stops, feeding_bound, feeding_next, goes-taken}
-use borrow.Author.Rules.{rules}
+use mathlib.Core.Path.{◌≡◌}
+use lib.ListN.{length}
+use Rattle.cuepipe_output.proofs.FeedLaws.{Feeding}
 use Rattle.cuepipe_output.proofs.take_all.Given as goal
 
 abbrev pub invariant-loop-rest : goal.invariant-loop-rest

@@ -1,6 +1,5 @@
 use native.Mathlib.Omega.{arith}
 use Rattle.cuetight_output.proofs.ReportLaws.{too_long-reported, packets-reported, refusal-reported}
-use borrow.Author.Rules.{rules}
 use Rattle.cuetight_output.proofs.report.Goals as goal
 
 pub returns-then-input-gt-MOST : goal.returns-then-input-gt-MOST

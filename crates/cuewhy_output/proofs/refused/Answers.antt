@@ -2,7 +2,6 @@ use native.Mathlib.Omega.{arith}
 use Rattle.text.specs.Number.{ascii}
 use Rattle.text.proofs.RoomLaws.{put_then}
 use Rattle.cuewhy_output.specs.Wording.{refused_text}
-use borrow.Author.Rules.{rules}
 use Rattle.cuewhy_output.proofs.refused.Goals as goal
 
 pub returns : goal.returns

@@ -1,4 +1,3 @@
-use borrow.Author.Rules.{rules}
 use Rattle.independent.proofs.AnswerLaws.{compared_is}
 use Rattle.independent.proofs.compare.Goals as goal
 

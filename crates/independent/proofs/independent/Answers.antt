@@ -1,4 +1,3 @@
-use borrow.Author.Rules.{rules}
 use mathlib.Core.Path.{refl}
 use Rattle.independent.specs.Independent.{independence_listed}
 use Rattle.independent.proofs.AnswerLaws.{accepted_if, first-refused, second-refused, fresh_marks, answered}

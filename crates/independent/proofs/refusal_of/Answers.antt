@@ -1,4 +1,3 @@
-use borrow.Author.Rules.{rules}
 use Rattle.cue.specs.Compile.{compile_listed}
 use Rattle.independent.proofs.WalkLaws.{accepted-refusal, refused-refusal}
 use Rattle.independent.proofs.refusal_of.Goals as goal

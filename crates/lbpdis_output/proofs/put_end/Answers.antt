@@ -1,4 +1,3 @@
-use borrow.Author.Rules.{rules}
 use Rattle.text.specs.Number.{ascii}
 use Rattle.lbpdis_output.specs.Said.{end_line}
 use Rattle.lbpdis_output.proofs.put_end.Goals as goal

@@ -1,4 +1,3 @@
-use borrow.Author.Rules.{rules}
 use borrow.Author.Tests.{eq-eqb, ne_eqb}
 use Rattle.text.specs.Number.{ascii}
 use Rattle.lbpdis_output.specs.Said.{unmarked_line}

@@ -2,7 +2,6 @@ use Prim.Native.Nat.{◌≤◌}
 use native.Mathlib.Omega.{arith}
 use Rattle.lbp16.proofs.SpaceLaws.{element_nonzero, element_le}
 use Rattle.list_reason.proofs.CauseLaws.{element-first}
-use borrow.Author.Rules.{rules}
 use Rattle.list_reason.proofs.element_cause.Goals as goal
 
 pub overflow_add-address : goal.overflow_add-address

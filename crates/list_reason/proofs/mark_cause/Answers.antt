@@ -1,7 +1,6 @@
 use Rattle.packet.specs.Rules.{first}
 use Rattle.cue.specs.Records.{mark_at, record_kind}
 use Rattle.list_reason.specs.ListReason.{mark_causes}
-use borrow.Author.Rules.{rules}
 use Rattle.list_reason.proofs.mark_cause.Goals as goal
 
 pub returns : goal.returns

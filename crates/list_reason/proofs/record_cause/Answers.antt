@@ -1,5 +1,4 @@
 use Rattle.list_reason.proofs.CauseLaws.{record_first}
-use borrow.Author.Rules.{rules}
 use Rattle.list_reason.proofs.record_cause.Goals as goal
 
 pub returns : goal.returns

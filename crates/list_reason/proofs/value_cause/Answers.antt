@@ -1,6 +1,5 @@
 use lib.ListN.{get_or-eq_default}
 use Rattle.list_reason.proofs.CauseLaws.{value-spare, value-wide}
-use borrow.Author.Rules.{rules}
 use Rattle.list_reason.proofs.value_cause.Goals as goal
 
 pub returns-then-rest-le3 : goal.returns-then-rest-le3

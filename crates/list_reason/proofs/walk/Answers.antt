@@ -2,7 +2,7 @@ use borrow.Author.Rules.{rules}
 use Prim.Native.Nat.{◌≤◌}
 use native.Mathlib.Omega.{arith}
 use lib.ListN.{length}
-use Rattle.list_reason.proofs.ReachLaws.{Going, going-first, rest-shorter, going-refused, going-ended, going-whole, going-shorter, going_next}
+use Rattle.list_reason.proofs.ReachLaws.{going-first, rest-shorter, going-refused, going-ended, going-whole, going-shorter, going_next}
 use Rattle.list_reason.proofs.walk.Goals as goal
 
 pub loop-rest-init : goal.loop-rest-init

@@ -1,8 +1,5 @@
-use borrow.Author.Rules.{rules}
-use Prim.Native.Nat.{◌≤◌}
-use native.Mathlib.Omega.{arith}
 use lib.ListN.{length}
-use Rattle.list_reason.proofs.ReachLaws.{Going, going-first, rest-shorter, going-refused, going-ended, going-whole, going-shorter, going_next}
+use Rattle.list_reason.proofs.ReachLaws.{Going}
 use Rattle.list_reason.proofs.walk.Given as goal
 
 abbrev pub invariant-loop-rest : goal.invariant-loop-rest

@@ -1,5 +1,4 @@
 use Rattle.list_reason.proofs.WhyLaws.{walk-good, walk-bad, walk-within, told}
-use borrow.Author.Rules.{rules}
 use Rattle.list_reason.proofs.why.Goals as goal
 
 -- a lemma's facts, as the clauses have names

@@ -1,7 +1,6 @@
 use native.Mathlib.Omega.{arith}
 use borrow.Author.Tests.{not-true, not-false}
 use Rattle.list_text.proofs.WriteLaws.{read-bytes, write-four, write_two}
-use borrow.Author.Rules.{rules}
 use Rattle.list_text.proofs.line_bytes.Goals as goal
 
 pub returns-then-not-r : goal.returns-then-not-r

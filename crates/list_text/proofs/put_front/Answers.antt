@@ -2,7 +2,6 @@ use mathlib.Core.Path.{◌∙◌}
 use Rattle.text.specs.Number.{ascii}
 use Rattle.text.proofs.RoomLaws.{put_then}
 use Rattle.list_text.proofs.WriteLaws.{kind-word_is}
-use borrow.Author.Rules.{rules}
 use Rattle.list_text.proofs.put_front.Goals as goal
 
 pub returns : goal.returns

@@ -1,7 +1,6 @@
 use Rattle.text.specs.Number.{ascii}
 use Rattle.text.proofs.RoomLaws.{put_then}
 use Rattle.list_text.proofs.WriteLaws.{read-line_is, write-line_is}
-use borrow.Author.Rules.{rules}
 use Rattle.list_text.proofs.put_line.Goals as goal
 
 pub put_value-at-requires : goal.put_value-at-requires

@@ -1,8 +1,7 @@
-use borrow.Author.Rules.{rules}
 use Prim.Native.Nat.{◌≤◌}
 use native.Mathlib.Omega.{arith}
 use lib.ListN.{length, length-take, length-drop}
-use Rattle.list_text.proofs.WriteLaws.{Putting, putting_first, putting_last, putting_there, putting_whole, putting_some, putting_next}
+use Rattle.list_text.proofs.WriteLaws.{putting_first, putting_last, putting_there, putting_whole, putting_some, putting_next}
 use Rattle.list_text.proofs.put_lines.Goals as goal
 
 pub loop-rest-init : goal.loop-rest-init

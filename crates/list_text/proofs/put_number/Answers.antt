@@ -1,7 +1,6 @@
 use Rattle.text.specs.Number.{ascii}
 use Rattle.text.proofs.RoomLaws.{put_then}
 use Rattle.list_text.specs.Written.{hex_word}
-use borrow.Author.Rules.{rules}
 use Rattle.list_text.proofs.put_number.Goals as goal
 
 pub returns : goal.returns

@@ -1,5 +1,4 @@
 use Rattle.list_text.proofs.WriteLaws.{value-four, value-two}
-use borrow.Author.Rules.{rules}
 use Rattle.list_text.proofs.put_value.Goals as goal
 
 pub returns-then-space-eq0 : goal.returns-then-space-eq0

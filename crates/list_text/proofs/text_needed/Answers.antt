@@ -1,9 +1,8 @@
-use borrow.Author.Rules.{rules}
 use Prim.Native.Nat.{◌≤◌}
 use native.Mathlib.Omega.{arith}
 use lib.ListN.{length, length-take, length-drop}
 use Rattle.cue_text.specs.Assembled.{text_listed}
-use Rattle.list_text.proofs.WriteLaws.{Counting, counting-first, counting-last, counting-refused, counting-whole, counting-some, counting-next}
+use Rattle.list_text.proofs.WriteLaws.{counting-first, counting-last, counting-refused, counting-whole, counting-some, counting-next}
 use Rattle.list_text.proofs.text_needed.Goals as goal
 
 pub loop-rest-init : goal.loop-rest-init

@@ -1,9 +1,5 @@
-use borrow.Author.Rules.{rules}
-use Prim.Native.Nat.{◌≤◌}
-use native.Mathlib.Omega.{arith}
-use lib.ListN.{length, length-take, length-drop}
-use Rattle.cue_text.specs.Assembled.{text_listed}
-use Rattle.list_text.proofs.WriteLaws.{Counting, counting-first, counting-last, counting-refused, counting-whole, counting-some, counting-next}
+use lib.ListN.{length}
+use Rattle.list_text.proofs.WriteLaws.{Counting}
 use Rattle.list_text.proofs.text_needed.Given as goal
 
 abbrev pub invariant-loop-rest : goal.invariant-loop-rest

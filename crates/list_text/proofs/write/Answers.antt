@@ -1,5 +1,4 @@
 use mathlib.Core.List.{[]}
-use borrow.Author.Rules.{rules}
 use Rattle.cue_text.specs.Assembled.{text_listed, left}
 use Rattle.list_text.proofs.WriteLaws.{turned-away, too_small, may_write, all-written, same-written}
 use Rattle.list_text.proofs.write.Goals as goal

@@ -3,7 +3,6 @@ use native.Mathlib.Omega.{arith}
 use Rattle.parts.proofs.SingleLaws.{one-test, single_taken, single_still}
 use Rattle.parts.proofs.Promise.{promise}
 use Rattle.parts.proofs.CallLaws.{no_room, part-is}
-use borrow.Author.Rules.{rules}
 use Rattle.parts.proofs.compile_part.Goals as goal
 
 -- a lemma's facts, as the clauses have names

@@ -1,7 +1,6 @@
 use mathlib.Core.Path.{sym}
 use Rattle.salvage.specs.Salvage.{salvage_listed}
 use Rattle.salvage.proofs.SalvageLaws.{small-room, ready, too_few, all-written}
-use borrow.Author.Rules.{rules}
 use Rattle.salvage.proofs.salvage.Goals as goal
 
 pub returns-then-out-list : goal.returns-then-out-list

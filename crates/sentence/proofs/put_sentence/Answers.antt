@@ -2,7 +2,6 @@ use mathlib.Core.Path.{refl}
 use Rattle.text.specs.Number.{ascii, digit}
 use Rattle.sentence.specs.Sentence.{sentences}
 use Rattle.sentence.specs.Inside.{row_of, rows_of}
-use borrow.Author.Rules.{rules}
 use Rattle.sentence.proofs.put_sentence.Goals as goal
 
 pub say-requires : goal.say-requires

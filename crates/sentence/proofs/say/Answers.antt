@@ -1,6 +1,5 @@
 use Rattle.text.specs.Number.{ascii}
 use Rattle.sentence.specs.Sentence.{no_meaning}
-use borrow.Author.Rules.{rules}
 use Rattle.sentence.proofs.say.Goals as goal
 
 pub returns : goal.returns

@@ -1,9 +1,8 @@
-use Prim.Native.Nat.{◌+◌, ◌-◌, ◌≤◌}
+use Prim.Native.Nat.{◌+◌, ◌≤◌}
 use mathlib.Core.Path.{sym, ◌∙◌}
 use native.Mathlib.Omega.{arith}
-use borrow.Author.Rules.{rules}
 use lib.ListN.{length}
-use Rattle.sentence.proofs.TableLaws.{Seeking, seeking_first, seeking_none, seeking_next, row-length, row-said, next-within}
+use Rattle.sentence.proofs.TableLaws.{seeking_first, seeking_none, seeking_next, row-length, row-said, next-within}
 use Rattle.sentence.proofs.sentence_at.Goals as goal
 
 pub loop-at-init : goal.loop-at-init

@@ -2,7 +2,6 @@ use native.Mathlib.Omega.{arith}
 use mathlib.Core.Path.{◌∙◌}
 use Rattle.text.proofs.RoomLaws.{put_front}
 use Rattle.showcheck_output.specs.Findings.{said}
-use borrow.Author.Rules.{rules}
 use Rattle.showcheck_output.proofs.findings.Goals as goal
 
 pub returns : goal.returns

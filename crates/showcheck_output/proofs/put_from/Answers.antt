@@ -1,6 +1,5 @@
 use native.Mathlib.Omega.{arith}
 use Rattle.showcheck_output.proofs.FindingLaws.{becomes}
-use borrow.Author.Rules.{rules}
 use Rattle.showcheck_output.proofs.put_from.Goals as goal
 
 pub returns : goal.returns

@@ -1,7 +1,6 @@
 use native.Mathlib.Omega.{arith}
 use Rattle.text.specs.Number.{ascii}
 use Rattle.showcheck_output.specs.Input.{pcapng_text, input_text}
-use borrow.Author.Rules.{rules}
 use Rattle.showcheck_output.proofs.put_input.Goals as goal
 
 -- a lemma's facts, as the clauses have names

@@ -1,5 +1,4 @@
 use Rattle.showcheck_output.proofs.FindingLaws.{judged-is}
-use borrow.Author.Rules.{rules}
 use Rattle.showcheck_output.proofs.put_judged.Goals as goal
 
 pub returns : goal.returns

@@ -2,7 +2,6 @@ use native.Mathlib.Omega.{arith}
 use Rattle.text.specs.Number.{ascii}
 use borrow.Author.Tests.{eq-eqb, ne_eqb}
 use Rattle.showcheck_output.specs.Given.{pointed_text}
-use borrow.Author.Rules.{rules}
 use Rattle.showcheck_output.proofs.put_pointed.Goals as goal
 
 -- a lemma's facts, as the clauses have names

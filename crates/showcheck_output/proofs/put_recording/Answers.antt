@@ -3,7 +3,6 @@ use Rattle.text.specs.Number.{ascii}
 use borrow.Author.Tests.{lt-ltb, le-ltb}
 use Rattle.text.specs.Line.{too_long_line}
 use Rattle.showcheck_output.specs.Findings.{recording_text}
-use borrow.Author.Rules.{rules}
 use Rattle.showcheck_output.proofs.put_recording.Goals as goal
 
 -- a lemma's facts, as the clauses have names

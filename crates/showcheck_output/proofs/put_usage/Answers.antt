@@ -1,7 +1,6 @@
 use Rattle.text.specs.Number.{ascii}
 use Rattle.text.proofs.RoomLaws.{put_then}
 use Rattle.showcheck_output.specs.Given.{usage_text}
-use borrow.Author.Rules.{rules}
 use Rattle.showcheck_output.proofs.put_usage.Goals as goal
 
 pub returns : goal.returns

@@ -1,7 +1,6 @@
 use native.Mathlib.Omega.{arith}
 use mathlib.Core.Path.{◌∙◌}
 use Rattle.text.proofs.RoomLaws.{put_front}
-use borrow.Author.Rules.{rules}
 use Rattle.showcheck_output.proofs.whole.Goals as goal
 
 pub returns : goal.returns

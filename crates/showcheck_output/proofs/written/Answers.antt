@@ -1,7 +1,6 @@
 use native.Mathlib.Omega.{arith}
 use Rattle.text.specs.Number.{ascii}
 use Rattle.showcheck_output.specs.Given.{usage_text, whole_text}
-use borrow.Author.Rules.{rules}
 use Rattle.showcheck_output.proofs.written.Goals as goal
 
 -- a lemma's facts, as the clauses have names

@@ -1,7 +1,6 @@
 use mathlib.Core.Path.{sym, ◌∙◌}
 use Rattle.text.specs.Number.{ascii}
 use Rattle.space_text.proofs.SpaceTextLaws.{space-numbered, space-named}
-use borrow.Author.Rules.{rules}
 use Rattle.space_text.proofs.put_space.Goals as goal
 
 pub returns-then-is_absent : goal.returns-then-is_absent

@@ -1,7 +1,6 @@
 use mathlib.Core.Path.{◌∙◌}
 use Rattle.text.specs.Number.{ascii}
 use Rattle.space_text.proofs.SpaceTextLaws.{space-word_is}
-use borrow.Author.Rules.{rules}
 use Rattle.space_text.proofs.put_word.Goals as goal
 
 pub returns : goal.returns

@@ -1,7 +1,6 @@
-use Prim.Native.Nat.{◌-◌}
 use native.Mathlib.Omega.{arith}
-use lib.ListN.{length, length-set}
-use Rattle.spi.proofs.ClearLaws.{Clearing, clearing_starts, clearing_next, clearing_ends}
+use lib.ListN.{length-set}
+use Rattle.spi.proofs.ClearLaws.{clearing_starts, clearing_next, clearing_ends}
 use Rattle.spi.proofs.clear.Goals as goal
 
 pub loop-i-init : goal.loop-i-init

@@ -1,7 +1,6 @@
 use Prim.Native.Nat.{◌-◌}
-use native.Mathlib.Omega.{arith}
-use lib.ListN.{length, length-set}
-use Rattle.spi.proofs.ClearLaws.{Clearing, clearing_starts, clearing_next, clearing_ends}
+use lib.ListN.{length}
+use Rattle.spi.proofs.ClearLaws.{Clearing}
 use Rattle.spi.proofs.clear.Given as goal
 
 abbrev pub invariant-loop-i : goal.invariant-loop-i

@@ -1,4 +1,3 @@
-use borrow.Author.Rules.{rules}
 use mathlib.Core.Path.{sym}
 use Rattle.spi.proofs.SpiLaws.{word_none, word_first}
 use Rattle.spi.proofs.first_word.Goals as goal

@@ -1,4 +1,3 @@
-use borrow.Author.Rules.{rules}
 use mathlib.Core.Path.{refl}
 use Rattle.spi.specs.Spi.{header_of}
 use Rattle.spi.proofs.header_of.Goals as goal

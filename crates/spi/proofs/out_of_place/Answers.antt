@@ -1,4 +1,3 @@
-use borrow.Author.Rules.{rules}
 use Rattle.packet.specs.Rules.{misaligned}
 use Rattle.lbp16.specs.Space.{row}
 use Rattle.spi.proofs.SpiLaws.{past_quick}

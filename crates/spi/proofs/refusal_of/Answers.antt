@@ -1,4 +1,3 @@
-use borrow.Author.Rules.{rules}
 use Rattle.packet.specs.Rules.{first}
 use Rattle.spi.specs.Spi.{burst_refusals}
 use Rattle.spi.proofs.refusal_of.Goals as goal

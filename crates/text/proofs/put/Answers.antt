@@ -1,10 +1,7 @@
-use Prim.Native.Nat.{◌+◌, ◌-◌, ◌≤◌}
-use mathlib.Core.Path.{◌≡◌, refl, ◌∙◌}
+use mathlib.Core.Path.{refl, ◌∙◌}
 use native.Mathlib.Omega.{arith}
 use native.Mathlib.Nat.{add-zero}
-use borrow.Author.Rules.{rules}
-use lib.ListN.{length, drop, length-set}
-use Rattle.text.specs.Room.{put_at}
+use lib.ListN.{length-set}
 use Rattle.text.proofs.RoomLaws.{put-least, put_step, put-end}
 use Rattle.text.proofs.put.Goals as goal
 

@@ -1,6 +1,5 @@
 use Rattle.text.specs.Number.{ascii}
 use Rattle.why_output.specs.Wording.{accepted_text}
-use borrow.Author.Rules.{rules}
 use Rattle.why_output.proofs.accepted.Goals as goal
 
 pub returns : goal.returns

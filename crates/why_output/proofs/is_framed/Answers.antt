@@ -1,6 +1,5 @@
 use mathlib.Core.Path.{refl}
 use Rattle.why_output.specs.Whole.{is_framed}
-use borrow.Author.Rules.{rules}
 use Rattle.why_output.proofs.is_framed.Goals as goal
 
 pub returns-in-End : goal.returns-in-End

@@ -1,6 +1,5 @@
 use Rattle.text.specs.Number.{ascii}
 use Rattle.text.proofs.RoomLaws.{put_then}
-use borrow.Author.Rules.{rules}
 use Rattle.why_output.proofs.put_bad.Goals as goal
 
 pub returns : goal.returns

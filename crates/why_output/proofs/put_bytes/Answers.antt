@@ -1,6 +1,5 @@
 use Rattle.text.proofs.RoomLaws.{put_then}
 use Rattle.why_output.specs.Whole.{bytes_text}
-use borrow.Author.Rules.{rules}
 use Rattle.why_output.proofs.put_bytes.Goals as goal
 
 pub returns-then-w : goal.returns-then-w

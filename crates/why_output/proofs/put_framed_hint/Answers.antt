@@ -1,6 +1,5 @@
 use Rattle.text.specs.Number.{ascii}
 use Rattle.why_output.specs.Whole.{framed_hint}
-use borrow.Author.Rules.{rules}
 use Rattle.why_output.proofs.put_framed_hint.Goals as goal
 
 pub returns : goal.returns

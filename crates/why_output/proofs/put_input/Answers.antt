@@ -1,6 +1,5 @@
 use Rattle.text.proofs.RoomLaws.{put_then}
 use Rattle.why_output.proofs.WholeLaws.{input_long, input_hex, input_bytes}
-use borrow.Author.Rules.{rules}
 use Rattle.why_output.proofs.put_input.Goals as goal
 
 pub returns-then-input-gt-MOST : goal.returns-then-input-gt-MOST

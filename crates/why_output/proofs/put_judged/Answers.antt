@@ -1,6 +1,5 @@
 use Rattle.text.proofs.RoomLaws.{put_then}
 use Rattle.why_output.specs.Wording.{said, judged_text}
-use borrow.Author.Rules.{rules}
 use Rattle.why_output.proofs.put_judged.Goals as goal
 
 pub returns : goal.returns

@@ -1,5 +1,4 @@
 use Rattle.why_output.specs.Wording.{said}
-use borrow.Author.Rules.{rules}
 use Rattle.why_output.proofs.put_said.Goals as goal
 
 pub returns : goal.returns

@@ -1,6 +1,5 @@
 use Rattle.text.specs.Number.{ascii}
 use Rattle.why_output.specs.Wording.{state_text}
-use borrow.Author.Rules.{rules}
 use Rattle.why_output.proofs.put_state.Goals as goal
 
 pub returns : goal.returns

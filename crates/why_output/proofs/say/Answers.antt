@@ -1,7 +1,6 @@
 use borrow.Author.Tests.{lt-ltb, le-ltb, eq-eqb, ne_eqb}
 use Rattle.why_output.specs.Wording.{said_of}
 use Rattle.text.proofs.RoomLaws.{put_then}
-use borrow.Author.Rules.{rules}
 use Rattle.why_output.proofs.say.Goals as goal
 
 pub returns-then-r-eq0 : goal.returns-then-r-eq0

@@ -1,6 +1,5 @@
 use Rattle.text.specs.Number.{ascii}
 use Rattle.why_output.proofs.WholeLaws.{whole_wrong, whole_fresh, whole-lost, whole-short, whole-given}
-use borrow.Author.Rules.{rules}
 use Rattle.why_output.proofs.written.Goals as goal
 
 pub returns-then-w : goal.returns-then-w

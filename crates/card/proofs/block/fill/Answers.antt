@@ -1,7 +1,6 @@
 use native.Mathlib.Omega.{arith}
 use mathlib.Core.Path.{◌∙◌}
 use Rattle.card.proofs.CopyLaws.{wide_le, narrow, four, one-within, one_same, moved_copy}
-use borrow.Author.Rules.{rules}
 use Rattle.card.proofs.block.fill.Goals as goal
 
 pub move_element-requires : goal.move_element-requires

@@ -1,7 +1,6 @@
-use mathlib.Core.Bool.{cond}
 use native.Mathlib.Omega.{arith}
 use mathlib.Core.Path.{refl}
-use Rattle.card.proofs.BlockLaws.{Moving, moving_now, moving_next, moving_end}
+use Rattle.card.proofs.BlockLaws.{moving_now, moving_next, moving_end}
 use Rattle.card.proofs.block.move_each.Goals as goal
 
 pub loop-n-init : goal.loop-n-init

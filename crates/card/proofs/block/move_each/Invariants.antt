@@ -1,7 +1,5 @@
 use mathlib.Core.Bool.{cond}
-use native.Mathlib.Omega.{arith}
-use mathlib.Core.Path.{refl}
-use Rattle.card.proofs.BlockLaws.{Moving, moving_now, moving_next, moving_end}
+use Rattle.card.proofs.BlockLaws.{Moving}
 use Rattle.card.proofs.block.move_each.Given as goal
 
 abbrev pub invariant-loop-n : goal.invariant-loop-n

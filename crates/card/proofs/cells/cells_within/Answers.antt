@@ -1,4 +1,3 @@
-use borrow.Author.Rules.{rules}
 use native.Mathlib.Omega.{arith}
 use Rattle.card.proofs.CellLaws.{within_none, not_within, sum_fits, within-last}
 use Rattle.card.proofs.cells.cells_within.Goals as goal

@@ -2,8 +2,8 @@ use Prim.Native.Nat.{ℕ, ◌-◌}
 use mathlib.Core.Path.{ap, ◌∙◌}
 use mathlib.Core.List.{◌∷◌}
 use native.Mathlib.Omega.{arith}
-use lib.ListN.{length, length-set}
-use Rattle.card.proofs.CellLaws.{Reading, reading_starts, reading-inside, reading-next, reading-ends}
+use lib.ListN.{length-set}
+use Rattle.card.proofs.CellLaws.{reading_starts, reading-inside, reading-next, reading-ends}
 use Rattle.card.specs.Cells.{cells}
 use Rattle.card.proofs.cells.fetch_cells.Goals as goal
 

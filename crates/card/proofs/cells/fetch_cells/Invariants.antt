@@ -1,10 +1,6 @@
-use Prim.Native.Nat.{ℕ, ◌-◌}
-use mathlib.Core.Path.{ap, ◌∙◌}
-use mathlib.Core.List.{◌∷◌}
-use native.Mathlib.Omega.{arith}
-use lib.ListN.{length, length-set}
-use Rattle.card.proofs.CellLaws.{Reading, reading_starts, reading-inside, reading-next, reading-ends}
-use Rattle.card.specs.Cells.{cells}
+use Prim.Native.Nat.{◌-◌}
+use lib.ListN.{length}
+use Rattle.card.proofs.CellLaws.{Reading}
 use Rattle.card.proofs.cells.fetch_cells.Given as goal
 
 abbrev pub invariant-loop-i : goal.invariant-loop-i

@@ -1,8 +1,5 @@
-use Prim.Native.Nat.{◌-◌}
 use native.Mathlib.Omega.{arith}
-use lib.ListN.{length}
-use Rattle.card.proofs.CellLaws.{Writing, writing_starts, writing-inside, writing-next, writing-ends}
-use borrow.Author.Rules.{rules}
+use Rattle.card.proofs.CellLaws.{writing_starts, writing-inside, writing-next, writing-ends}
 use Rattle.card.proofs.cells.store_cells.Goals as goal
 
 pub loop-i-init : goal.loop-i-init

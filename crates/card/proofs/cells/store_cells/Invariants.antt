@@ -1,8 +1,6 @@
 use Prim.Native.Nat.{◌-◌}
-use native.Mathlib.Omega.{arith}
 use lib.ListN.{length}
-use Rattle.card.proofs.CellLaws.{Writing, writing_starts, writing-inside, writing-next, writing-ends}
-use borrow.Author.Rules.{rules}
+use Rattle.card.proofs.CellLaws.{Writing}
 use Rattle.card.proofs.cells.store_cells.Given as goal
 
 abbrev pub invariant-loop-i : goal.invariant-loop-i

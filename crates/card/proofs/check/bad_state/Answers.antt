@@ -1,4 +1,3 @@
-use borrow.Author.Rules.{rules}
 use Rattle.card.specs.Run.{bad_state}
 use Rattle.card.proofs.check.bad_state.Goals as goal
 

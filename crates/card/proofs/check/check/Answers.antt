@@ -1,5 +1,4 @@
 use Rattle.card.proofs.AnswerLaws.{check-listed}
-use borrow.Author.Rules.{rules}
 use Rattle.card.proofs.check.check.Goals as goal
 
 pub returns : goal.returns

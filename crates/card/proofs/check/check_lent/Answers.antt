@@ -3,7 +3,6 @@ use borrow.Author.Tests.{eq-eqb}
 use Rattle.packet.specs.Verdict.{answer_to}
 use Rattle.card.specs.Run.{bad_state}
 use Rattle.card.proofs.AnswerLaws.{lent_other, lent-checked, check-state, check-long, check-judge}
-use borrow.Author.Rules.{rules}
 use Rattle.card.proofs.check.check_lent.Goals as goal
 
 pub returns-then-lent-ne8 : goal.returns-then-lent-ne8

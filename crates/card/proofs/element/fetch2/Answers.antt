@@ -1,4 +1,3 @@
-use borrow.Author.Rules.{rules}
 use native.Mathlib.Omega.{arith}
 use Rattle.packet.proofs.PairLaws.{pair-two}
 use Rattle.card.proofs.element.fetch2.Goals as goal

@@ -1,4 +1,3 @@
-use borrow.Author.Rules.{rules}
 use native.Mathlib.Omega.{arith}
 use Rattle.packet.specs.Bytes.{number}
 use Rattle.packet.proofs.PairLaws.{number-next, number-from}

@@ -1,12 +1,9 @@
-use borrow.Author.Rules.{rules}
 use native.Mathlib.Omega.{arith}
 use Prim.Native.Nat.{ℕ}
 use mathlib.Core.Path.{◌≡◌, refl}
-use mathlib.Core.List.{List}
 use mathlib.Core.Bool.{cond}
 use lib.ListN.{take, drop}
 use lib.Seq.{sets}
-use Rattle.packet.specs.Bytes.{number, bytes_of}
 use Rattle.card.proofs.ElementLaws.{moved}
 use Rattle.card.proofs.element.move_element.Goals as goal
 

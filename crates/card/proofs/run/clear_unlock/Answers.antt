@@ -1,4 +1,3 @@
-use borrow.Author.Rules.{rules}
 use Rattle.packet.specs.Bytes.{bytes_of}
 use Rattle.card.specs.Run.{cleared}
 use Rattle.card.proofs.run.clear_unlock.Goals as goal

@@ -1,4 +1,3 @@
-use borrow.Author.Rules.{rules}
 use mathlib.Core.Path.{refl, ◌∙◌}
 use Rattle.card.specs.Run.{counted, bytes_of_count}
 use Rattle.card.proofs.RunLaws.{count_modulo}

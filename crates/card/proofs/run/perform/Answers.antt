@@ -1,8 +1,7 @@
-use borrow.Author.Rules.{rules}
 use native.Mathlib.Omega.{arith}
 use mathlib.Core.Path.{sym, ◌∙◌}
-use lib.ListN.{length, length-take, length-drop}
-use Rattle.card.proofs.PerformLaws.{Doing, Here, doing-start, doing_end, doing-next, next, turn, count_small, length-store, length-reply}
+use lib.ListN.{length-take, length-drop}
+use Rattle.card.proofs.PerformLaws.{Here, doing-start, doing_end, doing-next, next, turn, count_small, length-store, length-reply}
 use Rattle.card.proofs.run.perform.Goals as goal
 
 -- the command, once it is found

@@ -1,8 +1,5 @@
-use borrow.Author.Rules.{rules}
-use native.Mathlib.Omega.{arith}
-use mathlib.Core.Path.{sym, ◌∙◌}
-use lib.ListN.{length, length-take, length-drop}
-use Rattle.card.proofs.PerformLaws.{Doing, Here, doing-start, doing_end, doing-next, next, turn, count_small, length-store, length-reply}
+use lib.ListN.{length}
+use Rattle.card.proofs.PerformLaws.{Doing}
 use Rattle.card.proofs.run.perform.Given as goal
 
 abbrev pub invariant-loop-rest : goal.invariant-loop-rest

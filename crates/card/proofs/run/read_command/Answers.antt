@@ -1,6 +1,5 @@
 use mathlib.Core.Path.{sym, ◌∙◌}
 use Rattle.card.proofs.CommandRunLaws.{plain-pointer, from_area, from-store, read_asked, read_done}
-use borrow.Author.Rules.{rules}
 use Rattle.card.proofs.run.read_command.Goals as goal
 
 pub read_span-requires : goal.read_span-requires

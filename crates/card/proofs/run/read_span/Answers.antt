@@ -1,4 +1,3 @@
-use borrow.Author.Rules.{rules}
 use mathlib.Core.Path.{◌∙◌}
 use Rattle.card.proofs.CopyLaws.{within-one, moved-one}
 use Rattle.card.proofs.run.read_span.Goals as goal

@@ -1,6 +1,5 @@
 use mathlib.Core.Path.{refl}
 use Rattle.card.proofs.AnswerLaws.{ran-listed, ran_work}
-use borrow.Author.Rules.{rules}
 use Rattle.card.proofs.run.run.Goals as goal
 
 pub returns : goal.returns

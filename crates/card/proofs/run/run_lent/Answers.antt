@@ -2,7 +2,6 @@ use mathlib.Core.Path.{refl, sym, ap, ◌∙◌}
 use Rattle.packet.specs.Verdict.{verdict_listed}
 use Rattle.card.specs.Run.{counted}
 use Rattle.card.proofs.AnswerLaws.{may_run_lent, other-room, run_refused, run_done, lent_work}
-use borrow.Author.Rules.{rules}
 use Rattle.card.proofs.run.run_lent.Goals as goal
 use Rattle.packet.specs.declared.judge.Verdict.TheVariants.{Accepted}
 

@@ -1,5 +1,4 @@
 use Rattle.card.proofs.CommandRunLaws.{span-is}
-use borrow.Author.Rules.{rules}
 use Rattle.card.proofs.run.span_of.Goals as goal
 
 pub returns : goal.returns

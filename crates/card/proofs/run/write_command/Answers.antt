@@ -1,7 +1,6 @@
 use mathlib.Core.Path.{◌∙◌}
 use Rattle.card.proofs.CommandRunLaws.{write-asked, write_done}
 use Rattle.card.proofs.CopyLaws.{within-one, moved-one}
-use borrow.Author.Rules.{rules}
 use Rattle.card.proofs.run.write_command.Goals as goal
 
 pub move_element-requires : goal.move_element-requires

@@ -1,4 +1,3 @@
-use borrow.Author.Rules.{rules}
 use Rattle.cue.proofs.WriteLaws.{put4_is}
 use Rattle.cue.proofs.emit.put4.Goals as goal
 

@@ -1,4 +1,3 @@
-use borrow.Author.Rules.{rules}
 use Rattle.cue.specs.Summary.{framed_at, bytes_of_mark}
 use Rattle.cue.proofs.emit.put_frame.Goals as goal
 

@@ -1,4 +1,3 @@
-use borrow.Author.Rules.{rules}
 use Rattle.cue.specs.Summary.{headed_at, bytes_of_header}
 use mathlib.Core.Path.{refl}
 use Rattle.cue.proofs.emit.put_head.Goals as goal

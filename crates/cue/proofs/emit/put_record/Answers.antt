@@ -1,4 +1,3 @@
-use borrow.Author.Rules.{rules}
 use Rattle.cue.proofs.WriteLaws.{wrote-is}
 use Rattle.cue.proofs.emit.put_record.Goals as goal
 

@@ -1,4 +1,3 @@
-use borrow.Author.Rules.{rules}
 use Rattle.cue.specs.Summary.{unlocked_at}
 use Rattle.cue.proofs.WriteLaws.{unlock-is}
 use native.Mathlib.Omega.{arith}

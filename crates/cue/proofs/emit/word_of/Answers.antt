@@ -1,4 +1,3 @@
-use borrow.Author.Rules.{rules}
 use Rattle.cue.proofs.WriteLaws.{word-is, word_not}
 use mathlib.Core.Path.{ap}
 use Rattle.cue.proofs.emit.word_of.Goals as goal

@@ -1,4 +1,3 @@
-use borrow.Author.Rules.{rules}
 use Rattle.cue.proofs.FrameLaws.{front-end, front-short, front-unmarked, front_cut, front-frame}
 use Rattle.cue.proofs.frame.frame_at.Goals as goal
 

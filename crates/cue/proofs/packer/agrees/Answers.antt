@@ -1,4 +1,3 @@
-use borrow.Author.Rules.{rules}
 use Rattle.cue.proofs.PackerLaws.{agrees_at}
 use Rattle.packet.proofs.ElementLaws.{scaled_le}
 use Rattle.lbp16.proofs.SpaceLaws.{element_le}

@@ -1,4 +1,3 @@
-use borrow.Author.Rules.{rules}
 use mathlib.Core.Path.{refl}
 use Rattle.cue.specs.Summary.{closed_by}
 use Rattle.cue.proofs.packer.closed.Goals as goal

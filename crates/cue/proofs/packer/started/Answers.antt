@@ -1,4 +1,3 @@
-use borrow.Author.Rules.{rules}
 use Rattle.cue.proofs.packer.started.Goals as goal
 
 pub returns : goal.returns

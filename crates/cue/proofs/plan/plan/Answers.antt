@@ -3,7 +3,7 @@ use native.Mathlib.Omega.{arith}
 use lib.ListN.{length}
 use mathlib.Core.Path.{sym, ◌∙◌}
 use Rattle.cue.proofs.ReadingLaws.{front-there}
-use Rattle.cue.proofs.LoopLaws.{Holding, held_first, roomy, plan-refused, plan-ended, bytes_whole, held-again, shorter}
+use Rattle.cue.proofs.LoopLaws.{held_first, roomy, plan-refused, plan-ended, bytes_whole, held-again, shorter}
 use Rattle.cue.specs.Compile.{compile_listed}
 use Prim.Native.Nat.{◌≤◌}
 use Rattle.cue.specs.Summary.{none}

@@ -1,4 +1,3 @@
-use borrow.Author.Rules.{rules}
 use Rattle.lbp16.proofs.SpaceLaws.{element_nonzero, element_le}
 use Rattle.cue.proofs.ReadingLaws.{bad-element_is}
 use native.Mathlib.Omega.{arith}

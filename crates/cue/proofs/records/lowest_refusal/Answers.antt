@@ -1,4 +1,3 @@
-use borrow.Author.Rules.{rules}
 use Rattle.cue.specs.Records.{mark_at}
 use Rattle.cue.proofs.ReadingLaws.{is_cut, refused_21, refused_22, refused-later}
 use Rattle.cue.proofs.records.lowest_refusal.Goals as goal

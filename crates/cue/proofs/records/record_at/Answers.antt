@@ -1,4 +1,3 @@
-use borrow.Author.Rules.{rules}
 use Rattle.cue.specs.Records.{record_at, mark_at}
 use Rattle.cue.proofs.records.record_at.Goals as goal
 

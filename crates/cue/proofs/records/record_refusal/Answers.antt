@@ -1,4 +1,3 @@
-use borrow.Author.Rules.{rules}
 use mathlib.Core.Path.{sym}
 use borrow.Author.Tests.{not-true}
 use Rattle.lbp16.proofs.BoolLaws.{and_true}

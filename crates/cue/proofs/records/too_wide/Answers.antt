@@ -1,4 +1,3 @@
-use borrow.Author.Rules.{rules}
 use Rattle.cue.proofs.ReadingLaws.{too_wide-is}
 use Rattle.cue.proofs.records.too_wide.Goals as goal
 

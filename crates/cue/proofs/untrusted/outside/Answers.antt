@@ -1,4 +1,3 @@
-use borrow.Author.Rules.{rules}
 use mathlib.Core.Path.{refl}
 use Rattle.cue.specs.Untrusted.{outside_tests}
 use Rattle.cue.proofs.untrusted.outside.Goals as goal

@@ -1,4 +1,3 @@
-use borrow.Author.Rules.{rules}
 use mathlib.Core.Path.{sym, ◌∙◌}
 use Rattle.cue.proofs.UntrustedLaws.{placed-within, put-kept, put_is}
 use Rattle.cue.proofs.untrusted.put.Goals as goal

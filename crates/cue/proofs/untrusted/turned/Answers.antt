@@ -1,4 +1,3 @@
-use borrow.Author.Rules.{rules}
 use mathlib.Core.Path.{sym, ◌∙◌}
 use Rattle.cue.proofs.UntrustedLaws.{roomy-within, turned-kept, turned-is}
 use Rattle.cue.proofs.untrusted.turned.Goals as goal

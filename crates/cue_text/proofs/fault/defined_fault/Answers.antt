@@ -1,8 +1,6 @@
 use mathlib.Core.Path.{◌∙◌}
 use mathlib.Core.Path.{refl, sym}
-use borrow.Author.Tests.{not-true, not-false}
 use Rattle.cue_text.specs.Fault.{defined_fault}
-use borrow.Author.Rules.{rules}
 use Rattle.cue_text.proofs.fault.defined_fault.Goals as goal
 
 pub returns-then-not-is_name : goal.returns-then-not-is_name

@@ -1,13 +1,11 @@
 use Prim.Native.Nat.{ℕ}
 use mathlib.Core.Path.{◌≡◌, refl, ◌∙◌}
-use mathlib.Core.List.{List, [], ◌∷◌}
+use mathlib.Core.List.{List}
 use mathlib.Core.Bool.{false}
-use native.Mathlib.Omega.{arith}
 use Rattle.cue_text.specs.Inside.{formed}
 use Rattle.cue_text.specs.Fault.{defines_name}
 use Rattle.cue_text.specs.declared.line.Shape.{Shape}
 use Rattle.cue_text.proofs.FaultLaws.{defines_as}
-use borrow.Author.Rules.{rules}
 use Rattle.cue_text.proofs.fault.defines_name.Goals as goal
 
 -- a line of another form defines no name

@@ -3,7 +3,6 @@ use Prim.Native.Nat.{◌≤◌}
 use native.Mathlib.Omega.{arith}
 use Rattle.cue_text.proofs.NumberLaws.{space-small, address-small}
 use Rattle.cue_text.proofs.FaultLaws.{absent_wrong, element_wrong}
-use borrow.Author.Rules.{rules}
 use Rattle.cue_text.proofs.fault.element_fault.Goals as goal
 
 pub overflow_cast-s : goal.overflow_cast-s

@@ -8,7 +8,6 @@ use Rattle.cue_text.specs.Inside.{formed, word_in}
 use Rattle.cue_text.specs.Fault.{form_fault, fault_of}
 use Rattle.cue_text.specs.declared.line.Shape.{Shape}
 use Rattle.cue_text.proofs.FaultLaws.{fault_as}
-use borrow.Author.Rules.{rules}
 use Rattle.cue_text.proofs.fault.fault_of.Goals as goal
 
 -- what is wrong with the form that the line has is wrong with the line

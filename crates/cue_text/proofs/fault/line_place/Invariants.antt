@@ -1,9 +1,5 @@
-use mathlib.Core.Path.{ap, ◌∙◌}
 use Prim.Native.Nat.{◌-◌}
-use native.Mathlib.Omega.{arith}
-use Rattle.cue_text.specs.Inside.{line_bytes}
-use Rattle.cue_text.proofs.FaultLaws.{Seeking, seek_first, more_within, seek_next, seek_last}
-use borrow.Author.Rules.{rules}
+use Rattle.cue_text.proofs.FaultLaws.{Seeking}
 use Rattle.cue_text.proofs.fault.line_place.Given as goal
 
 abbrev pub invariant-loop-k : goal.invariant-loop-k

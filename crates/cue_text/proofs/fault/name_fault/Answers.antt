@@ -3,7 +3,6 @@ use mathlib.Core.Path.{refl}
 use native.Mathlib.Omega.{arith}
 use borrow.Author.Tests.{eq-eqb, ne_eqb}
 use Rattle.cue_text.specs.Fault.{form_fault}
-use borrow.Author.Rules.{rules}
 use Rattle.cue_text.proofs.fault.name_fault.Goals as goal
 
 pub place_fault-requires : goal.place_fault-requires

@@ -2,7 +2,6 @@ use mathlib.Core.Path.{◌∙◌}
 use mathlib.Core.Path.{refl}
 use borrow.Author.Tests.{eq-eqb, ne_eqb}
 use Rattle.cue_text.specs.Fault.{form_fault}
-use borrow.Author.Rules.{rules}
 use Rattle.cue_text.proofs.fault.named_fault.Goals as goal
 
 pub returns-then-number-eq82 : goal.returns-then-number-eq82

@@ -1,7 +1,6 @@
 use mathlib.Core.Path.{◌∙◌}
 use native.Mathlib.Omega.{arith}
 use Rattle.cue_text.proofs.FaultLaws.{address_wrong, space_wrong}
-use borrow.Author.Rules.{rules}
 use Rattle.cue_text.proofs.fault.place_fault.Goals as goal
 
 pub overflow_add-i : goal.overflow_add-i

@@ -1,7 +1,6 @@
 use mathlib.Core.Path.{◌∙◌}
 use mathlib.Core.Path.{refl, sym}
 use Rattle.cue_text.specs.Fault.{used_fault}
-use borrow.Author.Rules.{rules}
 use Rattle.cue_text.proofs.fault.used_fault.Goals as goal
 
 pub returns-then-is_name : goal.returns-then-is_name

@@ -1,7 +1,6 @@
 use mathlib.Core.Path.{◌∙◌}
 use native.Mathlib.Omega.{arith}
 use Rattle.cue_text.proofs.FaultLaws.{value_wrong, place_wrong}
-use borrow.Author.Rules.{rules}
 use Rattle.cue_text.proofs.fault.value_fault.Goals as goal
 
 pub returns-then-s-a : goal.returns-then-s-a

@@ -1,7 +1,6 @@
 use mathlib.Core.Path.{◌∙◌}
 use Rattle.cue_text.specs.Fault.{fault_word}
 use Rattle.cue_text.proofs.FaultLaws.{word_held, fault-few}
-use borrow.Author.Rules.{rules}
 use Rattle.cue_text.proofs.fault.word_of.Goals as goal
 
 pub returns : goal.returns

@@ -2,14 +2,6 @@ use native.Mathlib.Omega.{arith}
 use Prim.Native.Nat.{◌≤◌}
 use Rattle.cue_text.proofs.NumberLaws.{space-small, address-small}
 use Rattle.cue_text.proofs.KnownLaws.{defined-place}
-use borrow.Author.Rules.{rules}
-use Rattle.cue_text.proofs.known.defined_at.Reads as reads
-use Rattle.cue_text.proofs.known.defined_at.Lts as lts
-use Rattle.cue_text.proofs.known.rest_at.Reads as rest-at-reads
-use Rattle.cue_text.proofs.number.address_of.Reads as address-of-reads
-use Rattle.cue_text.proofs.number.space_of.Reads as space-of-reads
-use Rattle.cue_text.proofs.word.part.Reads as part-reads
-use Rattle.cue_text.proofs.word.words_of.Reads as words-of-reads
 use Rattle.cue_text.proofs.known.defined_at.Goals as goal
 
 pub overflow_cast-result : goal.overflow_cast-result

@@ -1,10 +1,6 @@
 use mathlib.Core.Path.{refl}
 use Rattle.text.specs.Number.{ascii}
 use Rattle.cue_text.specs.Numbers.{is_keyword}
-use borrow.Author.Rules.{rules}
-use Rattle.cue_text.proofs.known.is_keyword.Reads as reads
-use Rattle.cue_text.proofs.known.is_keyword.Lts as lts
-use Rattle.text.proofs.find.same.Reads as same_Reads
 use Rattle.cue_text.proofs.known.is_keyword.Goals as goal
 
 pub returns : goal.returns

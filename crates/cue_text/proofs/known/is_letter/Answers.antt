@@ -1,7 +1,5 @@
 use mathlib.Core.Path.{refl}
 use Rattle.cue_text.specs.Numbers.{within, is_letter}
-use Rattle.cue_text.proofs.known.is_letter.Reads as reads
-use Rattle.cue_text.proofs.known.is_letter.Lts as lts
 use Rattle.cue_text.proofs.known.is_letter.Goals as goal
 
 pub returns : goal.returns

@@ -1,9 +1,5 @@
 use mathlib.Core.Path.{refl}
 use Rattle.cue_text.specs.Numbers.{within, is_name_byte}
-use borrow.Author.Rules.{rules}
-use Rattle.cue_text.proofs.known.is_name_byte.Reads as reads
-use Rattle.cue_text.proofs.known.is_name_byte.Lts as lts
-use Rattle.cue_text.proofs.known.is_letter.Reads as is-letter-reads
 use Rattle.cue_text.proofs.known.is_name_byte.Goals as goal
 
 pub returns : goal.returns

@@ -1,7 +1,6 @@
 use mathlib.Core.Path.{◌∙◌}
 use Rattle.cue_text.specs.Inside.{is_near}
 use Rattle.cue_text.proofs.KnownLaws.{near_facts, kept-taken, kept-left}
-use borrow.Author.Rules.{rules}
 use Rattle.cue_text.proofs.known.kept.Goals as goal
 
 pub kept_near-requires : goal.kept_near-requires

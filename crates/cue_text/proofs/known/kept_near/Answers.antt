@@ -1,6 +1,5 @@
 use mathlib.Core.Path.{refl}
 use Rattle.cue_text.specs.Inside.{kept_near}
-use borrow.Author.Rules.{rules}
 use Rattle.cue_text.proofs.known.kept_near.Goals as goal
 
 pub returns : goal.returns

@@ -3,11 +3,6 @@ use Prim.Native.Nat.{◌≤◌}
 use Rattle.cue_text.specs.Inside.{located}
 use Rattle.cue_text.proofs.NumberLaws.{space-small, address-small}
 use Rattle.cue_text.proofs.KnownLaws.{by_both, by-none}
-use borrow.Author.Rules.{rules}
-use Rattle.cue_text.proofs.known.place_by.Reads as reads
-use Rattle.cue_text.proofs.known.place_by.Lts as lts
-use Rattle.cue_text.proofs.number.address_of.Reads as address-of-reads
-use Rattle.cue_text.proofs.number.space_of.Reads as space-of-reads
 use Rattle.cue_text.proofs.known.place_by.Goals as goal
 
 pub overflow_cast-result : goal.overflow_cast-result

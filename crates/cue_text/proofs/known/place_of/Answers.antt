@@ -1,13 +1,8 @@
 use native.Mathlib.Omega.{arith}
 use borrow.Author.Rules.{rules}
-use Prim.Native.Nat.{◌-◌, ◌≤◌}
-use mathlib.Core.Path.{◌≡◌, refl, sym, ap, ◌∙◌}
-use lib.ListN.{length, drop}
-use Rattle.cue_text.specs.Text.{place_of}
-use Rattle.cue_text.specs.Inside.{located, names_at}
+use mathlib.Core.Path.{refl, sym, ap, ◌∙◌}
+use Rattle.cue_text.specs.Inside.{located}
 use Rattle.cue_text.proofs.KnownLaws.{name-here, name-next, name-none}
-use Rattle.cue_text.proofs.known.place_of.Reads as reads
-use Rattle.cue_text.proofs.known.place_of.Lts as lts
 use Rattle.cue_text.proofs.known.place_of.Goals as goal
 
 pub loop-i-init : goal.loop-i-init

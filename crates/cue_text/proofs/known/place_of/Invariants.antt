@@ -1,13 +1,8 @@
-use native.Mathlib.Omega.{arith}
-use borrow.Author.Rules.{rules}
 use Prim.Native.Nat.{◌-◌, ◌≤◌}
-use mathlib.Core.Path.{◌≡◌, refl, sym, ap, ◌∙◌}
+use mathlib.Core.Path.{◌≡◌}
 use lib.ListN.{length, drop}
 use Rattle.cue_text.specs.Text.{place_of}
-use Rattle.cue_text.specs.Inside.{located, names_at}
-use Rattle.cue_text.proofs.KnownLaws.{name-here, name-next, name-none}
-use Rattle.cue_text.proofs.known.place_of.Reads as reads
-use Rattle.cue_text.proofs.known.place_of.Lts as lts
+use Rattle.cue_text.specs.Inside.{names_at}
 use Rattle.cue_text.proofs.known.place_of.Given as goal
 
 abbrev pub invariant-loop-i : goal.invariant-loop-i

@@ -1,10 +1,6 @@
 use native.Mathlib.Omega.{arith}
 use mathlib.Core.Path.{◌∙◌}
 use Rattle.cue_text.proofs.KnownLaws.{letter_none, letter_first}
-use borrow.Author.Rules.{rules}
-use Rattle.cue_text.proofs.known.starts_with_letter.Reads as reads
-use Rattle.cue_text.proofs.known.starts_with_letter.Lts as lts
-use Rattle.cue_text.proofs.known.is_letter.Reads as is-letter-reads
 use Rattle.cue_text.proofs.known.starts_with_letter.Goals as goal
 
 pub returns-then-word-eq0 : goal.returns-then-word-eq0

@@ -1,10 +1,6 @@
 use mathlib.Core.Path.{refl}
 use Rattle.packet.specs.Bytes.{bytes_of}
 use Rattle.cue_text.specs.Inside.{ten_bytes}
-use borrow.Author.Rules.{rules}
-use Rattle.cue_text.proofs.line.bytes_of.Reads as reads
-use Rattle.cue_text.proofs.line.bytes_of.Lts as lts
-use Rattle.cue_text.proofs.line.mark_of.Reads as mark-of-reads
 use Rattle.cue_text.proofs.line.bytes_of.Goals as goal
 
 pub returns : goal.returns

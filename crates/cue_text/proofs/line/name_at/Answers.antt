@@ -6,13 +6,6 @@ use borrow.Author.Tests.{not-true, not-false}
 use Rattle.cue_text.specs.Text.{form_meaning}
 use Rattle.cue_text.specs.Inside.{meaning_of}
 use Rattle.cue_text.proofs.SaidLaws.{name-nowhere, name-bad, name-refused, name-defines, kept-defined, name-within}
-use borrow.Author.Rules.{rules}
-use Rattle.cue_text.proofs.line.name_at.Reads as reads
-use Rattle.cue_text.proofs.line.name_at.Lts as lts
-use Rattle.cue_text.proofs.known.bad_name.Reads as bad-name-reads
-use Rattle.cue_text.proofs.known.place_by.Reads as place-by-reads
-use Rattle.cue_text.proofs.line.refusal_of.Reads as refusal-of-reads
-use Rattle.cue_text.proofs.word.part.Reads as part-reads
 use Rattle.cue_text.proofs.line.name_at.Goals as goal
 
 pub returns-then-not-p : goal.returns-then-not-p

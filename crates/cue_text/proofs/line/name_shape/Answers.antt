@@ -1,8 +1,6 @@
 use mathlib.Core.Path.{refl}
 use borrow.Author.Tests.{eq-eqb, ne_eqb}
 use Rattle.cue_text.specs.Inside.{name_shape}
-use Rattle.cue_text.proofs.line.name_shape.Reads as reads
-use Rattle.cue_text.proofs.line.name_shape.Lts as lts
 use Rattle.cue_text.proofs.line.name_shape.Goals as goal
 
 pub returns-then-count-eq4 : goal.returns-then-count-eq4

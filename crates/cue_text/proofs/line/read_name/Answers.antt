@@ -2,12 +2,6 @@ use mathlib.Core.Path.{refl}
 use mathlib.Core.Path.{◌∙◌}
 use Rattle.cue_text.specs.Text.{form_meaning}
 use Rattle.cue_text.proofs.KnownLaws.{place_in_lem}
-use borrow.Author.Rules.{rules}
-use Rattle.cue_text.proofs.line.read_name.Reads as reads
-use Rattle.cue_text.proofs.line.read_name.Lts as lts
-use Rattle.cue_text.proofs.known.place_of.Reads as place-of-reads
-use Rattle.cue_text.proofs.line.read_said.Reads as read-said-reads
-use Rattle.cue_text.proofs.word.part.Reads as part-reads
 use Rattle.cue_text.proofs.line.read_name.Goals as goal
 
 pub returns : goal.returns

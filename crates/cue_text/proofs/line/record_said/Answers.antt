@@ -1,9 +1,5 @@
 use Rattle.cue_text.specs.Inside.{meaning_of}
 use Rattle.cue_text.proofs.SaidLaws.{record_refused, record_does}
-use borrow.Author.Rules.{rules}
-use Rattle.cue_text.proofs.line.record_said.Reads as reads
-use Rattle.cue_text.proofs.line.record_said.Lts as lts
-use Rattle.cue_text.proofs.line.refusal_of.Reads as refusal-of-reads
 use Rattle.cue_text.proofs.line.record_said.Goals as goal
 
 pub returns-then-number-ne0 : goal.returns-then-number-ne0

@@ -1,9 +1,8 @@
 use mathlib.Core.Path.{◌≡◌, refl, sym, ◌∙◌}
-use Rattle.cue_text.specs.Text.{Meaning, form_meaning, line_meaning}
+use Rattle.cue_text.specs.Text.{form_meaning, line_meaning}
 use Rattle.cue_text.specs.Inside.{meaning_of, formed, names_at, word_in, line_at}
 use Rattle.cue_text.specs.declared.line.Shape.{Shape}
 use Rattle.cue_text.proofs.SaidLaws.{line-here, said-line}
-use borrow.Author.Rules.{rules}
 use Rattle.cue_text.proofs.line.said_at.Goals as goal
 
 -- what is said of the form that the line has is said of the line

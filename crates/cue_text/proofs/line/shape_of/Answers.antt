@@ -2,13 +2,6 @@ use mathlib.Core.Path.{refl}
 use borrow.Author.Tests.{eq-eqb, ne_eqb}
 use Rattle.text.specs.Number.{ascii}
 use Rattle.cue_text.specs.Inside.{shape_of}
-use borrow.Author.Rules.{rules}
-use Rattle.cue_text.proofs.line.shape_of.Reads as reads
-use Rattle.cue_text.proofs.line.shape_of.Lts as lts
-use Rattle.cue_text.proofs.line.name_shape.Reads as name-shape-reads
-use Rattle.cue_text.proofs.line.read_shape.Reads as read-shape-reads
-use Rattle.cue_text.proofs.line.write_shape.Reads as write-shape-reads
-use Rattle.text.proofs.find.same.Reads as same_Reads
 use Rattle.cue_text.proofs.line.shape_of.Goals as goal
 
 pub returns-then-count-eq0 : goal.returns-then-count-eq0

@@ -3,13 +3,6 @@ use mathlib.Core.Path.{◌∙◌}
 use Rattle.cue_text.specs.Text.{form_meaning}
 use Rattle.cue_text.proofs.KnownLaws.{place_in_lem}
 use Rattle.cue_text.proofs.NumberLaws.{value_in_lem, value-small}
-use borrow.Author.Rules.{rules}
-use Rattle.cue_text.proofs.line.write_at.Reads as reads
-use Rattle.cue_text.proofs.line.write_at.Lts as lts
-use Rattle.cue_text.proofs.known.place_by.Reads as place-by-reads
-use Rattle.cue_text.proofs.line.write_said.Reads as write-said-reads
-use Rattle.cue_text.proofs.number.value_of.Reads as value-of-reads
-use Rattle.cue_text.proofs.word.part.Reads as part-reads
 use Rattle.cue_text.proofs.line.write_at.Goals as goal
 
 pub write_said-requires : goal.write_said-requires

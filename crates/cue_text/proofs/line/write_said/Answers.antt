@@ -2,10 +2,6 @@ use borrow.Author.Tests.{not-true, not-false}
 use mathlib.Core.Path.{◌∙◌}
 use Rattle.cue_text.specs.Inside.{meaning_of}
 use Rattle.cue_text.proofs.SaidLaws.{write-none, write-nowhere, write-there}
-use borrow.Author.Rules.{rules}
-use Rattle.cue_text.proofs.line.write_said.Reads as reads
-use Rattle.cue_text.proofs.line.write_said.Lts as lts
-use Rattle.cue_text.proofs.line.record_said.Reads as record-said-reads
 use Rattle.cue_text.proofs.line.write_said.Goals as goal
 
 pub returns-then-not-v : goal.returns-then-not-v

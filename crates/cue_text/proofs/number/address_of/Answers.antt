@@ -2,11 +2,6 @@ use native.Mathlib.Omega.{arith}
 use mathlib.Core.Path.{◌∙◌}
 use Rattle.cue_text.specs.Numbers.{address_of}
 use Rattle.cue_text.proofs.NumberLaws.{kept-is}
-use borrow.Author.Rules.{rules}
-use Rattle.cue_text.proofs.number.address_of.Reads as reads
-use Rattle.cue_text.proofs.number.address_of.Lts as lts
-use Rattle.cue_text.proofs.number.number_of.Reads as number-of-reads
-use Rattle.cue_text.proofs.number.up_to.Reads as up-to-reads
 use Rattle.cue_text.proofs.number.address_of.Goals as goal
 
 pub returns : goal.returns

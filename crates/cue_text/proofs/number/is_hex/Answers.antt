@@ -1,8 +1,5 @@
 use native.Mathlib.Omega.{arith}
 use Rattle.cue_text.proofs.NumberLaws.{hex_short, hex_two}
-use borrow.Author.Rules.{rules}
-use Rattle.cue_text.proofs.number.is_hex.Reads as reads
-use Rattle.cue_text.proofs.number.is_hex.Lts as lts
 use Rattle.cue_text.proofs.number.is_hex.Goals as goal
 
 pub returns-then-word-lt2 : goal.returns-then-word-lt2

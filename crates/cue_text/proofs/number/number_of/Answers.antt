@@ -1,9 +1,4 @@
 use Rattle.cue_text.specs.Numbers.{number_of}
-use borrow.Author.Rules.{rules}
-use Rattle.cue_text.proofs.number.number_of.Reads as reads
-use Rattle.cue_text.proofs.number.number_of.Lts as lts
-use Rattle.cue_text.proofs.number.digits.Reads as digits-reads
-use Rattle.cue_text.proofs.number.is_hex.Reads as is-hex-reads
 use Rattle.cue_text.proofs.number.number_of.Goals as goal
 
 pub returns-then-is_hex : goal.returns-then-is_hex

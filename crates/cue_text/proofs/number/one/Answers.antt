@@ -1,7 +1,5 @@
 use mathlib.Core.Path.{refl}
 use Rattle.cue_text.specs.Inside.{given}
-use Rattle.cue_text.proofs.number.one.Reads as reads
-use Rattle.cue_text.proofs.number.one.Lts as lts
 use Rattle.cue_text.proofs.number.one.Goals as goal
 
 pub returns : goal.returns

@@ -3,13 +3,6 @@ use mathlib.Core.Path.{◌∙◌}
 use Rattle.text.specs.Number.{ascii}
 use Rattle.cue_text.specs.Numbers.{space_of}
 use Rattle.cue_text.proofs.NumberLaws.{kept-is}
-use borrow.Author.Rules.{rules}
-use Rattle.cue_text.proofs.number.space_of.Reads as reads
-use Rattle.cue_text.proofs.number.space_of.Lts as lts
-use Rattle.cue_text.proofs.number.number_of.Reads as number-of-reads
-use Rattle.cue_text.proofs.number.one.Reads as one-reads
-use Rattle.cue_text.proofs.number.up_to.Reads as up-to-reads
-use Rattle.text.proofs.find.same.Reads as same_Reads
 use Rattle.cue_text.proofs.number.space_of.Goals as goal
 
 pub returns-then-same : goal.returns-then-same

@@ -1,8 +1,5 @@
 use mathlib.Core.Path.{refl}
 use Rattle.cue_text.specs.Inside.{given, kept_to}
-use borrow.Author.Rules.{rules}
-use Rattle.cue_text.proofs.number.up_to.Reads as reads
-use Rattle.cue_text.proofs.number.up_to.Lts as lts
 use Rattle.cue_text.proofs.number.up_to.Goals as goal
 
 pub returns-then-n-most : goal.returns-then-n-most

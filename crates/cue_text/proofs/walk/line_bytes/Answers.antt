@@ -1,10 +1,6 @@
 use native.Mathlib.Omega.{arith}
 use Rattle.text.proofs.FindLaws.{before-within}
 use Rattle.cue_text.specs.Inside.{line_bytes}
-use borrow.Author.Rules.{rules}
-use Rattle.cue_text.proofs.walk.line_bytes.Reads as reads
-use Rattle.cue_text.proofs.walk.line_bytes.Lts as lts
-use Rattle.text.proofs.find.bytes_before.Reads as bytes-before-reads
 use Rattle.cue_text.proofs.walk.line_bytes.Goals as goal
 
 pub returns-then-n-rest : goal.returns-then-n-rest

@@ -1,8 +1,5 @@
 use mathlib.Core.Path.{refl}
 use Rattle.cue_text.specs.Inside.{said_number}
-use borrow.Author.Rules.{rules}
-use Rattle.cue_text.proofs.walk.number_of.Reads as reads
-use Rattle.cue_text.proofs.walk.number_of.Lts as lts
 use Rattle.cue_text.proofs.walk.number_of.Goals as goal
 
 pub returns-in-Refused : goal.returns-in-Refused

@@ -1,11 +1,5 @@
 use Rattle.cue_text.proofs.SaidLaws.{ten_taken}
 use Rattle.cue_text.proofs.WalkLaws.{cue-put}
-use borrow.Author.Rules.{rules}
-use Rattle.cue_text.proofs.walk.put_cue.Reads as reads
-use Rattle.cue_text.proofs.walk.put_cue.Lts as lts
-use Rattle.cue.proofs.records.record_bytes.Reads as record-bytes-reads
-use Rattle.cue_text.proofs.line.bytes_of.Reads as bytes-of-reads
-use Rattle.text.proofs.put.Reads as put_reads
 use Rattle.cue_text.proofs.walk.put_cue.Goals as goal
 
 pub slice_bounds-put-end : goal.slice_bounds-put-end

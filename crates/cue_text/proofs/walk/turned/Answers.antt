@@ -1,11 +1,6 @@
 use mathlib.Core.Path.{refl}
 use native.Mathlib.Omega.{arith}
 use Rattle.cue_text.specs.Inside.{tallied, table_after, room_after}
-use borrow.Author.Rules.{rules}
-use Rattle.cue_text.proofs.walk.turned.Reads as reads
-use Rattle.cue_text.proofs.walk.turned.Lts as lts
-use Rattle.cue.proofs.records.record_bytes.Reads as record-bytes-reads
-use Rattle.cue_text.proofs.walk.put_cue.Reads as put-cue-reads
 use Rattle.cue_text.proofs.walk.turned.Goals as goal
 
 pub offset_bounds-table-free : goal.offset_bounds-table-free

@@ -1,9 +1,5 @@
 use mathlib.Core.Path.{refl}
 use Rattle.cue_text.specs.Inside.{ends_line, ends_word}
-use borrow.Author.Rules.{rules}
-use Rattle.cue_text.proofs.word.ends_word.Reads as reads
-use Rattle.cue_text.proofs.word.ends_word.Lts as lts
-use Rattle.cue_text.proofs.word.is_blank.Reads as is-blank-reads
 use Rattle.cue_text.proofs.word.ends_word.Goals as goal
 
 pub returns : goal.returns

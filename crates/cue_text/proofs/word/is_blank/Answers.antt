@@ -1,7 +1,5 @@
 use mathlib.Core.Path.{refl}
 use Rattle.cue_text.specs.Words.{is_blank}
-use Rattle.cue_text.proofs.word.is_blank.Reads as reads
-use Rattle.cue_text.proofs.word.is_blank.Lts as lts
 use Rattle.cue_text.proofs.word.is_blank.Goals as goal
 
 pub returns : goal.returns

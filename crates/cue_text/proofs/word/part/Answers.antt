@@ -1,8 +1,4 @@
 use Rattle.cue_text.proofs.WordLaws.{part-is}
-use borrow.Author.Rules.{rules}
-use Rattle.cue_text.proofs.word.part.Reads as reads
-use Rattle.cue_text.proofs.word.part.Lts as lts
-use Rattle.text.proofs.least.Reads as least-reads
 use Rattle.cue_text.proofs.word.part.Goals as goal
 
 pub returns : goal.returns

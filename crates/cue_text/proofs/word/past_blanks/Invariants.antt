@@ -1,16 +1,7 @@
-use borrow.Author.Tests.{not-true, not-false}
-use mathlib.Core.Path.{sym, ◌∙◌}
-use native.Mathlib.Omega.{arith}
-use borrow.Author.Rules.{rules}
 use Prim.Native.Nat.{◌+◌, ◌-◌, ◌≤◌}
 use mathlib.Core.Path.{◌≡◌}
 use lib.ListN.{length, drop}
-use Rattle.cue_text.specs.Words.{is_blank}
 use Rattle.cue_text.specs.Inside.{blanks}
-use Rattle.cue_text.proofs.WordLaws.{front-more, front-here, front-end}
-use Rattle.cue_text.proofs.word.past_blanks.Reads as reads
-use Rattle.cue_text.proofs.word.past_blanks.Lts as lts
-use Rattle.cue_text.proofs.word.is_blank.Reads as is-blank-reads
 use Rattle.cue_text.proofs.word.past_blanks.Given as goal
 
 abbrev pub invariant-loop-i : goal.invariant-loop-i

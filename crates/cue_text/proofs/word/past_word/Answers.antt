@@ -1,14 +1,8 @@
 use mathlib.Core.Path.{sym, ◌∙◌}
 use native.Mathlib.Omega.{arith}
 use borrow.Author.Rules.{rules}
-use Prim.Native.Nat.{◌+◌, ◌-◌, ◌≤◌}
-use mathlib.Core.Path.{◌≡◌}
-use lib.ListN.{length, drop}
 use Rattle.cue_text.specs.Inside.{in_word, word_bytes}
 use Rattle.cue_text.proofs.WordLaws.{front-more, front-here, front-end, word_over, word_on}
-use Rattle.cue_text.proofs.word.past_word.Reads as reads
-use Rattle.cue_text.proofs.word.past_word.Lts as lts
-use Rattle.cue_text.proofs.word.ends_word.Reads as ends-word-reads
 use Rattle.cue_text.proofs.word.past_word.Goals as goal
 
 pub loop-i-init : goal.loop-i-init

@@ -1,10 +1,5 @@
 use mathlib.Core.Path.{refl}
 use Rattle.cue_text.specs.Inside.{word_from}
-use borrow.Author.Rules.{rules}
-use Rattle.cue_text.proofs.word.word_at.Reads as reads
-use Rattle.cue_text.proofs.word.word_at.Lts as lts
-use Rattle.cue_text.proofs.word.past_blanks.Reads as past-blanks-reads
-use Rattle.cue_text.proofs.word.past_word.Reads as past-word-reads
 use Rattle.cue_text.proofs.word.word_at.Goals as goal
 
 pub returns : goal.returns

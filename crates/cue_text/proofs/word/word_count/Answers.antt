@@ -2,8 +2,6 @@ use mathlib.Core.Path.{refl}
 use native.Mathlib.Omega.{arith}
 use borrow.Author.Tests.{lt-ltb, le-ltb}
 use Rattle.cue_text.specs.Inside.{word_count}
-use Rattle.cue_text.proofs.word.word_count.Reads as reads
-use Rattle.cue_text.proofs.word.word_count.Lts as lts
 use Rattle.cue_text.proofs.word.word_count.Goals as goal
 
 pub returns-then-w : goal.returns-then-w

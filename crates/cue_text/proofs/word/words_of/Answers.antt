@@ -1,10 +1,5 @@
 use mathlib.Core.Path.{refl}
 use Rattle.cue_text.proofs.WordLaws.{holds-words}
-use borrow.Author.Rules.{rules}
-use Rattle.cue_text.proofs.word.words_of.Reads as reads
-use Rattle.cue_text.proofs.word.words_of.Lts as lts
-use Rattle.cue_text.proofs.word.word_at.Reads as word-at-reads
-use Rattle.cue_text.proofs.word.word_count.Reads as word-count-reads
 use Rattle.cue_text.proofs.word.words_of.Goals as goal
 
 pub returns : goal.returns

@@ -1,6 +1,5 @@
 use Rattle.text.specs.Number.{ascii}
 use Rattle.cueasm_output.specs.Sentence.{says}
-use borrow.Author.Rules.{rules}
 use Rattle.cueasm_output.proofs.sentence.put_cause.Goals as goal
 
 pub returns-in-Form : goal.returns-in-Form

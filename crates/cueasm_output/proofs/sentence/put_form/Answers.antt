@@ -1,6 +1,5 @@
 use Rattle.text.specs.Number.{ascii}
 use Rattle.cueasm_output.specs.Sentence.{says}
-use borrow.Author.Rules.{rules}
 use Rattle.cueasm_output.proofs.sentence.put_form.Goals as goal
 
 pub returns : goal.returns

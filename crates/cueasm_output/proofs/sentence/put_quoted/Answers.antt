@@ -5,7 +5,6 @@ use Rattle.text.specs.Number.{ascii}
 use Rattle.text.proofs.RoomLaws.{put_then}
 use Rattle.cueasm_output.specs.Sentence.{quoted}
 use Rattle.cueasm_output.proofs.SentenceLaws.{first-bytes}
-use borrow.Author.Rules.{rules}
 use Rattle.cueasm_output.proofs.sentence.put_quoted.Goals as goal
 
 pub slice_bounds-put_shown-end : goal.slice_bounds-put_shown-end

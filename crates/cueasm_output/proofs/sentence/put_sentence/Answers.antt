@@ -1,7 +1,6 @@
 use Rattle.text.specs.Number.{ascii}
 use Rattle.text.proofs.RoomLaws.{put_then}
 use Rattle.cueasm_output.specs.Sentence.{sentence}
-use borrow.Author.Rules.{rules}
 use Rattle.cueasm_output.proofs.sentence.put_sentence.Goals as goal
 
 pub returns : goal.returns

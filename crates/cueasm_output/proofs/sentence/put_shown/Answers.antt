@@ -1,13 +1,8 @@
-use Prim.Native.Nat.{◌-◌, ◌≤◌}
-use mathlib.Core.Path.{◌≡◌, refl, ◌∙◌}
-use mathlib.Core.List.{map}
+use mathlib.Core.Path.{refl, ◌∙◌}
 use native.Mathlib.Omega.{arith}
-use lib.ListN.{length, drop, drop_of_length-le}
-use Rattle.text.specs.Room.{put_at}
+use lib.ListN.{drop_of_length-le}
 use Rattle.text.proofs.RoomLaws.{put-least, put-none, put-within}
-use Rattle.cueasm_output.specs.Sentence.{shown}
 use Rattle.cueasm_output.proofs.SentenceLaws.{shown-put}
-use borrow.Author.Rules.{rules}
 use Rattle.cueasm_output.proofs.sentence.put_shown.Goals as goal
 
 pub loop-i-init : goal.loop-i-init

@@ -1,13 +1,9 @@
 use Prim.Native.Nat.{◌-◌, ◌≤◌}
-use mathlib.Core.Path.{◌≡◌, refl, ◌∙◌}
+use mathlib.Core.Path.{◌≡◌}
 use mathlib.Core.List.{map}
-use native.Mathlib.Omega.{arith}
-use lib.ListN.{length, drop, drop_of_length-le}
+use lib.ListN.{length, drop}
 use Rattle.text.specs.Room.{put_at}
-use Rattle.text.proofs.RoomLaws.{put-least, put-none, put-within}
 use Rattle.cueasm_output.specs.Sentence.{shown}
-use Rattle.cueasm_output.proofs.SentenceLaws.{shown-put}
-use borrow.Author.Rules.{rules}
 use Rattle.cueasm_output.proofs.sentence.put_shown.Given as goal
 
 abbrev pub invariant-loop-i : goal.invariant-loop-i

@@ -1,5 +1,4 @@
 use Rattle.cuefix_output.proofs.LookLaws.{between_is}
-use borrow.Author.Rules.{rules}
 use Rattle.cuefix_output.proofs.lines.between.Goals as goal
 
 pub returns : goal.returns

@@ -1,7 +1,5 @@
-use Prim.Native.Nat.{◌-◌}
 use native.Mathlib.Omega.{arith}
-use Rattle.cuefix_output.proofs.LookLaws.{Walking, walking_first, walking_some, walking_next, walking_last}
-use borrow.Author.Rules.{rules}
+use Rattle.cuefix_output.proofs.LookLaws.{walking_first, walking_some, walking_next, walking_last}
 use Rattle.cuefix_output.proofs.lines.last_record.Goals as goal
 
 pub loop-size-init : goal.loop-size-init

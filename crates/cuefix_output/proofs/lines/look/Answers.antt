@@ -1,5 +1,4 @@
 use Rattle.cuefix_output.proofs.LookLaws.{look_none, look_some}
-use borrow.Author.Rules.{rules}
 use Rattle.cuefix_output.proofs.lines.look.Goals as goal
 
 pub returns-then-start-from : goal.returns-then-start-from

@@ -1,7 +1,6 @@
 use Rattle.text.specs.Number.{ascii}
 use Rattle.text.proofs.RoomLaws.{put_then}
 use Rattle.cuefix_output.specs.Account.{record_line}
-use borrow.Author.Rules.{rules}
 use Rattle.cuefix_output.proofs.lines.put_record.Goals as goal
 
 pub returns : goal.returns

@@ -1,5 +1,4 @@
 use Rattle.cuefix_output.proofs.LookLaws.{size-here}
-use borrow.Author.Rules.{rules}
 use Rattle.cuefix_output.proofs.lines.size_at.Goals as goal
 
 pub returns : goal.returns

@@ -4,7 +4,6 @@ use Rattle.text.specs.Number.{ascii}
 use Rattle.text.proofs.RoomLaws.{put_front}
 use Rattle.cuefix_output.specs.Account.{skipped_line}
 use Rattle.cuefix_output.proofs.AccountLaws.{skipped_fits}
-use borrow.Author.Rules.{rules}
 use Rattle.cuefix_output.proofs.lines.skipped.Goals as goal
 
 pub returns : goal.returns

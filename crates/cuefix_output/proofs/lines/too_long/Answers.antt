@@ -2,7 +2,6 @@ use mathlib.Core.Path.{◌∙◌}
 use native.Mathlib.Omega.{arith}
 use Rattle.text.proofs.RoomLaws.{put_front}
 use Rattle.cuefix_output.proofs.AccountLaws.{too_long-fits}
-use borrow.Author.Rules.{rules}
 use Rattle.cuefix_output.proofs.lines.too_long.Goals as goal
 
 pub returns : goal.returns

@@ -1,7 +1,6 @@
 use mathlib.Core.Path.{sym}
 use native.Mathlib.Omega.{arith}
 use lib.Seq.{take_all, length-take-le}
-use borrow.Author.Rules.{rules}
 use Rattle.cuewhy_output.proofs.fault.mark.Goals as goal
 
 pub returns-then-rest-lt2 : goal.returns-then-rest-lt2

@@ -2,7 +2,6 @@ use borrow.Author.Tests.{eq-eqb, ne_eqb}
 use Rattle.text.specs.Number.{ascii}
 use Rattle.text.proofs.RoomLaws.{put_then}
 use Rattle.cuewhy_output.specs.Wording.{bad_text}
-use borrow.Author.Rules.{rules}
 use Rattle.cuewhy_output.proofs.fault.put_bad.Goals as goal
 
 pub returns-then-w-eq23 : goal.returns-then-w-eq23

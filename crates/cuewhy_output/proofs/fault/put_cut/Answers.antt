@@ -2,7 +2,6 @@ use borrow.Author.Tests.{lt-ltb, le-ltb}
 use Rattle.text.specs.Number.{ascii}
 use Rattle.text.proofs.RoomLaws.{put_then}
 use Rattle.cuewhy_output.specs.Wording.{cut_text}
-use borrow.Author.Rules.{rules}
 use Rattle.cuewhy_output.proofs.fault.put_cut.Goals as goal
 
 pub returns-then-rest-lt2 : goal.returns-then-rest-lt2

@@ -2,7 +2,6 @@ use borrow.Author.Tests.{eq-eqb, ne_eqb}
 use Rattle.text.specs.Number.{ascii}
 use Rattle.text.proofs.RoomLaws.{put_then}
 use Rattle.cuewhy_output.specs.Wording.{element_text}
-use borrow.Author.Rules.{rules}
 use Rattle.cuewhy_output.proofs.fault.put_element.Goals as goal
 
 pub returns-then-cause-eq2 : goal.returns-then-cause-eq2

@@ -1,7 +1,6 @@
 use borrow.Author.Tests.{eq-eqb, ne_eqb}
 use Rattle.text.specs.Number.{ascii}
 use Rattle.cuewhy_output.specs.Wording.{fault_text}
-use borrow.Author.Rules.{rules}
 use Rattle.cuewhy_output.proofs.fault.put_fault.Goals as goal
 
 pub returns-then-w-eq21 : goal.returns-then-w-eq21

@@ -1,6 +1,5 @@
 use Rattle.text.specs.Number.{ascii}
 use Rattle.cuewhy_output.specs.Wording.{named_text}
-use borrow.Author.Rules.{rules}
 use Rattle.cuewhy_output.proofs.fault.put_named.Goals as goal
 
 pub returns : goal.returns

@@ -3,7 +3,6 @@ use Rattle.text.proofs.RoomLaws.{put_then}
 use Rattle.cuewhy_output.specs.Wording.{record_text}
 use Rattle.cuewhy_output.proofs.WordingLaws.{tail_none, tail-some}
 use borrow.Author.Tests.{not-true, not-false}
-use borrow.Author.Rules.{rules}
 use Rattle.cuewhy_output.proofs.shown.put_record.Goals as goal
 
 pub returns-then-not-r : goal.returns-then-not-r

@@ -1,7 +1,6 @@
 use Rattle.text.specs.Number.{ascii}
 use Rattle.text.proofs.RoomLaws.{put_then}
 use Rattle.cuewhy_output.specs.Wording.{value_text}
-use borrow.Author.Rules.{rules}
 use Rattle.cuewhy_output.proofs.shown.put_value.Goals as goal
 
 pub returns : goal.returns

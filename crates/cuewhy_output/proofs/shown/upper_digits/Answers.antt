@@ -1,5 +1,4 @@
 use Rattle.cuewhy_output.specs.Wording.{upper_digits}
-use borrow.Author.Rules.{rules}
 use Rattle.cuewhy_output.proofs.shown.upper_digits.Goals as goal
 
 pub returns-then-row-upper : goal.returns-then-row-upper

@@ -4,7 +4,7 @@ use native.Mathlib.Omega.{arith}
 use lib.ListN.{length}
 use Rattle.independent.specs.Independent.{independence_listed}
 use Rattle.independent.proofs.WalkLaws.{place-inside_here, whole_here, shorter}
-use Rattle.independent.proofs.LoopLaws.{Testing, testing_first, testing_again, testing_last, clash-found}
+use Rattle.independent.proofs.LoopLaws.{testing_first, testing_again, testing_last, clash-found}
 use Rattle.independent.proofs.marks.first_clash.Goals as goal
 
 -- the mark's byte is in the table

@@ -3,7 +3,7 @@ use Prim.Native.Nat.{◌/◌, ◌≤◌, ◌<◌}
 use native.Mathlib.Omega.{arith}
 use lib.ListN.{length}
 use Rattle.independent.proofs.WalkLaws.{place-inside_here, whole_here, shorter}
-use Rattle.independent.proofs.LoopLaws.{Marking, marking_first, marking_again, marking_last}
+use Rattle.independent.proofs.LoopLaws.{marking_first, marking_again, marking_last}
 use Rattle.independent.proofs.marks.mark.Goals as goal
 
 -- the mark's byte is in the table

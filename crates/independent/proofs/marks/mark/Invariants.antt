@@ -1,9 +1,5 @@
-use borrow.Author.Rules.{rules}
-use Prim.Native.Nat.{◌/◌, ◌≤◌, ◌<◌}
-use native.Mathlib.Omega.{arith}
 use lib.ListN.{length}
-use Rattle.independent.proofs.WalkLaws.{place-inside_here, whole_here, shorter}
-use Rattle.independent.proofs.LoopLaws.{Marking, marking_first, marking_again, marking_last}
+use Rattle.independent.proofs.LoopLaws.{Marking}
 use Rattle.independent.proofs.marks.mark.Given as goal
 
 abbrev pub invariant-loop-rest : goal.invariant-loop-rest

@@ -1,4 +1,3 @@
-use borrow.Author.Rules.{rules}
 use mathlib.Core.Path.{ap, ◌∙◌}
 use Rattle.independent.specs.Inside.{marked_by}
 use Rattle.independent.proofs.MarkLaws.{byte-again}

@@ -1,4 +1,3 @@
-use borrow.Author.Rules.{rules}
 use Rattle.independent.specs.Inside.{place_by}
 use Rattle.independent.proofs.marks.place_of.Goals as goal
 

@@ -1,4 +1,3 @@
-use borrow.Author.Rules.{rules}
 use mathlib.Core.Path.{refl}
 use Rattle.lbp16.specs.Pointer.{slot_of}
 use Rattle.lbp16.proofs.pointer.slot_of.Goals as goal

@@ -1,4 +1,3 @@
-use borrow.Author.Rules.{rules}
 use Rattle.lbp16.specs.Space.{info_row, area_row}
 use Rattle.lbp16.proofs.space.area_row.Goals as goal
 

@@ -1,4 +1,3 @@
-use borrow.Author.Rules.{rules}
 use mathlib.Core.Path.{sym}
 use Rattle.lbp16.proofs.SpaceLaws.{absent_bytes}
 use Rattle.lbp16.proofs.space.is_absent.Goals as goal

@@ -1,4 +1,3 @@
-use borrow.Author.Rules.{rules}
 use Rattle.lbp16.specs.Word.{fields_of}
 use mathlib.Core.Path.{refl}
 use Rattle.lbp16.proofs.word.fields_of.Goals as goal

@@ -1,4 +1,3 @@
-use borrow.Author.Rules.{rules}
 use Rattle.packet.proofs.ReachLaws.{address-at}
 use Rattle.packet.proofs.command.address_by.Goals as goal
 

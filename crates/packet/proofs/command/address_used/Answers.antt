@@ -1,6 +1,5 @@
 use mathlib.Core.Path.{refl}
 use Rattle.packet.specs.Command.{address_used}
-use borrow.Author.Rules.{rules}
 use Rattle.packet.proofs.command.address_used.Goals as goal
 
 pub returns : goal.returns

@@ -1,4 +1,3 @@
-use borrow.Author.Rules.{rules}
 use native.Mathlib.Omega.{arith}
 use Rattle.packet.specs.Command.{command_bytes}
 use Rattle.packet.proofs.command.command_bytes.Goals as goal

@@ -1,4 +1,3 @@
-use borrow.Author.Rules.{rules}
 use native.Mathlib.Omega.{arith}
 use Rattle.packet.proofs.ElementLaws.{scaled_le, row_le}
 use mathlib.Core.Path.{ap}

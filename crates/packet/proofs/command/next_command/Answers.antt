@@ -1,4 +1,3 @@
-use borrow.Author.Rules.{rules}
 use mathlib.Core.Path.{sym, ◌∙◌}
 use Rattle.packet.specs.Inside.{ForRegisters}
 use Rattle.packet.proofs.ReachLaws.{registers-word, registers-row, registers-slot, slot_is, reach-found, next-is}

@@ -1,4 +1,3 @@
-use borrow.Author.Rules.{rules}
 use mathlib.Core.Path.{ap, ◌∙◌}
 use Rattle.lbp16.specs.Space.{space_of, area_row}
 use Rattle.packet.specs.Step.{row_by}

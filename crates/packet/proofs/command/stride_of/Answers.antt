@@ -1,4 +1,3 @@
-use borrow.Author.Rules.{rules}
 use Rattle.packet.specs.Command.{stride, row_of, kind_of}
 use mathlib.Core.Path.{refl, ap}
 use Rattle.packet.proofs.command.stride_of.Goals as goal

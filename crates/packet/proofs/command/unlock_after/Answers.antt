@@ -1,12 +1,9 @@
-use Prim.Native.Nat.{◌≤◌, ◌<◌, ◌+◌, ◌-◌, ◌*◌}
+use Prim.Native.Nat.{◌-◌}
 use mathlib.Core.Path.{◌≡◌, refl, sym, ◌∙◌}
 use native.Mathlib.Omega.{arith}
-use lib.ListN.{drop}
-use Rattle.lbp16.specs.Space.{status}
-use Rattle.packet.specs.Step.{write, unlocked}
+use Rattle.packet.specs.Step.{unlocked}
 use Rattle.packet.specs.Command.{elements}
 use Rattle.packet.proofs.UnlockLaws.{unlock-again}
-use borrow.Author.Rules.{rules}
 use native.Mathlib.Nat.{sub-zero}
 use Rattle.packet.proofs.command.unlock_after.Goals as goal
 

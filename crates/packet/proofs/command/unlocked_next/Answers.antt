@@ -1,4 +1,3 @@
-use borrow.Author.Rules.{rules}
 use native.Mathlib.Nat.{le_trans}
 use Rattle.packet.proofs.ElementLaws.{row_le}
 use Rattle.packet.proofs.CommandLaws.{stride_le}

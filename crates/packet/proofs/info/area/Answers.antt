@@ -1,4 +1,3 @@
-use borrow.Author.Rules.{rules}
 use mathlib.Core.Path.{refl}
 use Rattle.packet.specs.Bytes.{bytes_of, pairs_of}
 use Rattle.packet.proofs.info.area.Goals as goal

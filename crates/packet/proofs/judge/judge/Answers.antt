@@ -1,4 +1,3 @@
-use borrow.Author.Rules.{rules}
 use Rattle.packet.proofs.LoopLaws.{judge-listed}
 use Rattle.packet.proofs.judge.judge.Goals as goal
 

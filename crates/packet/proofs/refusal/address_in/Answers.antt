@@ -1,5 +1,4 @@
 use Rattle.packet.specs.Command.{header_bytes}
-use borrow.Author.Rules.{rules}
 use Rattle.packet.proofs.ReachLaws.{address-at}
 use Rattle.packet.proofs.refusal.address_in.Goals as goal
 

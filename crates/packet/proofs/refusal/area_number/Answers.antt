@@ -1,11 +1,9 @@
-use borrow.Author.Rules.{rules}
 use borrow.Author.Tests.{eq-eqb, ne_eqb, le-ltb, lt-ltb}
-use mathlib.Core.List.{List, []}
+use mathlib.Core.List.{[]}
 use mathlib.Core.Path.{◌≡◌, refl, sym, ap, ◌∙◌}
-use Prim.Native.Nat.{ℕ}
 use lib.ListN.{drop}
 use Rattle.lbp16.specs.declared.pointer.Pointers.{Pointers}
-use Rattle.packet.specs.Rules.{Rule, first}
+use Rattle.packet.specs.Rules.{first}
 use Rattle.packet.specs.Command.{refusals}
 use Rattle.packet.specs.Reach.{reach_from, reach_at}
 use Rattle.packet.specs.declared.command.Reach.{Reach}

@@ -1,4 +1,3 @@
-use borrow.Author.Rules.{rules}
 use Rattle.packet.proofs.ReachLaws.{slot_is, reach-found, ruled}
 use Rattle.packet.proofs.refusal.area_ruling.Goals as goal
 

@@ -1,4 +1,3 @@
-use borrow.Author.Rules.{rules}
 use Rattle.packet.proofs.ReachLaws.{judged-is}
 use Rattle.packet.proofs.refusal.judged_by.Goals as goal
 

@@ -1,4 +1,3 @@
-use borrow.Author.Rules.{rules}
 use mathlib.Core.Path.{refl}
 use Rattle.packet.specs.Command.{out_of_place}
 use Rattle.packet.proofs.ElementLaws.{row-bytes_le, past_quick}

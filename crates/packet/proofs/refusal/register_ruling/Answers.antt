@@ -1,4 +1,3 @@
-use borrow.Author.Rules.{rules}
 use mathlib.Core.Path.{◌∙◌}
 use Rattle.packet.proofs.ReachLaws.{registers-row, registers-slot, reach-found, ruled}
 use Rattle.packet.proofs.refusal.register_ruling.Goals as goal

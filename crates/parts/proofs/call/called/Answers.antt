@@ -3,7 +3,6 @@ use mathlib.Core.List.{[]}
 use mathlib.Core.Bool.{false}
 use Rattle.parts.proofs.CallLaws.{other_length, bad-numbers, stands_already, kept-ranged, part-rooms, save_fits, part_left_lem}
 use Rattle.parts.proofs.SingleLaws.{outcome-taken, kept-still, long-still, single_still}
-use borrow.Author.Rules.{rules}
 use Rattle.parts.proofs.call.called.Goals as goal
 
 pub returns-then-state-ne-STATE_BYTES : goal.returns-then-state-ne-STATE_BYTES

@@ -1,5 +1,4 @@
 use Rattle.parts.proofs.SingleLaws.{behind-is}
-use borrow.Author.Rules.{rules}
 use Rattle.parts.proofs.single.behind_mark.Goals as goal
 
 pub returns : goal.returns

@@ -5,7 +5,6 @@ use native.Mathlib.Omega.{arith}
 use lib.ListN.{length}
 use Rattle.parts.proofs.ByteLaws.{shown-fits, shown-length}
 use Rattle.parts.proofs.SingleLaws.{no_true, one_left, completed_kept, completed_fits, completed_ranged, completed_is}
-use borrow.Author.Rules.{rules}
 use Rattle.parts.proofs.single.completed.Goals as goal
 
 pub returns-then-part-last : goal.returns-then-part-last

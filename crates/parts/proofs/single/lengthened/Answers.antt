@@ -1,8 +1,6 @@
 use mathlib.Core.Path.{refl, sym, ◌∙◌}
-use borrow.Author.Tests.{not-false}
 use Rattle.parts.proofs.SingleLaws.{no_true, lengthened_is}
 use native.Mathlib.Omega.{arith}
-use borrow.Author.Rules.{rules}
 use Rattle.parts.proofs.single.lengthened.Goals as goal
 
 pub returns-then-unfit : goal.returns-then-unfit

@@ -1,7 +1,6 @@
 use mathlib.Core.Path.{refl}
 use Rattle.parts.specs.State.{pair_at}
 use Rattle.parts.specs.Inside.{unfit_tests}
-use borrow.Author.Rules.{rules}
 use Rattle.parts.proofs.single.unfit.Goals as goal
 
 -- src/single.rt:20:17

@@ -1,6 +1,5 @@
 use Rattle.parts.proofs.SingleLaws.{no_true, marked-few, waits-first, waits-second, waits-later}
 use native.Mathlib.Omega.{arith}
-use borrow.Author.Rules.{rules}
 use Rattle.parts.proofs.single.waits.Goals as goal
 
 pub overflow_cast-at : goal.overflow_cast-at

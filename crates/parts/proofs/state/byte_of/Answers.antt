@@ -1,5 +1,4 @@
 use Rattle.parts.proofs.StateLaws.{byte-there, byte-behind}
-use borrow.Author.Rules.{rules}
 use Rattle.parts.proofs.state.byte_of.Goals as goal
 
 pub returns-then-i-k : goal.returns-then-i-k

@@ -2,7 +2,6 @@ use mathlib.Core.Path.{sym}
 use native.Mathlib.Omega.{arith}
 use Rattle.parts.specs.State.{padded}
 use Rattle.parts.proofs.StateLaws.{padded-is}
-use borrow.Author.Rules.{rules}
 use Rattle.parts.proofs.state.bytes_at.Goals as goal
 
 pub returns : goal.returns

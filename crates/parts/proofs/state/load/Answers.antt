@@ -1,7 +1,6 @@
 use native.Mathlib.Omega.{arith}
 use Rattle.parts.specs.State.{pair_at}
 use Rattle.parts.proofs.StateLaws.{kept-is}
-use borrow.Author.Rules.{rules}
 use Rattle.parts.proofs.state.load.Goals as goal
 
 pub overflow_cast-result : goal.overflow_cast-result

@@ -1,6 +1,5 @@
 use Rattle.parts.specs.State.{pair_at, unopened}
 use Rattle.parts.proofs.StateLaws.{packer-none, packer-some}
-use borrow.Author.Rules.{rules}
 use Rattle.parts.proofs.state.packer_at.Goals as goal
 
 pub returns-then-size-eq0 : goal.returns-then-size-eq0

@@ -1,6 +1,5 @@
 use native.Mathlib.Omega.{arith}
 use Rattle.parts.proofs.StateLaws.{collected-put, packer-put, saved}
-use borrow.Author.Rules.{rules}
 use Rattle.parts.proofs.state.save.Goals as goal
 
 pub put_front-requires : goal.put_front-requires

@@ -1,5 +1,4 @@
 use Rattle.parts.proofs.ByteLaws.{shown-fits, shown-length, byte-waits, byte-faults, byte_record}
-use borrow.Author.Rules.{rules}
 use Rattle.parts.proofs.take.byte_taken.Goals as goal
 
 pub slice_bounds-bytes-end : goal.slice_bounds-bytes-end

@@ -1,10 +1,7 @@
-use Prim.Native.Nat.{◌-◌}
-use mathlib.Core.Path.{◌≡◌, refl, sym, ◌∙◌}
+use mathlib.Core.Path.{refl, sym, ◌∙◌}
 use native.Mathlib.Omega.{arith}
 use lib.ListN.{length}
-use Rattle.parts.specs.Inside.{Going, start_at}
 use Rattle.parts.proofs.PartLaws.{going-first, going_next, going-last, test-going, some_left, fewer-left, rest-within}
-use borrow.Author.Rules.{rules}
 use Rattle.parts.proofs.take.bytes_taken.Goals as goal
 
 pub loop-at-init : goal.loop-at-init

@@ -1,7 +1,6 @@
 use native.Mathlib.Omega.{arith}
 use Rattle.cue.specs.Records.{mark_at}
 use Rattle.parts.proofs.TakeLaws.{decided-most, decided_early, decided-late}
-use borrow.Author.Rules.{rules}
 use Rattle.parts.proofs.take.decided_at.Goals as goal
 
 pub returns-then-index-eq-MOST : goal.returns-then-index-eq-MOST

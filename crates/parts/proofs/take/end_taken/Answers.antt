@@ -1,6 +1,5 @@
 use Rattle.parts.proofs.TakeLaws.{front_length, front_fits}
 use Rattle.parts.proofs.PartLaws.{end-cut, end_whole}
-use borrow.Author.Rules.{rules}
 use Rattle.parts.proofs.take.end_taken.Goals as goal
 
 pub returns-then-k-ne0 : goal.returns-then-k-ne0

@@ -1,5 +1,4 @@
 use Rattle.parts.proofs.PartLaws.{part-stops, part-ends}
-use borrow.Author.Rules.{rules}
 use Rattle.parts.proofs.take.part_taken.Goals as goal
 
 pub returns-then-last-kept : goal.returns-then-last-kept

@@ -1,4 +1,3 @@
-use borrow.Author.Rules.{rules}
 use Rattle.text.proofs.RoomLaws.{put_whole}
 use Rattle.parts.proofs.take.put_front.Goals as goal
 

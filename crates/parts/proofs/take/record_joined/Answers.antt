@@ -1,5 +1,4 @@
 use Rattle.parts.proofs.WholeLaws.{runs_none, runs_record}
-use borrow.Author.Rules.{rules}
 use Rattle.parts.proofs.take.record_joined.Goals as goal
 
 pub returns-then-record_refusal-ne0 : goal.returns-then-record_refusal-ne0

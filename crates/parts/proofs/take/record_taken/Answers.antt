@@ -1,5 +1,4 @@
 use Rattle.parts.proofs.TakeLaws.{record_leaves}
-use borrow.Author.Rules.{rules}
 use Rattle.parts.proofs.take.record_taken.Goals as goal
 
 pub returns : goal.returns

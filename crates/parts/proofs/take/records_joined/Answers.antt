@@ -1,10 +1,6 @@
-use Prim.Native.Nat.{◌-◌}
-use mathlib.Core.Path.{◌≡◌, refl, sym, ◌∙◌}
+use mathlib.Core.Path.{refl, sym, ◌∙◌}
 use native.Mathlib.Omega.{arith}
-use lib.ListN.{length}
-use Rattle.parts.specs.Inside.{Runs}
 use Rattle.parts.proofs.WholeLaws.{runs_none, runs_more}
-use borrow.Author.Rules.{rules}
 use Rattle.parts.proofs.take.records_joined.Goals as goal
 
 pub loop-at-init : goal.loop-at-init

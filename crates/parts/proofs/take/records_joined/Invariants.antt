@@ -1,10 +1,7 @@
 use Prim.Native.Nat.{◌-◌}
-use mathlib.Core.Path.{◌≡◌, refl, sym, ◌∙◌}
-use native.Mathlib.Omega.{arith}
+use mathlib.Core.Path.{◌≡◌}
 use lib.ListN.{length}
 use Rattle.parts.specs.Inside.{Runs}
-use Rattle.parts.proofs.WholeLaws.{runs_none, runs_more}
-use borrow.Author.Rules.{rules}
 use Rattle.parts.proofs.take.records_joined.Given as goal
 
 abbrev pub invariant-loop-at : goal.invariant-loop-at

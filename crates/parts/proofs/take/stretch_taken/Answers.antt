@@ -2,7 +2,6 @@ use native.Mathlib.Omega.{arith}
 use Rattle.parts.specs.Inside.{plain}
 use Rattle.parts.proofs.PartLaws.{rest-within}
 use Rattle.parts.proofs.WholeLaws.{byte-going, stretch_more}
-use borrow.Author.Rules.{rules}
 use Rattle.parts.proofs.take.stretch_taken.Goals as goal
 
 pub returns-then-rest-kept : goal.returns-then-rest-kept

@@ -1,6 +1,5 @@
 use Rattle.parts.specs.State.{unopened}
 use Rattle.parts.proofs.TakeLaws.{front_length, front_fits, turns-closed, turns_open}
-use borrow.Author.Rules.{rules}
 use Rattle.parts.proofs.take.turned.Goals as goal
 
 pub slice_bounds-put_front-end : goal.slice_bounds-put_front-end

@@ -1,9 +1,6 @@
 use Prim.Native.Nat.{◌-◌}
-use native.Mathlib.Omega.{arith}
-use borrow.Author.Rules.{rules}
 use lib.ListN.{length}
-use Rattle.salvage.proofs.LoopLaws.{held-within, Holding, counting-first, counting-next, counting-last}
-use Rattle.salvage.proofs.LoopLaws.{roomy, some_bytes, behind-within}
+use Rattle.salvage.proofs.LoopLaws.{Holding}
 use Rattle.salvage.proofs.scan.count.Given as goal
 
 abbrev pub invariant-loop-at : goal.invariant-loop-at

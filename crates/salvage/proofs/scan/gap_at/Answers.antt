@@ -1,9 +1,7 @@
-use Prim.Native.Nat.{◌-◌}
 use mathlib.Core.Path.{sym, ◌∙◌}
 use native.Mathlib.Omega.{arith}
 use borrow.Author.Rules.{rules}
-use lib.ListN.{length}
-use Rattle.salvage.proofs.SpanLaws.{Gap, gap_first, gap_more, gap_ends, gap_all}
+use Rattle.salvage.proofs.SpanLaws.{gap_first, gap_more, gap_ends, gap_all}
 use Rattle.salvage.proofs.scan.gap_at.Goals as goal
 
 pub loop-n-init : goal.loop-n-init

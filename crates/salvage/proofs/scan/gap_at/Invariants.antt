@@ -1,9 +1,6 @@
 use Prim.Native.Nat.{◌-◌}
-use mathlib.Core.Path.{sym, ◌∙◌}
-use native.Mathlib.Omega.{arith}
-use borrow.Author.Rules.{rules}
 use lib.ListN.{length}
-use Rattle.salvage.proofs.SpanLaws.{Gap, gap_first, gap_more, gap_ends, gap_all}
+use Rattle.salvage.proofs.SpanLaws.{Gap}
 use Rattle.salvage.proofs.scan.gap_at.Given as goal
 
 abbrev pub invariant-loop-n : goal.invariant-loop-n

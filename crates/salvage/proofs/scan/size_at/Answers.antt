@@ -1,4 +1,3 @@
-use borrow.Author.Rules.{rules}
 use Rattle.salvage.proofs.SpanLaws.{size_is}
 use Rattle.salvage.proofs.scan.size_at.Goals as goal
 

@@ -1,6 +1,5 @@
 use mathlib.Core.Path.{sym, ◌∙◌}
 use Rattle.salvage.proofs.SpanLaws.{first-kept, first_skipped}
-use borrow.Author.Rules.{rules}
 use Rattle.salvage.proofs.scan.span_at.Goals as goal
 
 pub returns-then-stands_at : goal.returns-then-stands_at

@@ -1,4 +1,3 @@
-use borrow.Author.Rules.{rules}
 use Rattle.salvage.specs.Salvage.{stands}
 use Rattle.salvage.proofs.scan.stands_at.Goals as goal
 

@@ -1,5 +1,4 @@
 use Rattle.salvage.specs.Inside.{tally}
-use borrow.Author.Rules.{rules}
 use Rattle.salvage.proofs.scan.tallied.Goals as goal
 
 pub returns-then-s : goal.returns-then-s

@@ -4,7 +4,6 @@ use native.Mathlib.Omega.{arith}
 use lib.ListN.{length-set}
 use lib.Seq.{sets}
 use Rattle.salvage.proofs.WriteLaws.{entry-none, entry-fits, entry-put}
-use borrow.Author.Rules.{rules}
 use Rattle.salvage.proofs.write.put_entry.Goals as goal
 
 pub returns-then-s : goal.returns-then-s

@@ -2,7 +2,6 @@ use mathlib.Core.Path.{sym, ap, ◌∙◌}
 use lib.Seq.{sets, length-take-le}
 use Rattle.text.proofs.RoomLaws.{put-room}
 use Rattle.salvage.proofs.WriteLaws.{record_kept, record_none}
-use borrow.Author.Rules.{rules}
 use Rattle.salvage.proofs.write.put_record.Goals as goal
 
 pub slice_bounds-put-end : goal.slice_bounds-put-end

@@ -1,9 +1,7 @@
-use Prim.Native.Nat.{◌-◌}
 use native.Mathlib.Omega.{arith}
 use borrow.Author.Rules.{rules}
-use lib.ListN.{length}
 use Rattle.salvage.proofs.LoopLaws.{held-within, roomy, some_bytes, behind-within}
-use Rattle.salvage.proofs.WriteLaws.{Writing, writing-first, writing-next, writing-last, room-same, log-same}
+use Rattle.salvage.proofs.WriteLaws.{writing-first, writing-next, writing-last, room-same, log-same}
 use Rattle.salvage.proofs.WriteLaws.{record_room, entry-room}
 use Rattle.salvage.proofs.write.write.Goals as goal
 

@@ -1,10 +1,6 @@
 use Prim.Native.Nat.{◌-◌}
-use native.Mathlib.Omega.{arith}
-use borrow.Author.Rules.{rules}
 use lib.ListN.{length}
-use Rattle.salvage.proofs.LoopLaws.{held-within, roomy, some_bytes, behind-within}
-use Rattle.salvage.proofs.WriteLaws.{Writing, writing-first, writing-next, writing-last, room-same, log-same}
-use Rattle.salvage.proofs.WriteLaws.{record_room, entry-room}
+use Rattle.salvage.proofs.WriteLaws.{Writing}
 use Rattle.salvage.proofs.write.write.Given as goal
 
 abbrev pub invariant-loop-at : goal.invariant-loop-at

@@ -1,5 +1,4 @@
 use Rattle.showcheck_output.proofs.AroundLaws.{window_is}
-use borrow.Author.Rules.{rules}
 use Rattle.showcheck_output.proofs.around.put_around.Goals as goal
 
 pub returns : goal.returns

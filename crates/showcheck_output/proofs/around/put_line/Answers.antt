@@ -1,7 +1,6 @@
 use Rattle.text.specs.Number.{ascii}
 use Rattle.text.proofs.RoomLaws.{put_then}
 use Rattle.showcheck_output.specs.Findings.{hex_line}
-use borrow.Author.Rules.{rules}
 use Rattle.showcheck_output.proofs.around.put_line.Goals as goal
 
 pub returns : goal.returns

@@ -1,6 +1,5 @@
 use borrow.Author.Tests.{lt-ltb, le-ltb, eq-eqb, ne_eqb}
 use Rattle.showcheck_output.specs.Given.{given_by}
-use borrow.Author.Rules.{rules}
 use Rattle.showcheck_output.proofs.given.given_by.Goals as goal
 
 pub returns-then-count-lt2 : goal.returns-then-count-lt2

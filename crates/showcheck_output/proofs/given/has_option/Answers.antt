@@ -1,5 +1,4 @@
 use mathlib.Core.Path.{refl}
-use borrow.Author.Rules.{rules}
 use Rattle.showcheck_output.specs.Given.{has_option}
 use Rattle.showcheck_output.proofs.given.has_option.Goals as goal
 

@@ -1,5 +1,4 @@
 use Rattle.showcheck_output.specs.Given.{most_read}
-use borrow.Author.Rules.{rules}
 use Rattle.showcheck_output.proofs.given.most_read.Goals as goal
 
 pub returns-in-Nothing : goal.returns-in-Nothing

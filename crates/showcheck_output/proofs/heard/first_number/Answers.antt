@@ -1,6 +1,5 @@
 use Rattle.why_output.specs.Given.{quad_at}
 use Rattle.why_output.proofs.GivenLaws.{quad_is}
-use borrow.Author.Rules.{rules}
 use Rattle.showcheck_output.proofs.heard.first_number.Goals as goal
 
 pub returns : goal.returns

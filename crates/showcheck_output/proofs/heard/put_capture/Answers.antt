@@ -3,7 +3,6 @@ use Rattle.text.specs.Number.{ascii}
 use borrow.Author.Tests.{lt-ltb}
 use Rattle.text.specs.Line.{too_long_line}
 use Rattle.showcheck_output.specs.Input.{capture_text}
-use borrow.Author.Rules.{rules}
 use Rattle.showcheck_output.proofs.heard.put_capture.Goals as goal
 
 -- a lemma's facts, as the clauses have names

@@ -1,6 +1,5 @@
 use Rattle.text.specs.Number.{ascii}
 use Rattle.showcheck_output.specs.Input.{pcapng_text}
-use borrow.Author.Rules.{rules}
 use Rattle.showcheck_output.proofs.heard.put_pcapng.Goals as goal
 
 pub returns : goal.returns

@@ -2,7 +2,6 @@ use mathlib.Core.Path.{sym}
 use native.Mathlib.Omega.{arith}
 use lib.Seq.{length-take-le}
 use Rattle.showcheck_output.proofs.HeardLaws.{read-put, unread_put}
-use borrow.Author.Rules.{rules}
 use Rattle.showcheck_output.proofs.heard.put_read.Goals as goal
 
 pub slice_bounds-put_judged-end-in-Read : goal.slice_bounds-put_judged-end-in-Read

@@ -1,6 +1,5 @@
 use native.Mathlib.Omega.{arith}
 use Rattle.showcheck_output.proofs.HeardLaws.{rooms-put}
-use borrow.Author.Rules.{rules}
 use Rattle.showcheck_output.proofs.heard.put_rooms.Goals as goal
 
 -- a lemma's facts, as the clauses have names

@@ -1,6 +1,5 @@
 use Rattle.text.specs.Number.{ascii}
 use Rattle.showcheck_output.specs.Input.{frame_sentence}
-use borrow.Author.Rules.{rules}
 use Rattle.showcheck_output.proofs.heard.put_sentence.Goals as goal
 
 pub returns : goal.returns

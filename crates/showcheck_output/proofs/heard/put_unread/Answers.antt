@@ -5,7 +5,6 @@ use Rattle.text.proofs.RoomLaws.{put_then}
 use Rattle.text.specs.Line.{too_long_line}
 use Rattle.showcheck_output.specs.Input.{unread_text}
 use Rattle.showcheck_output.proofs.HeardLaws.{refusal-length}
-use borrow.Author.Rules.{rules}
 use Rattle.showcheck_output.proofs.heard.put_unread.Goals as goal
 
 -- a lemma's facts, as the clauses have names

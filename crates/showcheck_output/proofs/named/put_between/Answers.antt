@@ -2,7 +2,6 @@ use native.Mathlib.Omega.{arith}
 use Rattle.text.proofs.RoomLaws.{put_then}
 use Rattle.showcheck_output.specs.Findings.{between}
 use Rattle.showcheck_output.proofs.LengthLaws.{between-length}
-use borrow.Author.Rules.{rules}
 use Rattle.showcheck_output.proofs.named.put_between.Goals as goal
 
 -- a lemma's facts, as the clauses have names

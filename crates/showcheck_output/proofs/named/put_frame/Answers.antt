@@ -2,7 +2,6 @@ use native.Mathlib.Omega.{arith}
 use borrow.Author.Tests.{lt-ltb, le-ltb}
 use Rattle.text.specs.Number.{ascii}
 use Rattle.showcheck_output.specs.Findings.{frame_text}
-use borrow.Author.Rules.{rules}
 use Rattle.showcheck_output.proofs.named.put_frame.Goals as goal
 
 -- a lemma's facts, as the clauses have names

@@ -2,7 +2,6 @@ use native.Mathlib.Omega.{arith}
 use Rattle.text.proofs.RoomLaws.{put_then}
 use Rattle.showcheck_output.specs.Findings.{named}
 use Rattle.showcheck_output.proofs.LengthLaws.{named-length}
-use borrow.Author.Rules.{rules}
 use Rattle.showcheck_output.proofs.named.put_named.Goals as goal
 
 -- a lemma's facts, as the clauses have names

@@ -1,7 +1,6 @@
 use Rattle.cue.specs.declared.frame.Frame.{Frame}
 use Rattle.showcheck_output.specs.Findings.{unanswered}
 use Rattle.showcheck_output.proofs.FindingLaws.{none_is}
-use borrow.Author.Rules.{rules}
 use Rattle.showcheck_output.proofs.refused.has_none.Goals as goal
 
 pub returns-in-End : goal.returns-in-End

@@ -1,7 +1,6 @@
 use native.Mathlib.Omega.{arith}
 use Rattle.showcheck_output.specs.Findings.{bad_packet_text}
 use Rattle.showcheck_output.proofs.FindingLaws.{end-within, front_bytes_lem, behind-front}
-use borrow.Author.Rules.{rules}
 use Rattle.showcheck_output.proofs.refused.put_bad_packet.Goals as goal
 
 pub slice_bounds-put_refused-end : goal.slice_bounds-put_refused-end

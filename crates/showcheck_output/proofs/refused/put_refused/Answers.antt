@@ -1,7 +1,6 @@
 use Rattle.text.proofs.RoomLaws.{put_then}
 use Rattle.showcheck_output.specs.Findings.{refused_text}
 use Rattle.showcheck_output.proofs.LengthLaws.{refused-length}
-use borrow.Author.Rules.{rules}
 use Rattle.showcheck_output.proofs.refused.put_refused.Goals as goal
 
 -- a lemma's facts, as the clauses have names

@@ -2,7 +2,6 @@ use Rattle.text.specs.Number.{ascii}
 use Rattle.text.proofs.RoomLaws.{put_then}
 use Rattle.showcheck_output.specs.Findings.{shown_text}
 use Rattle.showcheck_output.proofs.LengthLaws.{shown-length}
-use borrow.Author.Rules.{rules}
 use Rattle.showcheck_output.proofs.refused.put_shown.Goals as goal
 
 -- a lemma's facts, as the clauses have names

@@ -1,6 +1,5 @@
 use Rattle.text.specs.Number.{ascii}
 use Rattle.showcheck_output.specs.Findings.{unanswered_text}
-use borrow.Author.Rules.{rules}
 use Rattle.showcheck_output.proofs.refused.put_unanswered.Goals as goal
 
 pub returns : goal.returns

@@ -2,7 +2,6 @@ use Rattle.showcheck_output.proofs.FindingLaws.{end_is, whole-within}
 use Rattle.showcheck_output.specs.Findings.{frame_end}
 use Rattle.cue.specs.declared.frame.Frame.{Frame}
 use native.Mathlib.Omega.{arith}
-use borrow.Author.Rules.{rules}
 use Rattle.showcheck_output.proofs.replies.frame_end.Goals as goal
 
 pub overflow_add-result : goal.overflow_add-result

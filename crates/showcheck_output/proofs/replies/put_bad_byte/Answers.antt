@@ -2,7 +2,6 @@ use Rattle.text.specs.Number.{ascii}
 use Rattle.text.proofs.RoomLaws.{put_then}
 use Rattle.showcheck_output.specs.Findings.{bad_byte_text}
 use Rattle.showcheck_output.proofs.LengthLaws.{bad-byte_length}
-use borrow.Author.Rules.{rules}
 use Rattle.showcheck_output.proofs.replies.put_bad_byte.Goals as goal
 
 -- a lemma's facts, as the clauses have names

@@ -1,6 +1,5 @@
 use native.Mathlib.Omega.{arith}
 use Rattle.showcheck_output.proofs.FindingLaws.{end-within, front_bytes_lem}
-use borrow.Author.Rules.{rules}
 use Rattle.showcheck_output.proofs.replies.put_behind.Goals as goal
 
 pub slice_bounds-put_both-end : goal.slice_bounds-put_both-end

@@ -1,9 +1,5 @@
-use mathlib.Core.Path.{sym}
-use native.Mathlib.Omega.{arith}
-use lib.Seq.{length-take-le}
 use Rattle.text.specs.Number.{ascii}
 use Rattle.showcheck_output.proofs.FindingLaws.{replies-put}
-use borrow.Author.Rules.{rules}
 use Rattle.showcheck_output.proofs.replies.put_both.Goals as goal
 
 pub returns : goal.returns

@@ -1,7 +1,6 @@
 use native.Mathlib.Omega.{arith}
 use Rattle.showcheck_output.specs.Findings.{replies_text}
 use Rattle.showcheck_output.proofs.FindingLaws.{end-within, behind-front}
-use borrow.Author.Rules.{rules}
 use Rattle.showcheck_output.proofs.replies.put_replies.Goals as goal
 
 pub slice_bounds-put_behind-count : goal.slice_bounds-put_behind-count

@@ -1,7 +1,6 @@
 use native.Mathlib.Omega.{arith}
 use lib.ListN.{length-append}
 use Rattle.text.proofs.RoomLaws.{put_then}
-use borrow.Author.Rules.{rules}
 use Rattle.showcheck_output.proofs.verdict.put_fault.Goals as goal
 
 -- a lemma's facts, as the clauses have names

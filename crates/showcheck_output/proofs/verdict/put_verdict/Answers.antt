@@ -2,7 +2,6 @@ use native.Mathlib.Omega.{arith}
 use Rattle.text.specs.Number.{ascii}
 use Rattle.showcheck_output.proofs.LengthLaws.{said-room}
 use Rattle.showcheck_output.specs.Findings.{verdict_text}
-use borrow.Author.Rules.{rules}
 use Rattle.showcheck_output.proofs.verdict.put_verdict.Goals as goal
 
 -- a lemma's facts, as the clauses have names

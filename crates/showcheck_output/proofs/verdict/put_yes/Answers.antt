@@ -3,7 +3,6 @@ use Rattle.text.proofs.LineLaws.{cond-length}
 use lib.Dec.{eqb}
 use Rattle.text.specs.Number.{ascii}
 use Rattle.showcheck_output.specs.Findings.{yes_text}
-use borrow.Author.Rules.{rules}
 use Rattle.showcheck_output.proofs.verdict.put_yes.Goals as goal
 
 pub returns : goal.returns

@@ -1,9 +1,4 @@
-use Prim.Native.Nat.{◌+◌, ◌-◌, ◌≤◌}
-use mathlib.Core.Path.{◌≡◌}
 use native.Mathlib.Omega.{arith}
-use borrow.Author.Rules.{rules}
-use lib.ListN.{length, drop}
-use Rattle.text.specs.Find.{bytes_before}
 use Rattle.text.proofs.FindLaws.{before_here, before-next, before-end}
 use Rattle.text.proofs.find.bytes_before.Goals as goal
 

@@ -1,5 +1,4 @@
 use native.Mathlib.Omega.{arith}
-use borrow.Author.Rules.{rules}
 use Rattle.text.proofs.FindLaws.{low-none, low_digit, middle-none, high_digit, small-none, small-digit, no_digit}
 use Rattle.text.proofs.find.hex_value.Goals as goal
 

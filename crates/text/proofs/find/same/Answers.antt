@@ -1,9 +1,6 @@
-use Prim.Native.Nat.{◌-◌, ◌≤◌}
-use mathlib.Core.Path.{◌≡◌, refl, sym, ◌∙◌}
+use mathlib.Core.Path.{refl, sym, ◌∙◌}
 use native.Mathlib.Omega.{arith}
 use borrow.Author.Rules.{rules}
-use lib.ListN.{length, drop}
-use Rattle.text.specs.Find.{same_bytes}
 use Rattle.text.proofs.FindLaws.{same_lengths, same_next, same_differs, same_end}
 use Rattle.text.proofs.find.same.Goals as goal
 

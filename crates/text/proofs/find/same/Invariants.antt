@@ -1,10 +1,7 @@
 use Prim.Native.Nat.{◌-◌, ◌≤◌}
-use mathlib.Core.Path.{◌≡◌, refl, sym, ◌∙◌}
-use native.Mathlib.Omega.{arith}
-use borrow.Author.Rules.{rules}
+use mathlib.Core.Path.{◌≡◌}
 use lib.ListN.{length, drop}
 use Rattle.text.specs.Find.{same_bytes}
-use Rattle.text.proofs.FindLaws.{same_lengths, same_next, same_differs, same_end}
 use Rattle.text.proofs.find.same.Given as goal
 
 abbrev pub invariant-loop-i : goal.invariant-loop-i

@@ -1,5 +1,4 @@
 use Rattle.text.proofs.FindLaws.{string_is, string_count}
-use borrow.Author.Rules.{rules}
 use Rattle.text.proofs.find.string.Goals as goal
 
 pub slice_bounds-result-end : goal.slice_bounds-result-end

@@ -1,6 +1,5 @@
 use Rattle.text.specs.Line.{numbered}
 use Rattle.text.proofs.RoomLaws.{put_then}
-use borrow.Author.Rules.{rules}
 use Rattle.text.proofs.line.numbered.Goals as goal
 
 pub returns : goal.returns

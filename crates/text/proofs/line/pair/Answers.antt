@@ -1,7 +1,6 @@
 use Rattle.text.specs.Number.{ascii}
 use Rattle.text.specs.Line.{pair_line}
 use Rattle.text.proofs.RoomLaws.{put_then}
-use borrow.Author.Rules.{rules}
 use Rattle.text.proofs.line.pair.Goals as goal
 
 pub returns : goal.returns

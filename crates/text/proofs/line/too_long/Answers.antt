@@ -1,6 +1,5 @@
 use Rattle.text.specs.Number.{ascii}
 use Rattle.text.specs.Line.{too_long_line}
-use borrow.Author.Rules.{rules}
 use Rattle.text.proofs.line.too_long.Goals as goal
 
 pub returns : goal.returns

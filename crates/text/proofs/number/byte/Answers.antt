@@ -1,6 +1,5 @@
 use native.Mathlib.Omega.{arith}
 use Rattle.text.proofs.HexLaws.{byte_put}
-use borrow.Author.Rules.{rules}
 use Rattle.text.proofs.number.byte.Goals as goal
 
 pub returns : goal.returns

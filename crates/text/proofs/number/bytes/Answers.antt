@@ -1,10 +1,7 @@
-use borrow.Author.Rules.{rules}
-use Prim.Native.Nat.{◌-◌, ◌≤◌}
-use mathlib.Core.Path.{◌≡◌, refl, ◌∙◌}
+use mathlib.Core.Path.{refl, ◌∙◌}
 use native.Mathlib.Omega.{arith}
-use lib.ListN.{length, drop, drop_of_length-le}
+use lib.ListN.{drop_of_length-le}
 use Rattle.text.specs.Number.{bytes_of_hex}
-use Rattle.text.specs.Room.{put_at}
 use Rattle.text.proofs.RoomLaws.{put-least, put-none, put-within}
 use Rattle.text.proofs.HexLaws.{bytes-put}
 use Rattle.text.proofs.number.bytes.Goals as goal

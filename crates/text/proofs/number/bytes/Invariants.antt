@@ -1,12 +1,8 @@
-use borrow.Author.Rules.{rules}
 use Prim.Native.Nat.{◌-◌, ◌≤◌}
-use mathlib.Core.Path.{◌≡◌, refl, ◌∙◌}
-use native.Mathlib.Omega.{arith}
-use lib.ListN.{length, drop, drop_of_length-le}
+use mathlib.Core.Path.{◌≡◌}
+use lib.ListN.{length, drop}
 use Rattle.text.specs.Number.{bytes_of_hex}
 use Rattle.text.specs.Room.{put_at}
-use Rattle.text.proofs.RoomLaws.{put-least, put-none, put-within}
-use Rattle.text.proofs.HexLaws.{bytes-put}
 use Rattle.text.proofs.number.bytes.Given as goal
 
 abbrev pub invariant-loop-i : goal.invariant-loop-i

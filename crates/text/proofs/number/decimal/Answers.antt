@@ -3,7 +3,7 @@ use mathlib.Core.Path.{refl}
 use borrow.Author.Rules.{rules}
 use lib.ListN.{replicate}
 use native.Mathlib.Omega.{arith}
-use Rattle.text.proofs.DecimalLaws.{Counting, counting-first, counting_more, counting-some, counting-all}
+use Rattle.text.proofs.DecimalLaws.{counting-first, counting_more, counting-some, counting-all}
 use Rattle.text.proofs.number.decimal.Goals as goal
 
 pub loop-left-init : goal.loop-left-init

@@ -1,9 +1,4 @@
-use Prim.Native.Nat.{◌^◌, ◌<◌}
-use mathlib.Core.Path.{refl}
-use borrow.Author.Rules.{rules}
-use lib.ListN.{replicate}
-use native.Mathlib.Omega.{arith}
-use Rattle.text.proofs.DecimalLaws.{Counting, counting-first, counting_more, counting-some, counting-all}
+use Rattle.text.proofs.DecimalLaws.{Counting}
 use Rattle.text.proofs.number.decimal.Given as goal
 
 abbrev pub invariant-loop-left : goal.invariant-loop-left

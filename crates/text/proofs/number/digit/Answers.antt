@@ -1,4 +1,3 @@
-use borrow.Author.Rules.{rules}
 use Rattle.text.proofs.number.digit.Goals as goal
 
 pub returns : goal.returns

@@ -1,5 +1,4 @@
 use native.Mathlib.Omega.{arith}
-use borrow.Author.Rules.{rules}
 use Rattle.text.proofs.HexLaws.{no_digit, shifted-digit}
 use Rattle.text.proofs.number.digit_at.Goals as goal
 

@@ -1,10 +1,6 @@
-use borrow.Author.Rules.{rules}
-use Prim.Native.Nat.{◌≤◌}
 use mathlib.Core.Path.{◌≡◌, refl, ◌∙◌}
 use native.Mathlib.Omega.{arith}
-use lib.ListN.{length}
 use Rattle.text.specs.Number.{hexadecimal}
-use Rattle.text.specs.Room.{put_at}
 use Rattle.text.proofs.RoomLaws.{put-least, put-none, put-within}
 use Rattle.text.proofs.HexLaws.{hex_put}
 use Rattle.text.proofs.number.hex.Goals as goal

@@ -1,5 +1,4 @@
 use mathlib.Core.Path.{refl}
-use borrow.Author.Rules.{rules}
 use Rattle.text.specs.Number.{digit}
 use Rattle.text.proofs.number.last_code.Goals as goal
 

@@ -1,6 +1,5 @@
 use mathlib.Core.Path.{refl}
 use Rattle.why_output.specs.Given.{pointers_in}
-use borrow.Author.Rules.{rules}
 use Rattle.why_output.proofs.given.pointers_in.Goals as goal
 
 pub returns : goal.returns

@@ -1,5 +1,4 @@
 use Rattle.why_output.proofs.GivenLaws.{quad_is}
-use borrow.Author.Rules.{rules}
 use Rattle.why_output.proofs.given.quad_at.Goals as goal
 
 pub returns : goal.returns

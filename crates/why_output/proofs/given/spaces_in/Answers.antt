@@ -1,6 +1,5 @@
 use mathlib.Core.Path.{◌∙◌}
 use Rattle.why_output.specs.Given.{spaces_in}
-use borrow.Author.Rules.{rules}
 use Rattle.why_output.proofs.given.spaces_in.Goals as goal
 
 pub returns : goal.returns

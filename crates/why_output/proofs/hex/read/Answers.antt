@@ -1,8 +1,5 @@
 use native.Mathlib.Omega.{arith}
-use Prim.Native.Nat.{◌-◌}
-use lib.ListN.{length}
-use Rattle.why_output.proofs.HexLaws.{Reading, reading-start, reading-bad, reading-blank, reading-byte, reading-end, byte-within}
-use borrow.Author.Rules.{rules}
+use Rattle.why_output.proofs.HexLaws.{reading-start, reading-bad, reading-blank, reading-byte, reading-end, byte-within}
 use Rattle.why_output.proofs.hex.read.Goals as goal
 
 pub loop-i-init : goal.loop-i-init

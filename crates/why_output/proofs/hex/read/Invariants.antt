@@ -1,8 +1,6 @@
-use native.Mathlib.Omega.{arith}
 use Prim.Native.Nat.{◌-◌}
 use lib.ListN.{length}
-use Rattle.why_output.proofs.HexLaws.{Reading, reading-start, reading-bad, reading-blank, reading-byte, reading-end, byte-within}
-use borrow.Author.Rules.{rules}
+use Rattle.why_output.proofs.HexLaws.{Reading}
 use Rattle.why_output.proofs.hex.read.Given as goal
 
 abbrev pub invariant-loop-i : goal.invariant-loop-i

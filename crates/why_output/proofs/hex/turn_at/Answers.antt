@@ -1,5 +1,4 @@
 use Rattle.why_output.proofs.HexLaws.{turn-blank, turn-bad, turn-half, turn_byte}
-use borrow.Author.Rules.{rules}
 use Rattle.why_output.proofs.hex.turn_at.Goals as goal
 
 pub returns-then-is_blank : goal.returns-then-is_blank

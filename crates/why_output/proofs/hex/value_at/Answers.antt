@@ -1,5 +1,4 @@
 use Rattle.why_output.proofs.HexLaws.{past-digit}
-use borrow.Author.Rules.{rules}
 use Rattle.why_output.proofs.hex.value_at.Goals as goal
 
 pub returns-then-text-i : goal.returns-then-text-i

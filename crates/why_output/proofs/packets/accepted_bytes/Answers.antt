@@ -1,6 +1,5 @@
 use mathlib.Core.Path.{refl}
 use Rattle.why_output.specs.Packets.{accepted_bytes}
-use borrow.Author.Rules.{rules}
 use Rattle.why_output.proofs.packets.accepted_bytes.Goals as goal
 
 pub returns-in-End : goal.returns-in-End

@@ -1,5 +1,4 @@
 use Rattle.why_output.proofs.PacketsLaws.{inside_is}
-use borrow.Author.Rules.{rules}
 use Rattle.why_output.proofs.packets.in_frame.Goals as goal
 
 pub returns : goal.returns

@@ -1,6 +1,5 @@
 use mathlib.Core.Path.{refl}
 use Rattle.why_output.specs.Packets.{stops}
-use borrow.Author.Rules.{rules}
 use Rattle.why_output.proofs.packets.is_stop.Goals as goal
 
 pub returns-in-End : goal.returns-in-End

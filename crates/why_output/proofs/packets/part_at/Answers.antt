@@ -1,6 +1,5 @@
 use mathlib.Core.Path.{◌∙◌}
 use Rattle.why_output.proofs.PacketsLaws.{part_end, part_cut, part-unmarked, part-whole}
-use borrow.Author.Rules.{rules}
 use Rattle.why_output.proofs.packets.part_at.Goals as goal
 
 pub returns-in-End : goal.returns-in-End

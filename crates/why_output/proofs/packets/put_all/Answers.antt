@@ -2,7 +2,6 @@ use Rattle.text.specs.Number.{ascii}
 use borrow.Author.Tests.{eq-eqb, ne_eqb}
 use Rattle.text.proofs.RoomLaws.{put_then}
 use Rattle.why_output.specs.Packets.{all_text}
-use borrow.Author.Rules.{rules}
 use Rattle.why_output.proofs.packets.put_all.Goals as goal
 
 pub returns-then-n-eq0 : goal.returns-then-n-eq0

@@ -6,7 +6,6 @@ use lib.Seq.{length-take-le}
 use Rattle.text.specs.Number.{ascii}
 use Rattle.text.proofs.RoomLaws.{put_then}
 use Rattle.why_output.proofs.RoomLaws.{few-shown, few-length, many-shown, many-length}
-use borrow.Author.Rules.{rules}
 use Rattle.why_output.proofs.packets.put_bytes.Goals as goal
 
 pub returns-then-packet-le-LIMIT : goal.returns-then-packet-le-LIMIT

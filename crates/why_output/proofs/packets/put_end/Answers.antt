@@ -1,5 +1,4 @@
 use Rattle.text.proofs.RoomLaws.{put_then}
-use borrow.Author.Rules.{rules}
 use Rattle.why_output.proofs.packets.put_end.Goals as goal
 
 pub returns : goal.returns

@@ -1,9 +1,8 @@
-use mathlib.Core.Path.{◌≡◌, refl, ap, ◌∙◌}
+use mathlib.Core.Path.{refl, ap, ◌∙◌}
 use native.Mathlib.Omega.{arith}
 use lib.ListN.{length, length-take, length-drop}
 use Rattle.text.proofs.RoomLaws.{put-within}
-use Rattle.why_output.proofs.PacketsLaws.{Judging, judging_start, judging_stop, judging_within, judging_next}
-use borrow.Author.Rules.{rules}
+use Rattle.why_output.proofs.PacketsLaws.{judging_start, judging_stop, judging_within, judging_next}
 use Rattle.why_output.proofs.packets.put_packets.Goals as goal
 
 pub loop-room-init : goal.loop-room-init

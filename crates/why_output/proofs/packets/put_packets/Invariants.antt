@@ -1,9 +1,6 @@
-use mathlib.Core.Path.{◌≡◌, refl, ap, ◌∙◌}
-use native.Mathlib.Omega.{arith}
-use lib.ListN.{length, length-take, length-drop}
-use Rattle.text.proofs.RoomLaws.{put-within}
-use Rattle.why_output.proofs.PacketsLaws.{Judging, judging_start, judging_stop, judging_within, judging_next}
-use borrow.Author.Rules.{rules}
+use mathlib.Core.Path.{◌≡◌}
+use lib.ListN.{length}
+use Rattle.why_output.proofs.PacketsLaws.{Judging}
 use Rattle.why_output.proofs.packets.put_packets.Given as goal
 
 abbrev pub invariant-loop-room : goal.invariant-loop-room

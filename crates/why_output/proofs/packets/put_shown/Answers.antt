@@ -1,7 +1,6 @@
 use Rattle.text.proofs.RoomLaws.{put_then}
 use Rattle.text.specs.Number.{ascii}
 use Rattle.why_output.specs.Packets.{shown_text}
-use borrow.Author.Rules.{rules}
 use Rattle.why_output.proofs.packets.put_shown.Goals as goal
 
 pub returns : goal.returns

@@ -1,7 +1,6 @@
 use Rattle.text.specs.Number.{ascii}
 use Rattle.text.proofs.RoomLaws.{put_then}
 use Rattle.why_output.specs.Packets.{stop_text}
-use borrow.Author.Rules.{rules}
 use Rattle.why_output.proofs.packets.put_stop.Goals as goal
 
 pub returns-in-End : goal.returns-in-End

@@ -1,5 +1,4 @@
 use Rattle.why_output.proofs.PacketsLaws.{ran-accepted, ran-refused}
-use borrow.Author.Rules.{rules}
 use Rattle.why_output.proofs.packets.ran_at.Goals as goal
 
 pub returns-in-Accepted : goal.returns-in-Accepted

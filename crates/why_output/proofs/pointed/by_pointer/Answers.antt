@@ -1,6 +1,5 @@
 use mathlib.Core.Path.{refl}
 use Rattle.why_output.specs.Pointed.{by_pointer}
-use borrow.Author.Rules.{rules}
 use Rattle.why_output.proofs.pointed.by_pointer.Goals as goal
 
 pub returns : goal.returns

@@ -1,7 +1,5 @@
 use mathlib.Core.Path.{sym, ◌∙◌}
-use Prim.Native.Nat.{◌-◌}
-use Rattle.why_output.proofs.PointedLaws.{Looking, looking_start, looking_found, looking_next, looking_less, looking_end}
-use borrow.Author.Rules.{rules}
+use Rattle.why_output.proofs.PointedLaws.{looking_start, looking_found, looking_next, looking_less, looking_end}
 use Rattle.why_output.proofs.pointed.pointed_before.Goals as goal
 
 pub loop-n-init : goal.loop-n-init

@@ -1,7 +1,4 @@
-use mathlib.Core.Path.{sym, ◌∙◌}
-use Prim.Native.Nat.{◌-◌}
-use Rattle.why_output.proofs.PointedLaws.{Looking, looking_start, looking_found, looking_next, looking_less, looking_end}
-use borrow.Author.Rules.{rules}
+use Rattle.why_output.proofs.PointedLaws.{Looking}
 use Rattle.why_output.proofs.pointed.pointed_before.Given as goal
 
 abbrev pub invariant-loop-n : goal.invariant-loop-n

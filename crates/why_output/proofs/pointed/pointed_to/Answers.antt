@@ -1,6 +1,5 @@
 use mathlib.Core.Path.{refl}
 use Rattle.why_output.specs.Pointed.{pointed_to}
-use borrow.Author.Rules.{rules}
 use Rattle.why_output.proofs.pointed.pointed_to.Goals as goal
 
 pub returns : goal.returns

@@ -1,7 +1,6 @@
 use mathlib.Core.Path.{refl}
 use borrow.Author.Tests.{eq-eqb, ne_eqb, lt-ltb, le-ltb}
 use Rattle.why_output.specs.Pointed.{uses_pointer}
-use borrow.Author.Rules.{rules}
 use Rattle.why_output.proofs.pointed.uses_pointer.Goals as goal
 
 pub returns-then-r-eq0 : goal.returns-then-r-eq0

@@ -1,7 +1,6 @@
 use mathlib.Core.Path.{refl}
 use Rattle.why_output.specs.Words.{is_option}
 use Rattle.why_output.proofs.WordsLaws.{no_option}
-use borrow.Author.Rules.{rules}
 use Rattle.why_output.proofs.words.is_option.Goals as goal
 
 pub returns-then-word-eq0 : goal.returns-then-word-eq0

@@ -1,7 +1,6 @@
 use Rattle.text.specs.Number.{ascii}
 use Rattle.text.proofs.RoomLaws.{put_then}
 use Rattle.why_output.specs.Words.{usage_text}
-use borrow.Author.Rules.{rules}
 use Rattle.why_output.proofs.words.put_usage.Goals as goal
 
 pub returns : goal.returns

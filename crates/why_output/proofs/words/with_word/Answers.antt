@@ -1,7 +1,6 @@
 use mathlib.Core.Path.{refl}
 use Rattle.text.specs.Number.{ascii}
 use Rattle.why_output.specs.Words.{with_word}
-use borrow.Author.Rules.{rules}
 use Rattle.why_output.proofs.words.with_word.Goals as goal
 
 pub returns-then-same : goal.returns-then-same

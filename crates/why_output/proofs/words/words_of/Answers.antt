@@ -1,7 +1,6 @@
 use mathlib.Core.Path.{◌≡◌, ◌∙◌}
 use native.Mathlib.Omega.{arith}
 use Rattle.why_output.proofs.WordsLaws.{words-many, words-none, words-one, words-two, words-three}
-use borrow.Author.Rules.{rules}
 use Rattle.why_output.proofs.words.words_of.Goals as goal
 
 pub returns-then-count-gt4 : goal.returns-then-count-gt4

@@ -1,4 +1,3 @@
-use borrow.Author.Rules.{rules}
 use Rattle.lbp16.specs.Pointer.{advanced}
 use native.Mathlib.Omega.{arith}
 use Rattle.lbp16.proofs.pointer.Pointer.advance.Goals as goal

@@ -1,4 +1,3 @@
-use borrow.Author.Rules.{rules}
 use Rattle.lbp16.specs.Pointer.{fresh}
 use Rattle.lbp16.proofs.pointer.Pointers.fresh.Goals as goal
 

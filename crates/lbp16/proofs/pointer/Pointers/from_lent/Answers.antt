@@ -1,4 +1,3 @@
-use borrow.Author.Rules.{rules}
 use mathlib.Core.Path.{refl}
 use Rattle.lbp16.specs.Pointer.{pointers_of}
 use Rattle.lbp16.proofs.pointer.Pointers.from_lent.Goals as goal

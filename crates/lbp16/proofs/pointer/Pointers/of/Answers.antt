@@ -1,4 +1,3 @@
-use borrow.Author.Rules.{rules}
 use Rattle.lbp16.specs.Pointer.{pointer_of}
 use Rattle.lbp16.proofs.pointer.Pointers.of.Goals as goal
 

@@ -1,4 +1,3 @@
-use borrow.Author.Rules.{rules}
 use Rattle.lbp16.specs.Pointer.{with_pointer}
 use Rattle.lbp16.proofs.pointer.Pointers.with.Goals as goal
 

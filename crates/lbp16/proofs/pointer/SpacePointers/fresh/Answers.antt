@@ -1,4 +1,3 @@
-use borrow.Author.Rules.{rules}
 use Rattle.lbp16.specs.Pointer.{fresh_spaces}
 use Rattle.lbp16.proofs.pointer.SpacePointers.fresh.Goals as goal
 

@@ -1,4 +1,3 @@
-use borrow.Author.Rules.{rules}
 use mathlib.Core.Path.{◌∙◌}
 use Rattle.lbp16.specs.Pointer.{spaces_at}
 use Rattle.lbp16.proofs.pointer.SpacePointers.from_lent.Goals as goal
