@@ -27,7 +27,8 @@ use Rattle.text.specs.Number.{ascii}
 use Rattle.text.specs.Find.{same_bytes}
 use Rattle.cue_text.specs.Words.{lines_of, words_of, words_from}
 use Rattle.cue_text.specs.Text
-use Rattle.cue_text.specs.Text.{Name, bytes_of_cue, step_of, read_of, write_of, place_by, read_form, write_form, form_of, record_meaning, read_meaning, write_meaning}
+use Rattle.cue_text.specs.Text.{Name, bytes_of_cue, step_of, read_of, write_of, place_by}
+use Rattle.cue_text.specs.Text.{read_form, write_form, form_of, record_meaning, read_meaning, write_meaning}
 use Rattle.cue_text.specs.Text.{form_meaning, line_meaning}
 use Rattle.cue_text.specs.Assembled.{cues, with_cue, with_line, known_after, index_after, assembled_from, assembled, list_of}
 use Rattle.space_text.specs.SpaceText.{space_word}

@@ -1,5 +1,6 @@
 -- The inside of private functions' contracts.
-use Rattle.std.specs.Prelude.{ℕ, zero, suc, ◌+◌, ◌*◌, ◌≤◌, ◌<◌, ◌≡◌, List, [], ◌∷◌, ◌++◌, length, take, drop, get_or, eqb, ltb, leb, Bool, true, false, not, ◌&&◌}
+use Rattle.std.specs.Prelude.{ℕ, zero, suc, ◌+◌, ◌*◌, ◌≤◌, ◌<◌, ◌≡◌, List, [], ◌∷◌, ◌++◌}
+use Rattle.std.specs.Prelude.{length, take, drop, get_or, eqb, ltb, leb, Bool, true, false, not, ◌&&◌}
 use Rattle.lbp16.specs.Answer.{Answer, accepted, refused}
 use Rattle.packet.specs.Bytes.{number}
 use Rattle.packet.specs.Command.{limit, pick_kind}

@@ -1,7 +1,8 @@
 -- The inside of private functions' contracts. Laws in proofs/ tie it to the definitions of Table.antt.
 use Rattle.std.specs.Prelude.{ℕ, zero, suc, ◌+◌, ◌≤◌, ◌<◌, ◌≡◌, List, [], ◌∷◌, ◌++◌, true, false, ◌||◌, cond, length, take, drop, eqb, ltb}
 use Rattle.lbp16.specs.Answer.{Answer, accepted, refused}
-use Rattle.sserial.specs.Table.{Table, unreadable, fields, table_at, directed, stands_in, bits, any_miswide, pair_at, entry_of, sound_field, sound_mode, field_of}
+use Rattle.sserial.specs.Table.{Table, unreadable, fields, table_at, directed, stands_in}
+use Rattle.sserial.specs.Table.{bits, any_miswide, pair_at, entry_of, sound_field, sound_mode, field_of}
 use Rattle.sserial.specs.declared.table.Field.{Field}
 use Rattle.sserial.specs.declared.table.Entry.{Entry}
 use Rattle.sserial.specs.declared.table.Entry.TheVariants.{Unreadable, Mode}
