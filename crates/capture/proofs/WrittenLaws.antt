@@ -473,7 +473,8 @@ file-back : (big nano : Bool) (l : Link) (more : List ℕ)
     → file_of (file_header big nano l ++ more) ≡ record { good = true; big = big; link = link_number l }
 unfolding file_of
 file-back big nano l more =
-    let n : length (file_header big nano l ++ more) ≡ 24 + length more = length-append (file_header big nano l) more ∙ rw (header-length big nano l more) refl in
+    let n : length (file_header big nano l ++ more) ≡ 24 + length more =
+        length-append (file_header big nano l) more ∙ rw (header-length big nano l more) refl in
     rw (
       magic_big big nano l more,
       magic_any big nano l more,

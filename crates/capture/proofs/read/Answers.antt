@@ -13,7 +13,8 @@ named2 f h = f h.0 h.1
 
 pub returns-then-not-f : goal.returns-then-not-f
 unfolding capture_listed
-returns-then-not-f c = named2 (λ h0 h1. record { captured = h0; same_recording = h1 }) (promised _ _ _ _ (sym (bad-file _ _ _ _ c.file_of-f.ensures (not-true _ c.if-not-f.true))))
+returns-then-not-f c = named2 (λ h0 h1. record { captured = h0; same_recording = h1 })
+    (promised _ _ _ _ (sym (bad-file _ _ _ _ c.file_of-f.ensures (not-true _ c.if-not-f.true))))
 
 pub slice_bounds-walk-count : goal.slice_bounds-walk-count
 slice_bounds-walk-count c = header-there _ _ c.file_of-f.ensures (not-false _ c.if-not-f.false)

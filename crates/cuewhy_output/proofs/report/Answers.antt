@@ -14,7 +14,8 @@ pub returns-then-list-gt-MOST : goal.returns-then-list-gt-MOST
 returns-then-list-gt-MOST c = said-too_long _ _ _ _ _ (search rules) c.if-count-ne1.false c.if-list-gt-MOST.true c.too_long.ensures
 
 pub returns-then-w-eq0 : goal.returns-then-w-eq0
-returns-then-w-eq0 c = said-accepted _ _ _ _ _ (search rules) c.if-count-ne1.false c.if-list-gt-MOST.false _ c.why-w.ensures.why c.if-w-eq0.true _ c.walk-good.ensures
+returns-then-w-eq0 c = said-accepted _ _ _ _ _ (search rules) c.if-count-ne1.false c.if-list-gt-MOST.false _ c.why-w.ensures.why c.if-w-eq0.true _
+    c.walk-good.ensures
     c.accepted.ensures
 
 pub slice_bounds-refused-count : goal.slice_bounds-refused-count

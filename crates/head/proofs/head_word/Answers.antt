@@ -16,10 +16,12 @@ fields_from-requires c = let fields = c.args.fields.now in
 
 pub returns-in-Word : goal.returns-in-Word
 unfolding word_given number_of word_left listed export_word
-returns-in-Word c = let at_answer : export_word c.args.fields.now ≡ listed c.word_of-written.result = rw (← c.bad_fields.ensures, c.if-bad_fields.false, ← c.fields_from.ensures) (sym c.word_of-written.ensures) in
+returns-in-Word c = let at_answer : export_word c.args.fields.now ≡ listed c.word_of-written.result =
+    rw (← c.bad_fields.ensures, c.if-bad_fields.false, ← c.fields_from.ensures) (sym c.word_of-written.ensures) in
     rw (at_answer, c.in-Word.is) refl
 
 pub returns-in-Refused : goal.returns-in-Refused
 unfolding word_given number_of word_left listed export_word
-returns-in-Refused c = let at_answer : export_word c.args.fields.now ≡ listed c.word_of-written.result = rw (← c.bad_fields.ensures, c.if-bad_fields.false, ← c.fields_from.ensures) (sym c.word_of-written.ensures) in
+returns-in-Refused c = let at_answer : export_word c.args.fields.now ≡ listed c.word_of-written.result =
+    rw (← c.bad_fields.ensures, c.if-bad_fields.false, ← c.fields_from.ensures) (sym c.word_of-written.ensures) in
     rw (at_answer, c.in-Refused.is) refl

@@ -9,7 +9,8 @@ named2 f h = f h.0 h.1
 
 pub returns-then-refusal-ne0 : goal.returns-then-refusal-ne0
 unfolding independence_listed
-returns-then-refusal-ne0 c = named2 (λ h0 h1. record { answer = h0; either = h1 }) (answered _ _ _ (first-refused _ _ _ c.refusal_of-refusal.ensures c.if-refusal-ne0.true))
+returns-then-refusal-ne0 c = named2 (λ h0 h1. record { answer = h0; either = h1 })
+    (answered _ _ _ (first-refused _ _ _ c.refusal_of-refusal.ensures c.if-refusal-ne0.true))
 
 pub returns-then-refusal-ne0-2 : goal.returns-then-refusal-ne0-2
 unfolding independence_listed

@@ -15,17 +15,20 @@ pub returns-then-number-ne0 : goal.returns-then-number-ne0
 returns-then-number-ne0 c = going-refused c.loop-rest.invariant _ c.loop-rest-test.true c.record_refusal-number.ensures c.if-number-ne0.true
 
 pub slice_bounds-rest-count : goal.slice_bounds-rest-count
-slice_bounds-rest-count c = let at_whole : c.record_bytes-n.result ≤ length c.loop-rest.rest.now = going-whole c.loop-rest.invariant c.loop-rest-test.true _ c.record_refusal-number.ensures c.if-number-ne0.false _ c.record_at-r.ensures _
+slice_bounds-rest-count c = let at_whole : c.record_bytes-n.result ≤ length c.loop-rest.rest.now =
+    going-whole c.loop-rest.invariant c.loop-rest-test.true _ c.record_refusal-number.ensures c.if-number-ne0.false _ c.record_at-r.ensures _
     c.record_bytes-n.ensures.0 in
     at_whole
 
 pub slice_bounds-rest-start : goal.slice_bounds-rest-start
-slice_bounds-rest-start c = let at_whole : c.record_bytes-n.result ≤ length c.loop-rest.rest.now = going-whole c.loop-rest.invariant c.loop-rest-test.true _ c.record_refusal-number.ensures c.if-number-ne0.false _ c.record_at-r.ensures _
+slice_bounds-rest-start c = let at_whole : c.record_bytes-n.result ≤ length c.loop-rest.rest.now =
+    going-whole c.loop-rest.invariant c.loop-rest-test.true _ c.record_refusal-number.ensures c.if-number-ne0.false _ c.record_at-r.ensures _
     c.record_bytes-n.ensures.0 in
     search rules
 
 pub slice_bounds-rest-end : goal.slice_bounds-rest-end
-slice_bounds-rest-end c = let at_whole : c.record_bytes-n.result ≤ length c.loop-rest.rest.now = going-whole c.loop-rest.invariant c.loop-rest-test.true _ c.record_refusal-number.ensures c.if-number-ne0.false _ c.record_at-r.ensures _
+slice_bounds-rest-end c = let at_whole : c.record_bytes-n.result ≤ length c.loop-rest.rest.now =
+    going-whole c.loop-rest.invariant c.loop-rest-test.true _ c.record_refusal-number.ensures c.if-number-ne0.false _ c.record_at-r.ensures _
     c.record_bytes-n.ensures.0 in
     search rules
 
@@ -33,7 +36,8 @@ pub overflow_add-index : goal.overflow_add-index
 overflow_add-index c = let few = c.loop-rest.invariant.few in omega arith
 
 pub loop-rest-smaller : goal.loop-rest-smaller
-loop-rest-smaller c = going-shorter c.loop-rest.invariant c.loop-rest-test.true _ c.record_refusal-number.ensures c.if-number-ne0.false _ c.record_at-r.ensures _
+loop-rest-smaller c = going-shorter c.loop-rest.invariant c.loop-rest-test.true _ c.record_refusal-number.ensures c.if-number-ne0.false _
+    c.record_at-r.ensures _
     c.record_bytes-n.ensures.0
 
 pub loop-rest-preserved : goal.loop-rest-preserved

@@ -11,15 +11,18 @@ pub put_line-at-requires : goal.put_line-at-requires
 put_line-at-requires c = (c.record_at-r.ensures, putting_there c.loop-rest.invariant c.loop-rest-test.true _ c.record_at-r.ensures)
 
 pub slice_bounds-rest-count : goal.slice_bounds-rest-count
-slice_bounds-rest-count c = let at_whole : c.record_bytes-n.result ≤ length c.loop-rest.rest.now = putting_whole c.loop-rest.invariant c.loop-rest-test.true _ c.record_at-r.ensures _ c.record_bytes-n.ensures.0 in
+slice_bounds-rest-count c = let at_whole : c.record_bytes-n.result ≤ length c.loop-rest.rest.now =
+    putting_whole c.loop-rest.invariant c.loop-rest-test.true _ c.record_at-r.ensures _ c.record_bytes-n.ensures.0 in
     at_whole
 
 pub slice_bounds-rest-start : goal.slice_bounds-rest-start
-slice_bounds-rest-start c = let at_whole : c.record_bytes-n.result ≤ length c.loop-rest.rest.now = putting_whole c.loop-rest.invariant c.loop-rest-test.true _ c.record_at-r.ensures _ c.record_bytes-n.ensures.0 in
+slice_bounds-rest-start c = let at_whole : c.record_bytes-n.result ≤ length c.loop-rest.rest.now =
+    putting_whole c.loop-rest.invariant c.loop-rest-test.true _ c.record_at-r.ensures _ c.record_bytes-n.ensures.0 in
     at_whole
 
 pub loop-rest-smaller : goal.loop-rest-smaller
-loop-rest-smaller c = let at_whole : c.record_bytes-n.result ≤ length c.loop-rest.rest.now = putting_whole c.loop-rest.invariant c.loop-rest-test.true _ c.record_at-r.ensures _ c.record_bytes-n.ensures.0 in
+loop-rest-smaller c = let at_whole : c.record_bytes-n.result ≤ length c.loop-rest.rest.now =
+    putting_whole c.loop-rest.invariant c.loop-rest-test.true _ c.record_at-r.ensures _ c.record_bytes-n.ensures.0 in
     let some = putting_some c.loop-rest.invariant c.loop-rest-test.true _ c.record_at-r.ensures _ c.record_bytes-n.ensures.0 in
     simp (length-take, length-drop) (omega arith)
 

@@ -20,13 +20,15 @@ overflow_add-bytes c = let s = c.loop-rest.invariant in
     omega arith
 
 pub slice_bounds-rest-count : goal.slice_bounds-rest-count
-slice_bounds-rest-count c = let at_whole : c.record_bytes-n.result ≤ length c.loop-rest.rest.now = counting-whole c.loop-rest.invariant c.loop-rest-test.true _ c.record_refusal-refusal.ensures c.if-refusal-ne0.false _ c.record_at-r.ensures _
+slice_bounds-rest-count c = let at_whole : c.record_bytes-n.result ≤ length c.loop-rest.rest.now =
+    counting-whole c.loop-rest.invariant c.loop-rest-test.true _ c.record_refusal-refusal.ensures c.if-refusal-ne0.false _ c.record_at-r.ensures _
     c.line_bytes-bytes.ensures.0 _
     c.record_bytes-n.ensures.0 in
     at_whole
 
 pub slice_bounds-rest-start : goal.slice_bounds-rest-start
-slice_bounds-rest-start c = let at_whole : c.record_bytes-n.result ≤ length c.loop-rest.rest.now = counting-whole c.loop-rest.invariant c.loop-rest-test.true _ c.record_refusal-refusal.ensures c.if-refusal-ne0.false _ c.record_at-r.ensures _
+slice_bounds-rest-start c = let at_whole : c.record_bytes-n.result ≤ length c.loop-rest.rest.now =
+    counting-whole c.loop-rest.invariant c.loop-rest-test.true _ c.record_refusal-refusal.ensures c.if-refusal-ne0.false _ c.record_at-r.ensures _
     c.line_bytes-bytes.ensures.0 _
     c.record_bytes-n.ensures.0 in
     at_whole
@@ -35,7 +37,8 @@ pub overflow_add-index : goal.overflow_add-index
 overflow_add-index c = let few = c.loop-rest.invariant.few in omega arith
 
 pub loop-rest-smaller : goal.loop-rest-smaller
-loop-rest-smaller c = let at_whole : c.record_bytes-n.result ≤ length c.loop-rest.rest.now = counting-whole c.loop-rest.invariant c.loop-rest-test.true _ c.record_refusal-refusal.ensures c.if-refusal-ne0.false _ c.record_at-r.ensures _
+loop-rest-smaller c = let at_whole : c.record_bytes-n.result ≤ length c.loop-rest.rest.now =
+    counting-whole c.loop-rest.invariant c.loop-rest-test.true _ c.record_refusal-refusal.ensures c.if-refusal-ne0.false _ c.record_at-r.ensures _
     c.line_bytes-bytes.ensures.0 _
     c.record_bytes-n.ensures.0 in
     let some =
@@ -45,7 +48,8 @@ loop-rest-smaller c = let at_whole : c.record_bytes-n.result ≤ length c.loop-r
     simp (length-take, length-drop) (omega arith)
 
 pub loop-rest-preserved : goal.loop-rest-preserved
-loop-rest-preserved c = counting-next c.loop-rest.invariant c.loop-rest-test.true _ c.record_refusal-refusal.ensures c.if-refusal-ne0.false _ c.record_at-r.ensures _
+loop-rest-preserved c = counting-next c.loop-rest.invariant c.loop-rest-test.true _ c.record_refusal-refusal.ensures c.if-refusal-ne0.false _
+    c.record_at-r.ensures _
     c.line_bytes-bytes.ensures.0 _
     c.record_bytes-n.ensures.0
     c.line_bytes-bytes.ensures.1

@@ -9,7 +9,8 @@ pub returns-in_default : goal.returns-in_default
 returns-in_default c = named3 (λ h0 h1 h2. record { tightened = h0; eight = h1; demand3 = h2 }) (turned-away_all _ _ _ c.plan-answer.ensures _ c.in_default.is)
 
 pub returns-then-out-bytes : goal.returns-then-out-bytes
-returns-then-out-bytes c = named3 (λ h0 h1 h2. record { tightened = h0; eight = h1; demand3 = h2 }) (too_small-all _ _ _ c.plan-answer.ensures _ _ c.in-Compiled.is c.if-out-bytes.true)
+returns-then-out-bytes c = named3 (λ h0 h1 h2. record { tightened = h0; eight = h1; demand3 = h2 })
+    (too_small-all _ _ _ c.plan-answer.ensures _ _ c.in-Compiled.is c.if-out-bytes.true)
 
 pub improved-requires : goal.improved-requires
 improved-requires c = (packs_of _ _ c.plan-answer.ensures _ _ c.in-Compiled.is, c.if-out-bytes.false)

@@ -10,8 +10,10 @@ named2 f h = f h.0 h.1
 
 pub returns-then-file-ne-STORE_BYTES : goal.returns-then-file-ne-STORE_BYTES
 unfolding stored_text ascii
-returns-then-file-ne-STORE_BYTES c = named2 (λ h0 h1. record { room_after = h0; fits = h1 }) (rw (ne_eqb _ _ c.if-file-ne-STORE_BYTES.true) (c.put.ensures, omega arith))
+returns-then-file-ne-STORE_BYTES c =
+    named2 (λ h0 h1. record { room_after = h0; fits = h1 }) (rw (ne_eqb _ _ c.if-file-ne-STORE_BYTES.true) (c.put.ensures, omega arith))
 
 pub returns : goal.returns
 unfolding stored_text
-returns c = named2 (λ h0 h1. record { room_after = h0; fits = h1 }) (rw (eq-eqb _ _ c.if-file-ne-STORE_BYTES.false) (c.put_from.ensures.room_after, c.put_from.ensures.fits))
+returns c = named2 (λ h0 h1. record { room_after = h0; fits = h1 })
+    (rw (eq-eqb _ _ c.if-file-ne-STORE_BYTES.false) (c.put_from.ensures.room_after, c.put_from.ensures.fits))

@@ -21,7 +21,9 @@ both list proposal t e = (e, λ count a. tight_demand3 list proposal count (sym 
 
 pub returns-then-bytes-proposal : goal.returns-then-bytes-proposal
 unfolding check_listed
-returns-then-bytes-proposal c = named2 (λ h0 h1. record { checked = h0; demand3 = h1 }) (both _ _ TightAnswer.Rejected (too_long _ _ _ c.plan-answer.ensures _ _ c.in-Compiled.is c.if-bytes-proposal.true))
+returns-then-bytes-proposal c =
+    named2 (λ h0 h1. record { checked = h0; demand3 = h1 })
+    (both _ _ TightAnswer.Rejected (too_long _ _ _ c.plan-answer.ensures _ _ c.in-Compiled.is c.if-bytes-proposal.true))
 
 pub returns-in-Refused : goal.returns-in-Refused
 unfolding check_listed

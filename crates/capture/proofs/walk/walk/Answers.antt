@@ -108,4 +108,5 @@ loop-rest-preserved c = walking_next _ _ _ _ _ _ _ _ _ _
     c.moved-p.ensures
 
 pub returns : goal.returns
-returns c = named3 (λ h0 h1 h2. record { value = h0; out_after = h1; numbers_after = h2 }) (walking_last _ _ _ _ _ _ _ _ _ _ c.loop-rest.invariant c.requires c.loop-rest-test.false)
+returns c = named3 (λ h0 h1 h2. record { value = h0; out_after = h1; numbers_after = h2 })
+    (walking_last _ _ _ _ _ _ _ _ _ _ c.loop-rest.invariant c.requires c.loop-rest-test.false)

@@ -22,7 +22,8 @@ pub store2-requires : goal.store2-requires
 store2-requires c = rw c.if-wide.false at c.requires.1
 
 pub returns-then-wide : goal.returns-then-wide
-returns-then-wide c = (let element_moved' : _ ≡ sets c.args.dst.now c.args.j (take (cond c.args.wide 4 2) (drop c.args.i c.args.src.now)) = let t : ◌≡◌ {A = ℕ} (cond c.args.wide 4 2) 4 = rw c.if-wide.true refl in
+returns-then-wide c = (let element_moved' : _ ≡ sets c.args.dst.now c.args.j (take (cond c.args.wide 4 2) (drop c.args.i c.args.src.now)) =
+    let t : ◌≡◌ {A = ℕ} (cond c.args.wide 4 2) 4 = rw c.if-wide.true refl in
     let a = c.args in
     rw t
     (moved 4 a.src.now a.dst.now _ a.i a.j _
@@ -32,7 +33,8 @@ returns-then-wide c = (let element_moved' : _ ≡ sets c.args.dst.now c.args.j (
     c.store4.ensures) in element_moved')
 
 pub returns-else-wide : goal.returns-else-wide
-returns-else-wide c = (let element_moved' : _ ≡ sets c.args.dst.now c.args.j (take (cond c.args.wide 4 2) (drop c.args.i c.args.src.now)) = let t : ◌≡◌ {A = ℕ} (cond c.args.wide 4 2) 2 = rw c.if-wide.false refl in
+returns-else-wide c = (let element_moved' : _ ≡ sets c.args.dst.now c.args.j (take (cond c.args.wide 4 2) (drop c.args.i c.args.src.now)) =
+    let t : ◌≡◌ {A = ℕ} (cond c.args.wide 4 2) 2 = rw c.if-wide.false refl in
     let a = c.args in
     rw t
     (moved 2 a.src.now a.dst.now _ a.i a.j _

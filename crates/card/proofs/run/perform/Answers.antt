@@ -10,7 +10,8 @@ pub loop-rest-init : goal.loop-rest-init
 loop-rest-init c = let p = c.requires in doing-start _ _ _ _ p.0 p.1 p.2 p.3
 
 pub do_command-requires : goal.do_command-requires
-do_command-requires c = let at_here : Here c.args.pointers.now c.args.packet.now c.args.store.now c.args.reply.now c.loop-rest.store c.loop-rest.pointers c.loop-rest.reply c.loop-rest.filled c.loop-rest.elements
+do_command-requires c = let at_here : Here c.args.pointers.now c.args.packet.now c.args.store.now c.args.reply.now c.loop-rest.store c.loop-rest.pointers
+    c.loop-rest.reply c.loop-rest.filled c.loop-rest.elements
     c.loop-rest.rest.now
     c.next_command-c.result.fields
     c.next_command-c.result.reach = record {
@@ -23,7 +24,9 @@ do_command-requires c = let at_here : Here c.args.pointers.now c.args.packet.now
     (n.ready, n.store_bytes_lem, n.room)
 
 pub offset_bounds-pointers-slot : goal.offset_bounds-pointers-slot
-offset_bounds-pointers-slot c = let at_here : Here c.args.pointers.now c.args.packet.now c.args.store.now c.args.reply.now c.loop-rest.store c.loop-rest.pointers c.loop-rest.reply c.loop-rest.filled c.loop-rest.elements
+offset_bounds-pointers-slot c =
+    let at_here : Here c.args.pointers.now c.args.packet.now c.args.store.now c.args.reply.now c.loop-rest.store c.loop-rest.pointers c.loop-rest.reply
+    c.loop-rest.filled c.loop-rest.elements
     c.loop-rest.rest.now
     c.next_command-c.result.fields
     c.next_command-c.result.reach = record {
@@ -36,7 +39,8 @@ offset_bounds-pointers-slot c = let at_here : Here c.args.pointers.now c.args.pa
     omega (arith, (next h).slot, h.doing.eight)
 
 pub bounds-pointers-slot : goal.bounds-pointers-slot
-bounds-pointers-slot c = let at_here : Here c.args.pointers.now c.args.packet.now c.args.store.now c.args.reply.now c.loop-rest.store c.loop-rest.pointers c.loop-rest.reply c.loop-rest.filled c.loop-rest.elements
+bounds-pointers-slot c = let at_here : Here c.args.pointers.now c.args.packet.now c.args.store.now c.args.reply.now c.loop-rest.store c.loop-rest.pointers
+    c.loop-rest.reply c.loop-rest.filled c.loop-rest.elements
     c.loop-rest.rest.now
     c.next_command-c.result.fields
     c.next_command-c.result.reach = record {
@@ -48,7 +52,8 @@ bounds-pointers-slot c = let at_here : Here c.args.pointers.now c.args.packet.no
     (next at_here).slot
 
 pub overflow_add-filled : goal.overflow_add-filled
-overflow_add-filled c = let at_here : Here c.args.pointers.now c.args.packet.now c.args.store.now c.args.reply.now c.loop-rest.store c.loop-rest.pointers c.loop-rest.reply c.loop-rest.filled c.loop-rest.elements
+overflow_add-filled c = let at_here : Here c.args.pointers.now c.args.packet.now c.args.store.now c.args.reply.now c.loop-rest.store c.loop-rest.pointers
+    c.loop-rest.reply c.loop-rest.filled c.loop-rest.elements
     c.loop-rest.rest.now
     c.next_command-c.result.fields
     c.next_command-c.result.reach = record {
@@ -60,7 +65,8 @@ overflow_add-filled c = let at_here : Here c.args.pointers.now c.args.packet.now
     omega (arith, (next at_here).answers)
 
 pub summed-elements-requires : goal.summed-elements-requires
-summed-elements-requires c = let at_here : Here c.args.pointers.now c.args.packet.now c.args.store.now c.args.reply.now c.loop-rest.store c.loop-rest.pointers c.loop-rest.reply c.loop-rest.filled c.loop-rest.elements
+summed-elements-requires c = let at_here : Here c.args.pointers.now c.args.packet.now c.args.store.now c.args.reply.now c.loop-rest.store
+    c.loop-rest.pointers c.loop-rest.reply c.loop-rest.filled c.loop-rest.elements
     c.loop-rest.rest.now
     c.next_command-c.result.fields
     c.next_command-c.result.reach = record {
@@ -72,7 +78,8 @@ summed-elements-requires c = let at_here : Here c.args.pointers.now c.args.packe
     omega (arith, count_small at_here, c.well_formed)
 
 pub slice_bounds-rest-count : goal.slice_bounds-rest-count
-slice_bounds-rest-count c = let at_here : Here c.args.pointers.now c.args.packet.now c.args.store.now c.args.reply.now c.loop-rest.store c.loop-rest.pointers c.loop-rest.reply c.loop-rest.filled c.loop-rest.elements
+slice_bounds-rest-count c = let at_here : Here c.args.pointers.now c.args.packet.now c.args.store.now c.args.reply.now c.loop-rest.store
+    c.loop-rest.pointers c.loop-rest.reply c.loop-rest.filled c.loop-rest.elements
     c.loop-rest.rest.now
     c.next_command-c.result.fields
     c.next_command-c.result.reach = record {
@@ -87,7 +94,8 @@ pub slice_bounds-rest-start : goal.slice_bounds-rest-start
 slice_bounds-rest-start c = slice_bounds-rest-count c
 
 pub loop-rest-smaller : goal.loop-rest-smaller
-loop-rest-smaller c = let at_here : Here c.args.pointers.now c.args.packet.now c.args.store.now c.args.reply.now c.loop-rest.store c.loop-rest.pointers c.loop-rest.reply c.loop-rest.filled c.loop-rest.elements
+loop-rest-smaller c = let at_here : Here c.args.pointers.now c.args.packet.now c.args.store.now c.args.reply.now c.loop-rest.store c.loop-rest.pointers
+    c.loop-rest.reply c.loop-rest.filled c.loop-rest.elements
     c.loop-rest.rest.now
     c.next_command-c.result.fields
     c.next_command-c.result.reach = record {
@@ -100,7 +108,8 @@ loop-rest-smaller c = let at_here : Here c.args.pointers.now c.args.packet.now c
     simp (length-take, length-drop) (omega (arith, t.some, t.whole))
 
 pub loop-rest-preserved : goal.loop-rest-preserved
-loop-rest-preserved c = let at_here : Here c.args.pointers.now c.args.packet.now c.args.store.now c.args.reply.now c.loop-rest.store c.loop-rest.pointers c.loop-rest.reply c.loop-rest.filled c.loop-rest.elements
+loop-rest-preserved c = let at_here : Here c.args.pointers.now c.args.packet.now c.args.store.now c.args.reply.now c.loop-rest.store c.loop-rest.pointers
+    c.loop-rest.reply c.loop-rest.filled c.loop-rest.elements
     c.loop-rest.rest.now
     c.next_command-c.result.fields
     c.next_command-c.result.reach = record {

@@ -6,11 +6,13 @@ use Prim.Native.Nat.{◌*◌, ◌≤◌}
 use Rattle.cue.proofs.packer.agrees.Goals as goal
 
 pub overflow_mul-next : goal.overflow_mul-next
-overflow_mul-next c = let at_below : c.args.p.count * c.args.element ≤ 1020 = let h = c.requires.0.count in scaled_le _ _ (omega arith) (rw c.requires.1 (element_le _)) in
+overflow_mul-next c = let at_below : c.args.p.count * c.args.element ≤ 1020 = let h =
+    c.requires.0.count in scaled_le _ _ (omega arith) (rw c.requires.1 (element_le _)) in
     let h = at_below in omega arith
 
 pub overflow_add-next : goal.overflow_add-next
-overflow_add-next c = let at_below : c.args.p.count * c.args.element ≤ 1020 = let h = c.requires.0.count in scaled_le _ _ (omega arith) (rw c.requires.1 (element_le _)) in
+overflow_add-next c = let at_below : c.args.p.count * c.args.element ≤ 1020 = let h =
+    c.requires.0.count in scaled_le _ _ (omega arith) (rw c.requires.1 (element_le _)) in
     let h = at_below in omega arith
 
 pub returns : goal.returns

@@ -14,7 +14,8 @@ returns-then-number-eq82 c = c.place_fault.ensures ∙ rw (c.part.ensures, eq-eq
 
 pub returns-then-number-eq83 : goal.returns-then-number-eq83
 unfolding form_fault
-returns-then-number-eq83 c = c.defined_fault.ensures ∙ rw (c.part-then-number-eq83.ensures, ne_eqb _ _ c.if-number-eq82.false, eq-eqb _ _ c.if-number-eq83.true) refl
+returns-then-number-eq83 c = c.defined_fault.ensures
+    ∙ rw (c.part-then-number-eq83.ensures, ne_eqb _ _ c.if-number-eq82.false, eq-eqb _ _ c.if-number-eq83.true) refl
 
 pub element_fault-requires : goal.element_fault-requires
 element_fault-requires c = omega arith

@@ -8,4 +8,5 @@ named2 f h = f h.0 h.1
 
 pub returns : goal.returns
 unfolding export_capture
-returns c = named2 (λ h0 h1. record { captured = h0; same_recording = h1 }) (same_export _ _ _ _ (capture-left _ _ _ _ _ c.read.ensures.captured c.numbers_of-given.ensures))
+returns c = named2 (λ h0 h1. record { captured = h0; same_recording = h1 })
+    (same_export _ _ _ _ (capture-left _ _ _ _ _ c.read.ensures.captured c.numbers_of-given.ensures))

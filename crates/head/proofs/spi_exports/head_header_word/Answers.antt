@@ -17,10 +17,12 @@ header_from-requires c = let fields = c.args.fields.now in
 
 pub returns-in-Word : goal.returns-in-Word
 unfolding word_given number_of word_left header_listed export_header_word
-returns-in-Word c = let at_answer : export_header_word c.args.fields.now ≡ header_listed c.header_word-written.result = rw (← c.bad_header.ensures, c.if-bad_header.false, ← c.header_from.ensures) (sym c.header_word-written.ensures) in
+returns-in-Word c = let at_answer : export_header_word c.args.fields.now ≡ header_listed c.header_word-written.result =
+    rw (← c.bad_header.ensures, c.if-bad_header.false, ← c.header_from.ensures) (sym c.header_word-written.ensures) in
     rw (at_answer, c.in-Word.is) refl
 
 pub returns-in-Refused : goal.returns-in-Refused
 unfolding word_given number_of word_left header_listed export_header_word
-returns-in-Refused c = let at_answer : export_header_word c.args.fields.now ≡ header_listed c.header_word-written.result = rw (← c.bad_header.ensures, c.if-bad_header.false, ← c.header_from.ensures) (sym c.header_word-written.ensures) in
+returns-in-Refused c = let at_answer : export_header_word c.args.fields.now ≡ header_listed c.header_word-written.result =
+    rw (← c.bad_header.ensures, c.if-bad_header.false, ← c.header_from.ensures) (sym c.header_word-written.ensures) in
     rw (at_answer, c.in-Refused.is) refl

@@ -32,15 +32,18 @@ returns-then-clashes c = clash-found _ _ _ _ c.loop-rest.invariant c.loop-rest-t
     c.if-clashes.true
 
 pub slice_bounds-rest-count : goal.slice_bounds-rest-count
-slice_bounds-rest-count c = let at_whole : c.record_bytes-n.result ≤ length c.loop-rest.rest.now = whole_here _ _ _ _ c.loop-rest.invariant.walk c.loop-rest-test.true _ c.record_at-r.ensures _ c.record_bytes-n.ensures.0 in
+slice_bounds-rest-count c = let at_whole : c.record_bytes-n.result ≤ length c.loop-rest.rest.now =
+    whole_here _ _ _ _ c.loop-rest.invariant.walk c.loop-rest-test.true _ c.record_at-r.ensures _ c.record_bytes-n.ensures.0 in
     at_whole
 
 pub slice_bounds-rest-start : goal.slice_bounds-rest-start
-slice_bounds-rest-start c = let at_whole : c.record_bytes-n.result ≤ length c.loop-rest.rest.now = whole_here _ _ _ _ c.loop-rest.invariant.walk c.loop-rest-test.true _ c.record_at-r.ensures _ c.record_bytes-n.ensures.0 in
+slice_bounds-rest-start c = let at_whole : c.record_bytes-n.result ≤ length c.loop-rest.rest.now =
+    whole_here _ _ _ _ c.loop-rest.invariant.walk c.loop-rest-test.true _ c.record_at-r.ensures _ c.record_bytes-n.ensures.0 in
     search rules
 
 pub slice_bounds-rest-end : goal.slice_bounds-rest-end
-slice_bounds-rest-end c = let at_whole : c.record_bytes-n.result ≤ length c.loop-rest.rest.now = whole_here _ _ _ _ c.loop-rest.invariant.walk c.loop-rest-test.true _ c.record_at-r.ensures _ c.record_bytes-n.ensures.0 in
+slice_bounds-rest-end c = let at_whole : c.record_bytes-n.result ≤ length c.loop-rest.rest.now =
+    whole_here _ _ _ _ c.loop-rest.invariant.walk c.loop-rest-test.true _ c.record_at-r.ensures _ c.record_bytes-n.ensures.0 in
     search rules
 
 pub overflow_add-index : goal.overflow_add-index

@@ -15,17 +15,20 @@ returns-then-record_protected c = λ xs l.
     ∙ holding_found c.loop-rest.invariant c.loop-rest-test.true _ c.record_at-r.ensures _ c.record_protected.ensures c.if-record_protected.true xs l
 
 pub slice_bounds-rest-count : goal.slice_bounds-rest-count
-slice_bounds-rest-count c = let at_whole : c.record_bytes-n.result ≤ length c.loop-rest.rest.now = holding_whole c.loop-rest.invariant c.loop-rest-test.true _ c.record_at-r.ensures _ c.record_protected.ensures _
+slice_bounds-rest-count c = let at_whole : c.record_bytes-n.result ≤ length c.loop-rest.rest.now =
+    holding_whole c.loop-rest.invariant c.loop-rest-test.true _ c.record_at-r.ensures _ c.record_protected.ensures _
     c.record_bytes-n.ensures.0 in
     at_whole
 
 pub slice_bounds-rest-start : goal.slice_bounds-rest-start
-slice_bounds-rest-start c = let at_whole : c.record_bytes-n.result ≤ length c.loop-rest.rest.now = holding_whole c.loop-rest.invariant c.loop-rest-test.true _ c.record_at-r.ensures _ c.record_protected.ensures _
+slice_bounds-rest-start c = let at_whole : c.record_bytes-n.result ≤ length c.loop-rest.rest.now =
+    holding_whole c.loop-rest.invariant c.loop-rest-test.true _ c.record_at-r.ensures _ c.record_protected.ensures _
     c.record_bytes-n.ensures.0 in
     at_whole
 
 pub loop-rest-smaller : goal.loop-rest-smaller
-loop-rest-smaller c = let at_whole : c.record_bytes-n.result ≤ length c.loop-rest.rest.now = holding_whole c.loop-rest.invariant c.loop-rest-test.true _ c.record_at-r.ensures _ c.record_protected.ensures _
+loop-rest-smaller c = let at_whole : c.record_bytes-n.result ≤ length c.loop-rest.rest.now =
+    holding_whole c.loop-rest.invariant c.loop-rest-test.true _ c.record_at-r.ensures _ c.record_protected.ensures _
     c.record_bytes-n.ensures.0 in
     let some =
     holding_some c.loop-rest.invariant c.loop-rest-test.true _ c.record_at-r.ensures _ c.record_protected.ensures _

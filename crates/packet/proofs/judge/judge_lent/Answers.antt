@@ -16,10 +16,6 @@ use Rattle.packet.proofs.LoopLaws.{checking_next, checking_read, checking_regist
 use Rattle.packet.proofs.judge.judge_lent.Goals as goal
 use Rattle.packet.proofs.judge.judge_lent.Goals.{then-for_registers, in-Read, in-Write, else-for_registers, in-Read-which, in-Write-which}
 
--- a write, by its listing
-
--- a turn of the loop
-
 pub returns-then-lent-ne8 : goal.returns-then-lent-ne8
 unfolding answer_to
 returns-then-lent-ne8 c = rw (ne_eqb _ _ c.if-lent-ne8.true) c.refused.ensures
@@ -67,148 +63,191 @@ unlocked_next-unlocked-requires c = let found = c.area_at-c.result.found in
     ).header
 
 pub overflow_add-reply : goal.overflow_add-reply
-overflow_add-reply c = let at_step : Checked c.args.lent.now c.args.packet.now c.loop-rest.pointers c.if-for_registers.unlocked c.loop-rest.reply c.loop-rest.rest.now c.if-for_registers.reach =
+overflow_add-reply c = let at_step : Checked c.args.lent.now c.args.packet.now c.loop-rest.pointers c.if-for_registers.unlocked c.loop-rest.reply
+    c.loop-rest.rest.now c.if-for_registers.reach =
     elim c.if-for_registers.branch [
       | then-for_registers w ↦
           let found = w.register_at-c.result.found in
-          let registers : ForRegisters (fields_at c.loop-rest.rest.now) = rw (← c.word_at-word.ensures) (registers-word _ _ refl (sym c.for_registers.ensures ∙ w.if-for_registers.true)) in
+          let registers : ForRegisters (fields_at c.loop-rest.rest.now) =
+              rw (← c.word_at-word.ensures) (registers-word _ _ refl (sym c.for_registers.ensures ∙ w.if-for_registers.true)) in
           rw (w.unlocked-is, w.reach-is)
           (elim w.match-which.branch [
-            | in-Read v ↦ checking_registers c.loop-rest.invariant c.loop-rest-test.true _ (w.register_at-c.ensures _) 0 (is_read found.which found.place v.in-Read.is) registers
-            | in-Write v ↦ checking_registers c.loop-rest.invariant c.loop-rest-test.true _ (w.register_at-c.ensures _) 1 (is-write found.which found.place v.in-Write.is) registers
+            | in-Read v ↦ checking_registers c.loop-rest.invariant c.loop-rest-test.true _ (w.register_at-c.ensures _) 0
+                (is_read found.which found.place v.in-Read.is) registers
+            | in-Write v ↦ checking_registers c.loop-rest.invariant c.loop-rest-test.true _ (w.register_at-c.ensures _) 1
+                (is-write found.which found.place v.in-Write.is) registers
           ])
       | else-for_registers w ↦
           let found = w.area_at-c.result.found in
           rw (w.unlocked-is, w.reach-is)
           (elim w.match-which-2.branch [
-            | in-Read-which v ↦ checking_read c.loop-rest.invariant c.loop-rest-test.true _ w.area_at-c.ensures (is_read found.which found.place v.in-Read-which.is) _ v.unlocked-is
-            | in-Write-which v ↦ checking_next c.loop-rest.invariant c.loop-rest-test.true _ w.area_at-c.ensures 1 (is-write found.which found.place v.in-Write-which.is) _ (v.unlocked-is ∙ v.unlocked_next-unlocked.ensures)
+            | in-Read-which v ↦ checking_read c.loop-rest.invariant c.loop-rest-test.true _ w.area_at-c.ensures
+                (is_read found.which found.place v.in-Read-which.is) _ v.unlocked-is
+            | in-Write-which v ↦ checking_next c.loop-rest.invariant c.loop-rest-test.true _ w.area_at-c.ensures 1
+                (is-write found.which found.place v.in-Write-which.is) _ (v.unlocked-is ∙ v.unlocked_next-unlocked.ensures)
           ])
     ] in
     let h = at_step.answers in omega arith
 
 pub offset_bounds-pointers-slot : goal.offset_bounds-pointers-slot
-offset_bounds-pointers-slot c = let at_step : Checked c.args.lent.now c.args.packet.now c.loop-rest.pointers c.if-for_registers.unlocked c.loop-rest.reply c.loop-rest.rest.now c.if-for_registers.reach =
+offset_bounds-pointers-slot c =
+    let at_step : Checked c.args.lent.now c.args.packet.now c.loop-rest.pointers c.if-for_registers.unlocked c.loop-rest.reply c.loop-rest.rest.now
+    c.if-for_registers.reach =
     elim c.if-for_registers.branch [
       | then-for_registers w ↦
           let found = w.register_at-c.result.found in
-          let registers : ForRegisters (fields_at c.loop-rest.rest.now) = rw (← c.word_at-word.ensures) (registers-word _ _ refl (sym c.for_registers.ensures ∙ w.if-for_registers.true)) in
+          let registers : ForRegisters (fields_at c.loop-rest.rest.now) =
+              rw (← c.word_at-word.ensures) (registers-word _ _ refl (sym c.for_registers.ensures ∙ w.if-for_registers.true)) in
           rw (w.unlocked-is, w.reach-is)
           (elim w.match-which.branch [
-            | in-Read v ↦ checking_registers c.loop-rest.invariant c.loop-rest-test.true _ (w.register_at-c.ensures _) 0 (is_read found.which found.place v.in-Read.is) registers
-            | in-Write v ↦ checking_registers c.loop-rest.invariant c.loop-rest-test.true _ (w.register_at-c.ensures _) 1 (is-write found.which found.place v.in-Write.is) registers
+            | in-Read v ↦ checking_registers c.loop-rest.invariant c.loop-rest-test.true _ (w.register_at-c.ensures _) 0
+                (is_read found.which found.place v.in-Read.is) registers
+            | in-Write v ↦ checking_registers c.loop-rest.invariant c.loop-rest-test.true _ (w.register_at-c.ensures _) 1
+                (is-write found.which found.place v.in-Write.is) registers
           ])
       | else-for_registers w ↦
           let found = w.area_at-c.result.found in
           rw (w.unlocked-is, w.reach-is)
           (elim w.match-which-2.branch [
-            | in-Read-which v ↦ checking_read c.loop-rest.invariant c.loop-rest-test.true _ w.area_at-c.ensures (is_read found.which found.place v.in-Read-which.is) _ v.unlocked-is
-            | in-Write-which v ↦ checking_next c.loop-rest.invariant c.loop-rest-test.true _ w.area_at-c.ensures 1 (is-write found.which found.place v.in-Write-which.is) _ (v.unlocked-is ∙ v.unlocked_next-unlocked.ensures)
+            | in-Read-which v ↦ checking_read c.loop-rest.invariant c.loop-rest-test.true _ w.area_at-c.ensures
+                (is_read found.which found.place v.in-Read-which.is) _ v.unlocked-is
+            | in-Write-which v ↦ checking_next c.loop-rest.invariant c.loop-rest-test.true _ w.area_at-c.ensures 1
+                (is-write found.which found.place v.in-Write-which.is) _ (v.unlocked-is ∙ v.unlocked_next-unlocked.ensures)
           ])
     ] in
     let h = at_step.slot in omega arith
 
 pub bounds-pointers-slot : goal.bounds-pointers-slot
-bounds-pointers-slot c = let at_step : Checked c.args.lent.now c.args.packet.now c.loop-rest.pointers c.if-for_registers.unlocked c.loop-rest.reply c.loop-rest.rest.now c.if-for_registers.reach =
+bounds-pointers-slot c = let at_step : Checked c.args.lent.now c.args.packet.now c.loop-rest.pointers c.if-for_registers.unlocked c.loop-rest.reply
+    c.loop-rest.rest.now c.if-for_registers.reach =
     elim c.if-for_registers.branch [
       | then-for_registers w ↦
           let found = w.register_at-c.result.found in
-          let registers : ForRegisters (fields_at c.loop-rest.rest.now) = rw (← c.word_at-word.ensures) (registers-word _ _ refl (sym c.for_registers.ensures ∙ w.if-for_registers.true)) in
+          let registers : ForRegisters (fields_at c.loop-rest.rest.now) =
+              rw (← c.word_at-word.ensures) (registers-word _ _ refl (sym c.for_registers.ensures ∙ w.if-for_registers.true)) in
           rw (w.unlocked-is, w.reach-is)
           (elim w.match-which.branch [
-            | in-Read v ↦ checking_registers c.loop-rest.invariant c.loop-rest-test.true _ (w.register_at-c.ensures _) 0 (is_read found.which found.place v.in-Read.is) registers
-            | in-Write v ↦ checking_registers c.loop-rest.invariant c.loop-rest-test.true _ (w.register_at-c.ensures _) 1 (is-write found.which found.place v.in-Write.is) registers
+            | in-Read v ↦ checking_registers c.loop-rest.invariant c.loop-rest-test.true _ (w.register_at-c.ensures _) 0
+                (is_read found.which found.place v.in-Read.is) registers
+            | in-Write v ↦ checking_registers c.loop-rest.invariant c.loop-rest-test.true _ (w.register_at-c.ensures _) 1
+                (is-write found.which found.place v.in-Write.is) registers
           ])
       | else-for_registers w ↦
           let found = w.area_at-c.result.found in
           rw (w.unlocked-is, w.reach-is)
           (elim w.match-which-2.branch [
-            | in-Read-which v ↦ checking_read c.loop-rest.invariant c.loop-rest-test.true _ w.area_at-c.ensures (is_read found.which found.place v.in-Read-which.is) _ v.unlocked-is
-            | in-Write-which v ↦ checking_next c.loop-rest.invariant c.loop-rest-test.true _ w.area_at-c.ensures 1 (is-write found.which found.place v.in-Write-which.is) _ (v.unlocked-is ∙ v.unlocked_next-unlocked.ensures)
+            | in-Read-which v ↦ checking_read c.loop-rest.invariant c.loop-rest-test.true _ w.area_at-c.ensures
+                (is_read found.which found.place v.in-Read-which.is) _ v.unlocked-is
+            | in-Write-which v ↦ checking_next c.loop-rest.invariant c.loop-rest-test.true _ w.area_at-c.ensures 1
+                (is-write found.which found.place v.in-Write-which.is) _ (v.unlocked-is ∙ v.unlocked_next-unlocked.ensures)
           ])
     ] in
     at_step.slot
 
 pub slice_bounds-rest-count : goal.slice_bounds-rest-count
-slice_bounds-rest-count c = let at_step : Checked c.args.lent.now c.args.packet.now c.loop-rest.pointers c.if-for_registers.unlocked c.loop-rest.reply c.loop-rest.rest.now c.if-for_registers.reach =
+slice_bounds-rest-count c = let at_step : Checked c.args.lent.now c.args.packet.now c.loop-rest.pointers c.if-for_registers.unlocked c.loop-rest.reply
+    c.loop-rest.rest.now c.if-for_registers.reach =
     elim c.if-for_registers.branch [
       | then-for_registers w ↦
           let found = w.register_at-c.result.found in
-          let registers : ForRegisters (fields_at c.loop-rest.rest.now) = rw (← c.word_at-word.ensures) (registers-word _ _ refl (sym c.for_registers.ensures ∙ w.if-for_registers.true)) in
+          let registers : ForRegisters (fields_at c.loop-rest.rest.now) =
+              rw (← c.word_at-word.ensures) (registers-word _ _ refl (sym c.for_registers.ensures ∙ w.if-for_registers.true)) in
           rw (w.unlocked-is, w.reach-is)
           (elim w.match-which.branch [
-            | in-Read v ↦ checking_registers c.loop-rest.invariant c.loop-rest-test.true _ (w.register_at-c.ensures _) 0 (is_read found.which found.place v.in-Read.is) registers
-            | in-Write v ↦ checking_registers c.loop-rest.invariant c.loop-rest-test.true _ (w.register_at-c.ensures _) 1 (is-write found.which found.place v.in-Write.is) registers
+            | in-Read v ↦ checking_registers c.loop-rest.invariant c.loop-rest-test.true _ (w.register_at-c.ensures _) 0
+                (is_read found.which found.place v.in-Read.is) registers
+            | in-Write v ↦ checking_registers c.loop-rest.invariant c.loop-rest-test.true _ (w.register_at-c.ensures _) 1
+                (is-write found.which found.place v.in-Write.is) registers
           ])
       | else-for_registers w ↦
           let found = w.area_at-c.result.found in
           rw (w.unlocked-is, w.reach-is)
           (elim w.match-which-2.branch [
-            | in-Read-which v ↦ checking_read c.loop-rest.invariant c.loop-rest-test.true _ w.area_at-c.ensures (is_read found.which found.place v.in-Read-which.is) _ v.unlocked-is
-            | in-Write-which v ↦ checking_next c.loop-rest.invariant c.loop-rest-test.true _ w.area_at-c.ensures 1 (is-write found.which found.place v.in-Write-which.is) _ (v.unlocked-is ∙ v.unlocked_next-unlocked.ensures)
+            | in-Read-which v ↦ checking_read c.loop-rest.invariant c.loop-rest-test.true _ w.area_at-c.ensures
+                (is_read found.which found.place v.in-Read-which.is) _ v.unlocked-is
+            | in-Write-which v ↦ checking_next c.loop-rest.invariant c.loop-rest-test.true _ w.area_at-c.ensures 1
+                (is-write found.which found.place v.in-Write-which.is) _ (v.unlocked-is ∙ v.unlocked_next-unlocked.ensures)
           ])
     ] in
     at_step.whole
 
 pub slice_bounds-rest-start : goal.slice_bounds-rest-start
-slice_bounds-rest-start c = let at_step : Checked c.args.lent.now c.args.packet.now c.loop-rest.pointers c.if-for_registers.unlocked c.loop-rest.reply c.loop-rest.rest.now c.if-for_registers.reach =
+slice_bounds-rest-start c = let at_step : Checked c.args.lent.now c.args.packet.now c.loop-rest.pointers c.if-for_registers.unlocked c.loop-rest.reply
+    c.loop-rest.rest.now c.if-for_registers.reach =
     elim c.if-for_registers.branch [
       | then-for_registers w ↦
           let found = w.register_at-c.result.found in
-          let registers : ForRegisters (fields_at c.loop-rest.rest.now) = rw (← c.word_at-word.ensures) (registers-word _ _ refl (sym c.for_registers.ensures ∙ w.if-for_registers.true)) in
+          let registers : ForRegisters (fields_at c.loop-rest.rest.now) =
+              rw (← c.word_at-word.ensures) (registers-word _ _ refl (sym c.for_registers.ensures ∙ w.if-for_registers.true)) in
           rw (w.unlocked-is, w.reach-is)
           (elim w.match-which.branch [
-            | in-Read v ↦ checking_registers c.loop-rest.invariant c.loop-rest-test.true _ (w.register_at-c.ensures _) 0 (is_read found.which found.place v.in-Read.is) registers
-            | in-Write v ↦ checking_registers c.loop-rest.invariant c.loop-rest-test.true _ (w.register_at-c.ensures _) 1 (is-write found.which found.place v.in-Write.is) registers
+            | in-Read v ↦ checking_registers c.loop-rest.invariant c.loop-rest-test.true _ (w.register_at-c.ensures _) 0
+                (is_read found.which found.place v.in-Read.is) registers
+            | in-Write v ↦ checking_registers c.loop-rest.invariant c.loop-rest-test.true _ (w.register_at-c.ensures _) 1
+                (is-write found.which found.place v.in-Write.is) registers
           ])
       | else-for_registers w ↦
           let found = w.area_at-c.result.found in
           rw (w.unlocked-is, w.reach-is)
           (elim w.match-which-2.branch [
-            | in-Read-which v ↦ checking_read c.loop-rest.invariant c.loop-rest-test.true _ w.area_at-c.ensures (is_read found.which found.place v.in-Read-which.is) _ v.unlocked-is
-            | in-Write-which v ↦ checking_next c.loop-rest.invariant c.loop-rest-test.true _ w.area_at-c.ensures 1 (is-write found.which found.place v.in-Write-which.is) _ (v.unlocked-is ∙ v.unlocked_next-unlocked.ensures)
+            | in-Read-which v ↦ checking_read c.loop-rest.invariant c.loop-rest-test.true _ w.area_at-c.ensures
+                (is_read found.which found.place v.in-Read-which.is) _ v.unlocked-is
+            | in-Write-which v ↦ checking_next c.loop-rest.invariant c.loop-rest-test.true _ w.area_at-c.ensures 1
+                (is-write found.which found.place v.in-Write-which.is) _ (v.unlocked-is ∙ v.unlocked_next-unlocked.ensures)
           ])
     ] in
     at_step.whole
 
 pub loop-rest-smaller : goal.loop-rest-smaller
-loop-rest-smaller c = let at_step : Checked c.args.lent.now c.args.packet.now c.loop-rest.pointers c.if-for_registers.unlocked c.loop-rest.reply c.loop-rest.rest.now c.if-for_registers.reach =
+loop-rest-smaller c = let at_step : Checked c.args.lent.now c.args.packet.now c.loop-rest.pointers c.if-for_registers.unlocked c.loop-rest.reply
+    c.loop-rest.rest.now c.if-for_registers.reach =
     elim c.if-for_registers.branch [
       | then-for_registers w ↦
           let found = w.register_at-c.result.found in
-          let registers : ForRegisters (fields_at c.loop-rest.rest.now) = rw (← c.word_at-word.ensures) (registers-word _ _ refl (sym c.for_registers.ensures ∙ w.if-for_registers.true)) in
+          let registers : ForRegisters (fields_at c.loop-rest.rest.now) =
+              rw (← c.word_at-word.ensures) (registers-word _ _ refl (sym c.for_registers.ensures ∙ w.if-for_registers.true)) in
           rw (w.unlocked-is, w.reach-is)
           (elim w.match-which.branch [
-            | in-Read v ↦ checking_registers c.loop-rest.invariant c.loop-rest-test.true _ (w.register_at-c.ensures _) 0 (is_read found.which found.place v.in-Read.is) registers
-            | in-Write v ↦ checking_registers c.loop-rest.invariant c.loop-rest-test.true _ (w.register_at-c.ensures _) 1 (is-write found.which found.place v.in-Write.is) registers
+            | in-Read v ↦ checking_registers c.loop-rest.invariant c.loop-rest-test.true _ (w.register_at-c.ensures _) 0
+                (is_read found.which found.place v.in-Read.is) registers
+            | in-Write v ↦ checking_registers c.loop-rest.invariant c.loop-rest-test.true _ (w.register_at-c.ensures _) 1
+                (is-write found.which found.place v.in-Write.is) registers
           ])
       | else-for_registers w ↦
           let found = w.area_at-c.result.found in
           rw (w.unlocked-is, w.reach-is)
           (elim w.match-which-2.branch [
-            | in-Read-which v ↦ checking_read c.loop-rest.invariant c.loop-rest-test.true _ w.area_at-c.ensures (is_read found.which found.place v.in-Read-which.is) _ v.unlocked-is
-            | in-Write-which v ↦ checking_next c.loop-rest.invariant c.loop-rest-test.true _ w.area_at-c.ensures 1 (is-write found.which found.place v.in-Write-which.is) _ (v.unlocked-is ∙ v.unlocked_next-unlocked.ensures)
+            | in-Read-which v ↦ checking_read c.loop-rest.invariant c.loop-rest-test.true _ w.area_at-c.ensures
+                (is_read found.which found.place v.in-Read-which.is) _ v.unlocked-is
+            | in-Write-which v ↦ checking_next c.loop-rest.invariant c.loop-rest-test.true _ w.area_at-c.ensures 1
+                (is-write found.which found.place v.in-Write-which.is) _ (v.unlocked-is ∙ v.unlocked_next-unlocked.ensures)
           ])
     ] in
     let s = at_step in let h = s.some in let w = s.whole in simp (length-take, length-drop) (omega arith)
 
 pub loop-rest-preserved : goal.loop-rest-preserved
-loop-rest-preserved c = let at_step : Checked c.args.lent.now c.args.packet.now c.loop-rest.pointers c.if-for_registers.unlocked c.loop-rest.reply c.loop-rest.rest.now c.if-for_registers.reach =
+loop-rest-preserved c = let at_step : Checked c.args.lent.now c.args.packet.now c.loop-rest.pointers c.if-for_registers.unlocked c.loop-rest.reply
+    c.loop-rest.rest.now c.if-for_registers.reach =
     elim c.if-for_registers.branch [
       | then-for_registers w ↦
           let found = w.register_at-c.result.found in
-          let registers : ForRegisters (fields_at c.loop-rest.rest.now) = rw (← c.word_at-word.ensures) (registers-word _ _ refl (sym c.for_registers.ensures ∙ w.if-for_registers.true)) in
+          let registers : ForRegisters (fields_at c.loop-rest.rest.now) =
+              rw (← c.word_at-word.ensures) (registers-word _ _ refl (sym c.for_registers.ensures ∙ w.if-for_registers.true)) in
           rw (w.unlocked-is, w.reach-is)
           (elim w.match-which.branch [
-            | in-Read v ↦ checking_registers c.loop-rest.invariant c.loop-rest-test.true _ (w.register_at-c.ensures _) 0 (is_read found.which found.place v.in-Read.is) registers
-            | in-Write v ↦ checking_registers c.loop-rest.invariant c.loop-rest-test.true _ (w.register_at-c.ensures _) 1 (is-write found.which found.place v.in-Write.is) registers
+            | in-Read v ↦ checking_registers c.loop-rest.invariant c.loop-rest-test.true _ (w.register_at-c.ensures _) 0
+                (is_read found.which found.place v.in-Read.is) registers
+            | in-Write v ↦ checking_registers c.loop-rest.invariant c.loop-rest-test.true _ (w.register_at-c.ensures _) 1
+                (is-write found.which found.place v.in-Write.is) registers
           ])
       | else-for_registers w ↦
           let found = w.area_at-c.result.found in
           rw (w.unlocked-is, w.reach-is)
           (elim w.match-which-2.branch [
-            | in-Read-which v ↦ checking_read c.loop-rest.invariant c.loop-rest-test.true _ w.area_at-c.ensures (is_read found.which found.place v.in-Read-which.is) _ v.unlocked-is
-            | in-Write-which v ↦ checking_next c.loop-rest.invariant c.loop-rest-test.true _ w.area_at-c.ensures 1 (is-write found.which found.place v.in-Write-which.is) _ (v.unlocked-is ∙ v.unlocked_next-unlocked.ensures)
+            | in-Read-which v ↦ checking_read c.loop-rest.invariant c.loop-rest-test.true _ w.area_at-c.ensures
+                (is_read found.which found.place v.in-Read-which.is) _ v.unlocked-is
+            | in-Write-which v ↦ checking_next c.loop-rest.invariant c.loop-rest-test.true _ w.area_at-c.ensures 1
+                (is-write found.which found.place v.in-Write-which.is) _ (v.unlocked-is ∙ v.unlocked_next-unlocked.ensures)
           ])
     ] in
     at_step.again

@@ -17,15 +17,18 @@ overflow_add-bytes c = let s = c.loop-rest.invariant in
     omega arith
 
 pub slice_bounds-rest-count : goal.slice_bounds-rest-count
-slice_bounds-rest-count c = let at_whole : c.command_bytes-k.result ≤ length c.loop-rest.rest.now = laying_whole c.loop-rest.invariant c.loop-rest-test.true _ c.fields_at-f.ensures _ c.command_bytes-k.ensures in
+slice_bounds-rest-count c = let at_whole : c.command_bytes-k.result ≤ length c.loop-rest.rest.now =
+    laying_whole c.loop-rest.invariant c.loop-rest-test.true _ c.fields_at-f.ensures _ c.command_bytes-k.ensures in
     at_whole
 
 pub slice_bounds-rest-start : goal.slice_bounds-rest-start
-slice_bounds-rest-start c = let at_whole : c.command_bytes-k.result ≤ length c.loop-rest.rest.now = laying_whole c.loop-rest.invariant c.loop-rest-test.true _ c.fields_at-f.ensures _ c.command_bytes-k.ensures in
+slice_bounds-rest-start c = let at_whole : c.command_bytes-k.result ≤ length c.loop-rest.rest.now =
+    laying_whole c.loop-rest.invariant c.loop-rest-test.true _ c.fields_at-f.ensures _ c.command_bytes-k.ensures in
     at_whole
 
 pub loop-rest-smaller : goal.loop-rest-smaller
-loop-rest-smaller c = let at_whole : c.command_bytes-k.result ≤ length c.loop-rest.rest.now = laying_whole c.loop-rest.invariant c.loop-rest-test.true _ c.fields_at-f.ensures _ c.command_bytes-k.ensures in
+loop-rest-smaller c = let at_whole : c.command_bytes-k.result ≤ length c.loop-rest.rest.now =
+    laying_whole c.loop-rest.invariant c.loop-rest-test.true _ c.fields_at-f.ensures _ c.command_bytes-k.ensures in
     let some = laying_some c.loop-rest.invariant c.loop-rest-test.true _ c.fields_at-f.ensures _ c.command_bytes-k.ensures in
     simp (length-take, length-drop) (omega arith)
 

@@ -2,10 +2,6 @@ use mathlib.Core.Path.{refl}
 use Rattle.parts.proofs.CallLaws.{answer-fault, answer-written}
 use Rattle.parts.proofs.call.answered.Goals as goal
 
--- src/call.rt:25:9
-
--- src/call.rt:21:1
-
 pub returns-then-k-gt1 : goal.returns-then-k-gt1
 returns-then-k-gt1 c = (answer-fault _ _ _ c.if-k-gt1.true, refl)
 

@@ -11,4 +11,5 @@ named2 f h = f h.0 h.1
 
 pub returns-then-capture-gt-MOST : goal.returns-then-capture-gt-MOST
 unfolding capture_text too_long_line ascii
-returns-then-capture-gt-MOST c = named2 (λ h0 h1. record { room_after = h0; fits = h1 }) (rw (lt-ltb _ _ c.if-capture-gt-MOST.true) (c.too_long.ensures, omega arith))
+returns-then-capture-gt-MOST c =
+    named2 (λ h0 h1. record { room_after = h0; fits = h1 }) (rw (lt-ltb _ _ c.if-capture-gt-MOST.true) (c.too_long.ensures, omega arith))

@@ -17,7 +17,8 @@ returns-then-number-lt91 c = named2 (λ h0 h1. record { room_after = h0; fits = 
 
 pub returns-then-number-eq91 : goal.returns-then-number-eq91
 unfolding unread_text ascii
-returns-then-number-eq91 c = named2 (λ h0 h1. record { room_after = h0; fits = h1 }) (rw (le-ltb _ 91 c.if-number-lt91.false, eq-eqb _ 91 c.if-number-eq91.true) (c.put.ensures, omega arith))
+returns-then-number-eq91 c = named2 (λ h0 h1. record { room_after = h0; fits = h1 })
+    (rw (le-ltb _ 91 c.if-number-lt91.false, eq-eqb _ 91 c.if-number-eq91.true) (c.put.ensures, omega arith))
 
 pub returns : goal.returns
 unfolding unread_text ascii

@@ -6,7 +6,8 @@ use Rattle.text.specs.Room.{put_at}
 use Rattle.text.proofs.number.bytes.Given as goal
 
 abbrev pub invariant-loop-i : goal.invariant-loop-i
-invariant-loop-i l = (put_at (bytes_of_hex (drop l.i l.s)) l.next l.out ≡ put_at (bytes_of_hex l.s) l.at l.initial.out) × (length l.out ≡ length l.initial.out) × (l.next ≤ length l.out)
+invariant-loop-i l = (put_at (bytes_of_hex (drop l.i l.s)) l.next l.out ≡ put_at (bytes_of_hex l.s) l.at l.initial.out) ×
+    (length l.out ≡ length l.initial.out) × (l.next ≤ length l.out)
 
 abbrev pub decreases-loop-i : goal.decreases-loop-i
 decreases-loop-i l = length l.s - l.i

@@ -57,7 +57,8 @@ returns-then-same c = let at_compared : Compared c.args.write
     } in
     (let answer' : (let a = c.args in
     cond true (Taken.Bytes c.record_bytes-n.result) Taken.Rejected
-    ≡ step_takes (element_step a.write a.space a.address a.bytes.now) a.list.now) = element-taken at_compared c.if-list-n.false c.if-r-write.false _ c.carried_bytes-m.ensures.0 true
+    ≡ step_takes (element_step a.write a.space a.address a.bytes.now) a.list.now) =
+        element-taken at_compared c.if-list-n.false c.if-r-write.false _ c.carried_bytes-m.ensures.0 true
     c.same.ensures
     c.if-same.true in answer')
 
@@ -76,6 +77,7 @@ returns-else-same c = let at_compared : Compared c.args.write
     } in
     (let answer' : (let a = c.args in
     cond false (Taken.Bytes c.record_bytes-n.result) Taken.Rejected
-    ≡ step_takes (element_step a.write a.space a.address a.bytes.now) a.list.now) = element-taken at_compared c.if-list-n.false c.if-r-write.false _ c.carried_bytes-m.ensures.0 false
+    ≡ step_takes (element_step a.write a.space a.address a.bytes.now) a.list.now) =
+        element-taken at_compared c.if-list-n.false c.if-r-write.false _ c.carried_bytes-m.ensures.0 false
     c.same.ensures
     c.if-same.false in answer')

@@ -23,7 +23,8 @@ returns-in_default c xs l = parting_unsound c.loop-rest.invariant c.loop-rest-te
     xs
 
 pub overflow_add-end : goal.overflow_add-end
-overflow_add-end c = let at_frame : Front.frame c.in-Bytes.n ≡ front_of c.loop-rest.rest.now = front-is c.loop-rest.invariant c.loop-rest-test.true _ c.frame_bytes-frame.ensures _ c.in-Bytes.is in
+overflow_add-end c = let at_frame : Front.frame c.in-Bytes.n ≡ front_of c.loop-rest.rest.now =
+    front-is c.loop-rest.invariant c.loop-rest-test.true _ c.frame_bytes-frame.ensures _ c.in-Bytes.is in
     let w = frame-within c.loop-rest.invariant c.loop-rest-test.true _ at_frame in
     omega arith
 
@@ -34,12 +35,14 @@ pub slice_bounds-packet_takes-start : goal.slice_bounds-packet_takes-start
 slice_bounds-packet_takes-start c = slice_bounds-packet_takes-count c
 
 pub slice_bounds-packet_takes-end-in-loop-rest : goal.slice_bounds-packet_takes-end-in-loop-rest
-slice_bounds-packet_takes-end-in-loop-rest c = let at_frame : Front.frame c.in-Bytes.n ≡ front_of c.loop-rest.rest.now = front-is c.loop-rest.invariant c.loop-rest-test.true _ c.frame_bytes-frame.ensures _ c.in-Bytes.is in
+slice_bounds-packet_takes-end-in-loop-rest c = let at_frame : Front.frame c.in-Bytes.n ≡ front_of c.loop-rest.rest.now =
+    front-is c.loop-rest.invariant c.loop-rest-test.true _ c.frame_bytes-frame.ensures _ c.in-Bytes.is in
     frame-within c.loop-rest.invariant c.loop-rest-test.true _ at_frame
 
 pub returns-in_default-next : goal.returns-in_default-next
 unfolding check_listed
-returns-in_default-next c xs l = let at_frame : Front.frame c.in-Bytes.n ≡ front_of c.loop-rest.rest.now = front-is c.loop-rest.invariant c.loop-rest-test.true _ c.frame_bytes-frame.ensures _ c.in-Bytes.is in
+returns-in_default-next c xs l = let at_frame : Front.frame c.in-Bytes.n ≡ front_of c.loop-rest.rest.now =
+    front-is c.loop-rest.invariant c.loop-rest-test.true _ c.frame_bytes-frame.ensures _ c.in-Bytes.is in
     parting_rejected c.loop-rest.invariant c.loop-rest-test.true _
     at_frame
     _
@@ -49,7 +52,8 @@ returns-in_default-next c xs l = let at_frame : Front.frame c.in-Bytes.n ≡ fro
     l
 
 pub overflow_add-taken : goal.overflow_add-taken
-overflow_add-taken c = let at_frame : Front.frame c.in-Bytes.n ≡ front_of c.loop-rest.rest.now = front-is c.loop-rest.invariant c.loop-rest-test.true _ c.frame_bytes-frame.ensures _ c.in-Bytes.is in
+overflow_add-taken c = let at_frame : Front.frame c.in-Bytes.n ≡ front_of c.loop-rest.rest.now =
+    front-is c.loop-rest.invariant c.loop-rest-test.true _ c.frame_bytes-frame.ensures _ c.in-Bytes.is in
     let at_turn : (let a = c.args in
     let end = 4 + c.in-Bytes.n in
     Parting a.list.now a.proposal.now (take (length c.loop-rest.rest.now - end) (drop end c.loop-rest.rest.now))
@@ -63,7 +67,8 @@ overflow_add-taken c = let at_frame : Front.frame c.in-Bytes.n ≡ front_of c.lo
     let w = taken-within at_turn in omega arith
 
 pub slice_bounds-rest-count : goal.slice_bounds-rest-count
-slice_bounds-rest-count c = let at_frame : Front.frame c.in-Bytes.n ≡ front_of c.loop-rest.rest.now = front-is c.loop-rest.invariant c.loop-rest-test.true _ c.frame_bytes-frame.ensures _ c.in-Bytes.is in
+slice_bounds-rest-count c = let at_frame : Front.frame c.in-Bytes.n ≡ front_of c.loop-rest.rest.now =
+    front-is c.loop-rest.invariant c.loop-rest-test.true _ c.frame_bytes-frame.ensures _ c.in-Bytes.is in
     frame-within c.loop-rest.invariant c.loop-rest-test.true _
     at_frame
 
@@ -71,7 +76,8 @@ pub slice_bounds-rest-start : goal.slice_bounds-rest-start
 slice_bounds-rest-start c = slice_bounds-rest-count c
 
 pub loop-rest-preserved : goal.loop-rest-preserved
-loop-rest-preserved c = let at_frame : Front.frame c.in-Bytes.n ≡ front_of c.loop-rest.rest.now = front-is c.loop-rest.invariant c.loop-rest-test.true _ c.frame_bytes-frame.ensures _ c.in-Bytes.is in
+loop-rest-preserved c = let at_frame : Front.frame c.in-Bytes.n ≡ front_of c.loop-rest.rest.now =
+    front-is c.loop-rest.invariant c.loop-rest-test.true _ c.frame_bytes-frame.ensures _ c.in-Bytes.is in
     let at_turn : (let a = c.args in
     let end = 4 + c.in-Bytes.n in
     Parting a.list.now a.proposal.now (take (length c.loop-rest.rest.now - end) (drop end c.loop-rest.rest.now))
