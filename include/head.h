@@ -848,57 +848,57 @@ uint32_t head_sentence(uint32_t number,
 /* What it costs, in bytes, by tools/costs; docs/FIRMWARE.md has the rest:
  *
  *                                 x86_64-linux  aarch64-linux  riscv64-linux    armv7-linux      cortex-m4      cortex-m0
- *   code                                61,907         52,076         68,258         78,664         67,176         75,134
- *   constants                            4,616          4,016            440            112            144            144
+ *   code                                62,006         54,184         53,644         77,608         62,818         67,520
+ *   constants                            4,989          3,969          3,601          3,333          3,333          3,333
  *   data                                     0              0              0              0              0              0
- *   stack of head_assemble               8,792          8,640          8,832          8,764          8,708          8,780
- *   stack of head_capture                  448            400            480            332            316            408
- *   stack of head_check                    256            208            208            240            192            264
- *   stack of head_compile                  560            352            400            416            400            436
- *   stack of head_field                    288            176            208            172            176            208
+ *   stack of head_assemble               8,680          8,528          8,640          8,624          8,576          8,700
+ *   stack of head_capture                  432            384            416            296            288            392
+ *   stack of head_check                    232            144            160            236            216            240
+ *   stack of head_compile                  480            288            304            376            376            416
+ *   stack of head_field                    296            144            176            184            176            200
  *   stack of head_fields                   136              0              0              0             16              8
- *   stack of head_guard                    144              0             16             36             36             76
- *   stack of head_guarded_check            336            288            304            288            256            368
- *   stack of head_guarded_list             384            224            256            264            264            332
- *   stack of head_guarded_run              576            592            576            600            536            664
- *   stack of head_guarded_spi              304            160            208            176            184            240
+ *   stack of head_guard                    144              0              0             36             36             60
+ *   stack of head_guarded_check            296            192            208            284            280            344
+ *   stack of head_guarded_list             352            208            224            232            232            304
+ *   stack of head_guarded_run              552            448            432            532            520            624
+ *   stack of head_guarded_spi              352            144            176            176            176            240
  *   stack of head_header                   136              0              0              0              0              8
  *   stack of head_header_word              136              0              0              8              8             20
- *   stack of head_independent            8,592          8,448          8,464          8,448          8,440          8,492
- *   stack of head_judge                  2,016          2,016          2,032          2,096          2,000          2,144
- *   stack of head_list_text                304            240            224            176            184            240
- *   stack of head_list_why                 240            112            112             88             88            132
- *   stack of head_pack                     480            368            416            356            340            408
- *   stack of head_packet_text            8,496          8,336          8,592          8,344          8,320          8,872
- *   stack of head_panel_reading            136              0              0              8              8             24
+ *   stack of head_independent            8,576          8,432          8,448          8,456          8,440          8,488
+ *   stack of head_judge                  2,072          1,936          1,952          2,116          2,016          2,120
+ *   stack of head_list_text                336            128            112            112            112            160
+ *   stack of head_list_why                 224             80             80             72             72            128
+ *   stack of head_pack                     440            256            368            376            360            408
+ *   stack of head_packet_text            7,392          7,248          7,392          7,128          7,120          7,208
+ *   stack of head_panel_reading            136              0              0              8              8             32
  *   stack of head_panel_report             136              0              0             16             16             24
  *   stack of head_panel_start              136              0              0              0              0              0
- *   stack of head_part                   1,064          1,120          1,248          1,268          1,192          1,296
- *   stack of head_run                      480            432            416            480            456            528
- *   stack of head_salvage                  320            176            192            152            144            204
- *   stack of head_sentence               3,104          2,976          3,072          2,984          2,968          3,464
- *   stack of head_spi                      256            144            144            144            144            152
- *   stack of head_table                    288            160            208            164            184            216
- *   stack of head_tight_check              720            464            592            560            544            612
- *   stack of head_tighten                1,056            720            928            824            816            916
- *   stack of head_unpack                   464            336            400            308            316            392
- *   stack of head_why                      560            496            512            520            472            576
- *   stack of head_word                     160              0              0             16             16             24
+ *   stack of head_part                     936          1,008          1,184            948            880          1,248
+ *   stack of head_run                      472            336            336            460            464            504
+ *   stack of head_salvage                  320            160            144            144            136            208
+ *   stack of head_sentence                 160             32             32            152            144            168
+ *   stack of head_spi                      272            128            160            128            136            152
+ *   stack of head_table                    296            144            192            184            208            224
+ *   stack of head_tight_check              624            368            496            500            488            560
+ *   stack of head_tighten                  976            624            816            772            752            880
+ *   stack of head_unpack                   408            240            368            312            328            384
+ *   stack of head_why                      552            416            448            540            488            536
+ *   stack of head_word                     168              0              0             16             16             32
  *
  * A stack is the deepest that the call can need, without that of the functions of libc and libgcc that are named below. No
  * function is reached from itself, none asks for memory, and none keeps anything between calls, so that calls which are lent
  * different memory may run at the same time. On a Cortex-M4 a packet takes at most 240,165 instructions in head_run, a burst
  * 1,366 in head_spi, a record of a list 443 in head_compile.
  * x86_64-linux needs memcpy (libc), memset (libc). Registers beyond the integer ones: assemble, capture, check, compile,
- *   field, guarded_check, guarded_list, guarded_run, guarded_spi, independent, judge, pack, packet_text, panel_reading,
- *   part, run, sentence, spi, table, tight_check, tighten, unpack, why.
+ *   field, fields, guarded_check, guarded_list, guarded_run, guarded_spi, independent, judge, pack, packet_text,
+ *   panel_reading, part, run, spi, table, tight_check, tighten, unpack, why.
  * aarch64-linux needs memcpy (libc), memset (libc). Registers beyond the integer ones: assemble, capture, check, compile,
- *   field, fields, guarded_check, guarded_list, guarded_run, guarded_spi, header, independent, judge, list_text, pack,
- *   packet_text, panel_reading, panel_report, part, run, sentence, spi, table, tight_check, tighten, unpack, why.
+ *   field, fields, guarded_check, guarded_run, guarded_spi, header, judge, list_text, pack, packet_text, panel_reading,
+ *   panel_report, part, run, spi, table, tight_check, tighten, unpack, why.
  * riscv64-linux needs memcpy (libc), memset (libc). Registers beyond the integer ones: panel_reading.
  * armv7-linux needs memcpy (libc), memset (libc). Registers beyond the integer ones: assemble, capture, check, compile,
- *   guarded_check, guarded_list, guarded_run, guarded_spi, independent, judge, pack, packet_text, panel_reading, part, run,
- *   sentence, spi, tight_check, tighten, unpack, why.
+ *   field, guarded_check, guarded_list, guarded_run, guarded_spi, independent, judge, pack, packet_text, panel_reading,
+ *   part, run, sentence, spi, table, tight_check, tighten, unpack, why.
  * cortex-m4 needs __aeabi_memclr (libc), __aeabi_memclr4 (libc), __aeabi_memclr8 (libc), __aeabi_memcpy (libc),
  *   __aeabi_uldivmod (libgcc). Registers beyond the integer ones: panel_reading.
  * cortex-m0 needs __aeabi_fcmplt (libgcc), __aeabi_fdiv (libgcc), __aeabi_fmul (libgcc), __aeabi_llsl (libgcc), __aeabi_llsr
