@@ -474,7 +474,7 @@ file-back : (big nano : Bool) (l : Link) (more : List ℕ)
 unfolding file_of
 file-back big nano l more =
     let n : length (file_header big nano l ++ more) ≡ 24 + length more =
-        length-append (file_header big nano l) more ∙ rw (header-length big nano l more) refl in
+    length-append (file_header big nano l) more ∙ rw (header-length big nano l more) refl in
     rw (
       magic_big big nano l more,
       magic_any big nano l more,

@@ -114,8 +114,15 @@ module _ (text : List ℕ) (k : ℕ) (rest : List ℕ) (w : Words) (h : LineHere
   defined-name =
       let q = h.words in
       let b : words_here [] (drop (k + w.second.from) text) ≡ drop 1 (words_here [] rest) = ap (words_here []) behind ∙ q.behind in
-      rw (b, q.second, q.third, q.fourth, get_or-drop 1 (words_here [] rest) 0 [], get_or-drop 1 (words_here [] rest) 1 [], get_or-drop 1
-          (words_here [] rest) 2 [])
+      rw (
+        b,
+        q.second,
+        q.third,
+        q.fourth,
+        get_or-drop 1 (words_here [] rest) 0 [],
+        get_or-drop 1 (words_here [] rest) 1 [],
+        get_or-drop 1 (words_here [] rest) 2 [],
+      )
       refl
 
   pub name-within : k + w.second.from ≤ length text

@@ -3,7 +3,8 @@ ghost use Rattle.std.specs.Prelude.{◌≡◌, ◌%◌, ◌^◌, length};
 ghost use Rattle.sserial.specs.Table.{checked_at};
 ghost use Rattle.sserial.specs.Calls.{table_listed, call_listed};
 ghost use Rattle.head.specs.Exports.{number_of, numbers_of};
-ghost use Rattle.head.specs.SserialExports.{or_refused, direction_of, field_words, table_left, export_table, call_left, export_field, export_pack, export_unpack};
+ghost use Rattle.head.specs.SserialExports.{or_refused, direction_of, field_words, table_left};
+ghost use Rattle.head.specs.SserialExports.{export_table, call_left, export_field, export_pack, export_unpack};
 
 use crate::numbers::Numbers;
 use sserial::call::CallAnswer;

@@ -35,17 +35,41 @@ never h = absurd (h refl)
 with_space-other : (p : SpacePointers) (t s : Space) (n : ℕ) → t ≢ s → of_space (with_space p t n) s ≡ of_space p s
 unfolding of_space with_space
 with_space-other p t registers n =
-    elim t as (λ k. k ≢ registers → of_space (with_space p k n) registers ≡ of_space p registers) [ registers ↦ never | eeprom ↦ λ h. refl | status ↦
-        λ h. refl | information ↦ λ h. refl | absent ↦ λ h. refl ]
+    elim t as (λ k. k ≢ registers → of_space (with_space p k n) registers ≡ of_space p registers) [
+      | registers ↦ never
+      | eeprom ↦ λ h. refl
+      | status ↦
+          λ h. refl
+      | information ↦ λ h. refl
+      | absent ↦ λ h. refl
+    ]
 with_space-other p t eeprom n =
-    elim t as (λ k. k ≢ eeprom → of_space (with_space p k n) eeprom ≡ of_space p eeprom) [ registers ↦ λ h. refl | eeprom ↦ never | status ↦
-        λ h. refl | information ↦ λ h. refl | absent ↦ λ h. refl ]
+    elim t as (λ k. k ≢ eeprom → of_space (with_space p k n) eeprom ≡ of_space p eeprom) [
+      | registers ↦ λ h. refl
+      | eeprom ↦ never
+      | status ↦
+          λ h. refl
+      | information ↦ λ h. refl
+      | absent ↦ λ h. refl
+    ]
 with_space-other p t status n =
-    elim t as (λ k. k ≢ status → of_space (with_space p k n) status ≡ of_space p status) [ registers ↦ λ h. refl | eeprom ↦ λ h. refl | status ↦
-        never | information ↦ λ h. refl | absent ↦ λ h. refl ]
+    elim t as (λ k. k ≢ status → of_space (with_space p k n) status ≡ of_space p status) [
+      | registers ↦ λ h. refl
+      | eeprom ↦ λ h. refl
+      | status ↦
+          never
+      | information ↦ λ h. refl
+      | absent ↦ λ h. refl
+    ]
 with_space-other p t information n =
-    elim t as (λ k. k ≢ information → of_space (with_space p k n) information ≡ of_space p information) [ registers ↦ λ h. refl | eeprom ↦
-        λ h. refl | status ↦ λ h. refl | information ↦ never | absent ↦ λ h. refl ]
+    elim t as (λ k. k ≢ information → of_space (with_space p k n) information ≡ of_space p information) [
+      | registers ↦ λ h. refl
+      | eeprom ↦
+          λ h. refl
+      | status ↦ λ h. refl
+      | information ↦ never
+      | absent ↦ λ h. refl
+    ]
 with_space-other p t absent n = λ h. refl
 
 -- Setting one pointer leaves those of other spaces, and every pointer of the other kind: `i` and `j` say whether it is that

@@ -209,7 +209,7 @@ module _ {lent packet pointers : List ℕ} {open? : Bool} {reply : ℕ} {rest : 
     next-checked o h =
         let k : r.bytes ≡ command_bytes (fields_at rest) = ap (λ (t : Reach). t.bytes) e in
         let a : r.answered ≡ (fields_at rest).count * answered (kind_of (fields_at rest)) (space_of (fields_at rest).space) =
-            ap (λ (t : Reach). t.answered) e in
+        ap (λ (t : Reach). t.answered) e in
         let two = command-some (fields_at rest) in
         let whole = pass.whole in
         let answers = pass.answers in

@@ -158,7 +158,7 @@ module _ {p : Pointers} {commands : List ℕ} {pointers : Pointers} {rest out₀
               let on =
               laid_then (line_text pointers (length commands - length rest) rest)
               (lines_from next.less (pointers_after pointers (fields_at rest) rest) (length commands - length rest + command_bytes (fields_at rest))
-                  (behind rest))
+              (behind rest))
               bytes out out₁ n
               (m ∙ ap length line-is)
               (o ∙ ap (sets out bytes) line-is) in

@@ -131,7 +131,7 @@ front-from o [] cs (ds ∷ css) dss e = let z : ◌≡◌ {A = ℕ} 0 1 = cc in 
 front-from o (x ∷ xs) cs css dss e =
     turn-cases o x (λ t. turn o x ≡ t → FrontBy (pack_from o) (x ∷ xs) (cs ∷ css)) (λ _ t. still _ t (front-from (joined o x) xs cs css dss))
     (λ _ t. still _ t (front-from (started (commands_of o) x) xs cs css dss))
-        (λ t. closing t css (rw t at e) (λ ds css. front-from (started [] x) xs ds css dss)) refl
+    (λ t. closing t css (rw t at e) (λ ds css. front-from (started [] x) xs ds css dss)) refl
   where
     behind : (p : Open) (css : List (List Command)) (f : FrontBy (pack_from p) xs css) (all : List (List Command))
         → (turn o x).closed ++ pack_from (turn o x).open? f.ys ≡ all → FrontBy (pack_from o) (x ∷ xs) all

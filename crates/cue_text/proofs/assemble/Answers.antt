@@ -20,11 +20,11 @@ returns-else-out-bytes c = let e = lent_none c.args.out.now c.walk-checked.new.o
     let g = good _ _ _ _ (rw c.in-Written.is at c.walk-checked.ensures.answer) in
     let s = c.walk.ensures in
     named2 (λ h0 h1. record { assembled = h0; text_show = h1 })
-        (shown _ _ _ c.walk.result (answer-whole _ _ _ _ g (rw e at c.if-out-bytes.false) s.answer (rw e at s.out_after)))
+    (shown _ _ _ c.walk.result (answer-whole _ _ _ _ g (rw e at c.if-out-bytes.false) s.answer (rw e at s.out_after)))
 
 pub returns-in-Refused : goal.returns-in-Refused
 unfolding left text_listed
 returns-in-Refused c = let e = lent_none c.args.out.now c.walk-checked.new.out c.walk-checked.auto.out in
     let t = c.in-Refused.is in
     named2 (λ h0 h1. record { assembled = h0; text_show = h1 })
-        (rw e (shown _ _ _ c.walk-checked.result (rw t (answer-refused _ _ _ (rw t at c.walk-checked.ensures.answer)))))
+    (rw e (shown _ _ _ c.walk-checked.result (rw t (answer-refused _ _ _ (rw t at c.walk-checked.ensures.answer)))))

@@ -19,7 +19,7 @@ pub returns-in-End : goal.returns-in-End
 unfolding part_text passed_by pointers_by
 returns-in-End c = let l : length c.args.room.now ≡ 69760 = search rules in
     named2 (λ h0 h1. record { said = h0; within = h1 })
-        (ends Front.end _ _ _ _ _ _ _ _ _ (sym c.frame_at-frame.ensures ∙ ap frame_listed c.in-End.is) refl refl (end-size _) l
+    (ends Front.end _ _ _ _ _ _ _ _ _ (sym c.frame_at-frame.ensures ∙ ap frame_listed c.in-End.is) refl refl (end-size _) l
     c.put_end.ensures c.ended.ensures)
 
 pub returns-in-Cut : goal.returns-in-Cut
@@ -27,7 +27,7 @@ unfolding part_text passed_by pointers_by
 returns-in-Cut c = let i : c.args.i < 2 ^ 64 = search rules in
     let l : length c.args.room.now ≡ 69760 = search rules in
     named2 (λ h0 h1. record { said = h0; within = h1 })
-        (ends Front.cut _ _ _ _ _ _ _ _ _ (sym c.frame_at-frame.ensures ∙ ap frame_listed c.in-Cut.is) refl refl (cut-size _ i) l
+    (ends Front.cut _ _ _ _ _ _ _ _ _ (sym c.frame_at-frame.ensures ∙ ap frame_listed c.in-Cut.is) refl refl (cut-size _ i) l
     c.put_cut.ensures c.ended-in-Cut.ensures)
 
 pub returns-in-Unmarked : goal.returns-in-Unmarked
@@ -35,7 +35,7 @@ unfolding part_text passed_by pointers_by
 returns-in-Unmarked c = let i : c.args.i < 2 ^ 64 = search rules in
     let l : length c.args.room.now ≡ 69760 = search rules in
     named2 (λ h0 h1. record { said = h0; within = h1 })
-        (ends Front.unmarked _ _ _ _ _ _ _ _ _ (sym c.frame_at-frame.ensures ∙ ap frame_listed c.in-Unmarked.is) refl refl (unmarked-size _ i) l
+    (ends Front.unmarked _ _ _ _ _ _ _ _ _ (sym c.frame_at-frame.ensures ∙ ap frame_listed c.in-Unmarked.is) refl refl (unmarked-size _ i) l
     c.put_unmarked.ensures c.ended-in-Unmarked.ensures)
 
 pub returns-in-Whole : goal.returns-in-Whole

@@ -25,5 +25,9 @@ returns-in-7 c = rw c.in-7.is (refl, omega arith)
 
 pub returns-in_default : goal.returns-in_default
 unfolding space_word space_of
-returns-in_default c = rw (ne_eqb c.args.space 0 (search rules), ne_eqb c.args.space 2 (search rules), ne_eqb c.args.space 6 (search rules), ne_eqb
-    c.args.space 7 (search rules)) (refl, omega arith)
+returns-in_default c = rw (
+  ne_eqb c.args.space 0 (search rules),
+  ne_eqb c.args.space 2 (search rules),
+  ne_eqb c.args.space 6 (search rules),
+  ne_eqb c.args.space 7 (search rules),
+) (refl, omega arith)

@@ -16,12 +16,12 @@ pub returns-then-is_capture : goal.returns-then-is_capture
 unfolding input_text
 returns-then-is_capture c = let n = c.first_number-n.ensures in
     named2 (λ h0 h1. record { room_after = h0; fits = h1 })
-        (rw (← n, ← c.is_pcapng.ensures, c.if-is_pcapng.false, ← c.is_capture.ensures, c.if-is_capture.true)
-        (c.put_capture.ensures.room_after, c.put_capture.ensures.fits))
+    (rw (← n, ← c.is_pcapng.ensures, c.if-is_pcapng.false, ← c.is_capture.ensures, c.if-is_capture.true)
+    (c.put_capture.ensures.room_after, c.put_capture.ensures.fits))
 
 pub returns : goal.returns
 unfolding input_text
 returns c = let n = c.first_number-n.ensures in
     named2 (λ h0 h1. record { room_after = h0; fits = h1 })
-        (rw (← n, ← c.is_pcapng.ensures, c.if-is_pcapng.false, ← c.is_capture.ensures, c.if-is_capture.false)
-        (c.put_recording.ensures.room_after, c.put_recording.ensures.fits))
+    (rw (← n, ← c.is_pcapng.ensures, c.if-is_pcapng.false, ← c.is_capture.ensures, c.if-is_capture.false)
+    (c.put_recording.ensures.room_after, c.put_recording.ensures.fits))

@@ -8,7 +8,7 @@ use Rattle.packet.specs.declared.judge.Verdict.TheVariants.{Accepted}
 pub returns-then-reply-ne-LIMIT : goal.returns-then-reply-ne-LIMIT
 returns-then-reply-ne-LIMIT c = let answer = ap verdict_listed c.not_run.ensures.0 ∙ c.refused.ensures in
     let whole = lent_work c.args.packet.now c.args.store.now c.args.lent.now c.args.reply.now _ c.args.store.now c.args.lent.now c.args.reply.now
-        (other-room _ _ _ _ c.if-reply-ne-LIMIT.true _ answer c.not_run.ensures.1) in
+    (other-room _ _ _ _ c.if-reply-ne-LIMIT.true _ answer c.not_run.ensures.1) in
     record { ran = whole.0; summed = whole.1.0; bounded = whole.1.1 }
 
 pub returns-in_default : goal.returns-in_default
@@ -18,7 +18,7 @@ returns-in_default c = let told = c.in_default.is in
     let answer = ap verdict_listed (c.not_run-in_default.ensures.0 ∙ told) in
     let checked = ap verdict_listed (sym told) ∙ c.check_lent-answer.ensures in
     let whole = lent_work c.args.packet.now c.args.store.now c.args.lent.now c.args.reply.now _ c.args.store.now c.args.lent.now c.args.reply.now
-        (run_refused _ _ _ _ room _ _ _ answer checked c.not_run-in_default.ensures.1) in
+    (run_refused _ _ _ _ room _ _ _ answer checked c.not_run-in_default.ensures.1) in
     record { ran = whole.0; summed = whole.1.0; bounded = whole.1.1 }
 
 pub perform-elements-requires : goal.perform-elements-requires
@@ -42,7 +42,7 @@ unfolding verdict_listed
 returns c = let checked = ap verdict_listed (sym c.in-Accepted.is) ∙ c.check_lent-answer.ensures in
     let left = c.count_packet.ensures ∙ ap counted c.clear_unlock.ensures in
     let whole = lent_work c.args.packet.now c.args.store.now c.args.lent.now c.args.reply.now
-        (record { answer = Accepted c.in-Accepted.length; elements = c.perform-elements.result }) c.count_packet.new.store c.perform-elements.new.pointers
-        c.perform-elements.new.reply
+    (record { answer = Accepted c.in-Accepted.length; elements = c.perform-elements.result }) c.count_packet.new.store c.perform-elements.new.pointers
+    c.perform-elements.new.reply
     (run_done _ _ _ _ c.if-reply-ne-LIMIT.false c.in-Accepted.length _ _ _ _ refl checked c.perform-elements.ensures _ left) in
     record { ran = whole.0; summed = whole.1.0; bounded = whole.1.1 }

@@ -26,5 +26,10 @@ returns-in-5 c = rw c.in-5.is refl
 
 pub returns-in_default : goal.returns-in_default
 unfolding cause_numbered
-returns-in_default c = rw (ne_eqb c.args.n 1 (search rules), ne_eqb c.args.n 2 (search rules), ne_eqb c.args.n 3 (search rules), ne_eqb c.args.n 4
-    (search rules), ne_eqb c.args.n 5 (search rules)) refl
+returns-in_default c = rw (
+  ne_eqb c.args.n 1 (search rules),
+  ne_eqb c.args.n 2 (search rules),
+  ne_eqb c.args.n 3 (search rules),
+  ne_eqb c.args.n 4 (search rules),
+  ne_eqb c.args.n 5 (search rules),
+) refl

@@ -24,7 +24,7 @@ returns-in-Empty c = c.told-in-Empty.ensures ∙ (let wrong' : (let a = c.args i
     form_fault a.number (take (a.line - 1) (lines_of a.text.now))
     (formed Shape.Empty (word_in rest ws.second) (word_in rest ws.third) (word_in rest ws.fourth))
     ≡ fault_of a.number a.line a.text.now) =
-        fault_as _ c.line_place.result c.rest_at-rest.ensures _ c.words_of-w.ensures c.part.ensures c.shape_of-shape.ensures _
+    fault_as _ c.line_place.result c.rest_at-rest.ensures _ c.words_of-w.ensures c.part.ensures c.shape_of-shape.ensures _
     c.line_place.ensures.1 _ c.if-number-eq21.false Shape.Empty c.in-Empty.is in wrong')
 
 pub returns-in-ReadAt : goal.returns-in-ReadAt
@@ -36,7 +36,7 @@ returns-in-ReadAt c = c.read_fault.ensures []
     form_fault a.number (take (a.line - 1) (lines_of a.text.now))
     (formed Shape.ReadAt (word_in rest ws.second) (word_in rest ws.third) (word_in rest ws.fourth))
     ≡ fault_of a.number a.line a.text.now) =
-        fault_as _ c.line_place.result c.rest_at-rest.ensures _ c.words_of-w.ensures c.part.ensures c.shape_of-shape.ensures _
+    fault_as _ c.line_place.result c.rest_at-rest.ensures _ c.words_of-w.ensures c.part.ensures c.shape_of-shape.ensures _
     c.line_place.ensures.1 _ c.if-number-eq21.false Shape.ReadAt c.in-ReadAt.is in wrong'))
 
 pub returns-in-ReadName : goal.returns-in-ReadName
@@ -48,7 +48,7 @@ returns-in-ReadName c = c.used_fault.ensures
     form_fault a.number (take (a.line - 1) (lines_of a.text.now))
     (formed Shape.ReadName (word_in rest ws.second) (word_in rest ws.third) (word_in rest ws.fourth))
     ≡ fault_of a.number a.line a.text.now) =
-        fault_as _ c.line_place.result c.rest_at-rest.ensures _ c.words_of-w.ensures c.part.ensures c.shape_of-shape.ensures _
+    fault_as _ c.line_place.result c.rest_at-rest.ensures _ c.words_of-w.ensures c.part.ensures c.shape_of-shape.ensures _
     c.line_place.ensures.1 _ c.if-number-eq21.false Shape.ReadName c.in-ReadName.is in wrong'))
 
 pub returns-in-WriteAt : goal.returns-in-WriteAt
@@ -60,7 +60,7 @@ returns-in-WriteAt c = c.write_fault.ensures [] []
     form_fault a.number (take (a.line - 1) (lines_of a.text.now))
     (formed Shape.WriteAt (word_in rest ws.second) (word_in rest ws.third) (word_in rest ws.fourth))
     ≡ fault_of a.number a.line a.text.now) =
-        fault_as _ c.line_place.result c.rest_at-rest.ensures _ c.words_of-w.ensures c.part.ensures c.shape_of-shape.ensures _
+    fault_as _ c.line_place.result c.rest_at-rest.ensures _ c.words_of-w.ensures c.part.ensures c.shape_of-shape.ensures _
     c.line_place.ensures.1 _ c.if-number-eq21.false Shape.WriteAt c.in-WriteAt.is in wrong'))
 
 pub returns-in-WriteName : goal.returns-in-WriteName
@@ -72,7 +72,7 @@ returns-in-WriteName c = c.named_fault.ensures [] []
     form_fault a.number (take (a.line - 1) (lines_of a.text.now))
     (formed Shape.WriteName (word_in rest ws.second) (word_in rest ws.third) (word_in rest ws.fourth))
     ≡ fault_of a.number a.line a.text.now) =
-        fault_as _ c.line_place.result c.rest_at-rest.ensures _ c.words_of-w.ensures c.part.ensures c.shape_of-shape.ensures _
+    fault_as _ c.line_place.result c.rest_at-rest.ensures _ c.words_of-w.ensures c.part.ensures c.shape_of-shape.ensures _
     c.line_place.ensures.1 _ c.if-number-eq21.false Shape.WriteName c.in-WriteName.is in wrong'))
 
 pub returns-in-Names : goal.returns-in-Names
@@ -83,7 +83,7 @@ returns-in-Names c = c.name_fault.ensures ∙ (let wrong' : (let a = c.args in
     form_fault a.number (take (a.line - 1) (lines_of a.text.now))
     (formed Shape.Names (word_in rest ws.second) (word_in rest ws.third) (word_in rest ws.fourth))
     ≡ fault_of a.number a.line a.text.now) =
-        fault_as _ c.line_place.result c.rest_at-rest.ensures _ c.words_of-w.ensures c.part.ensures c.shape_of-shape.ensures _
+    fault_as _ c.line_place.result c.rest_at-rest.ensures _ c.words_of-w.ensures c.part.ensures c.shape_of-shape.ensures _
     c.line_place.ensures.1 _ c.if-number-eq21.false Shape.Names c.in-Names.is in wrong')
 
 pub returns-in-Unknown : goal.returns-in-Unknown
@@ -94,5 +94,5 @@ returns-in-Unknown c = c.told-in-Unknown.ensures ∙ (let wrong' : (let a = c.ar
     form_fault a.number (take (a.line - 1) (lines_of a.text.now))
     (formed Shape.Unknown (word_in rest ws.second) (word_in rest ws.third) (word_in rest ws.fourth))
     ≡ fault_of a.number a.line a.text.now) =
-        fault_as _ c.line_place.result c.rest_at-rest.ensures _ c.words_of-w.ensures c.part.ensures c.shape_of-shape.ensures _
+    fault_as _ c.line_place.result c.rest_at-rest.ensures _ c.words_of-w.ensures c.part.ensures c.shape_of-shape.ensures _
     c.line_place.ensures.1 _ c.if-number-eq21.false Shape.Unknown c.in-Unknown.is in wrong')

@@ -13,4 +13,4 @@ unfolding export_assemble
 returns c = let a = c.args in
     let e = c.assemble.ensures in
     named2 (λ h0 h1. record { assembled = h0; text_show = h1 })
-        (text-answered _ _ _ _ e.assembled c.numbers_of-given.ensures (text-some _ _) (λ b. TextShow a.text.now (take b c.assemble.new.out)) e.text_show)
+    (text-answered _ _ _ _ e.assembled c.numbers_of-given.ensures (text-some _ _) (λ b. TextShow a.text.now (take b c.assemble.new.out)) e.text_show)

@@ -13,4 +13,4 @@ unfolding export_list_text
 returns c = let a = c.args in
     let e = c.write.ensures in
     named2 (λ h0 h1. record { written = h0; same_list = h1 })
-        (text-answered _ _ _ _ e.written c.numbers_of-given.ensures (list-some _ _) (λ b. SameList a.list.now (take b c.write.new.out)) e.same_list)
+    (text-answered _ _ _ _ e.written c.numbers_of-given.ensures (list-some _ _) (λ b. SameList a.list.now (take b c.write.new.out)) e.same_list)

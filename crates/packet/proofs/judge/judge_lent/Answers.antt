@@ -69,7 +69,7 @@ overflow_add-reply c = let at_step : Checked c.args.lent.now c.args.packet.now c
       | then-for_registers w ↦
           let found = w.register_at-c.result.found in
           let registers : ForRegisters (fields_at c.loop-rest.rest.now) =
-              rw (← c.word_at-word.ensures) (registers-word _ _ refl (sym c.for_registers.ensures ∙ w.if-for_registers.true)) in
+          rw (← c.word_at-word.ensures) (registers-word _ _ refl (sym c.for_registers.ensures ∙ w.if-for_registers.true)) in
           rw (w.unlocked-is, w.reach-is)
           (elim w.match-which.branch [
             | in-Read v ↦ checking_registers c.loop-rest.invariant c.loop-rest-test.true _ (w.register_at-c.ensures _) 0
@@ -97,7 +97,7 @@ offset_bounds-pointers-slot c =
       | then-for_registers w ↦
           let found = w.register_at-c.result.found in
           let registers : ForRegisters (fields_at c.loop-rest.rest.now) =
-              rw (← c.word_at-word.ensures) (registers-word _ _ refl (sym c.for_registers.ensures ∙ w.if-for_registers.true)) in
+          rw (← c.word_at-word.ensures) (registers-word _ _ refl (sym c.for_registers.ensures ∙ w.if-for_registers.true)) in
           rw (w.unlocked-is, w.reach-is)
           (elim w.match-which.branch [
             | in-Read v ↦ checking_registers c.loop-rest.invariant c.loop-rest-test.true _ (w.register_at-c.ensures _) 0
@@ -124,7 +124,7 @@ bounds-pointers-slot c = let at_step : Checked c.args.lent.now c.args.packet.now
       | then-for_registers w ↦
           let found = w.register_at-c.result.found in
           let registers : ForRegisters (fields_at c.loop-rest.rest.now) =
-              rw (← c.word_at-word.ensures) (registers-word _ _ refl (sym c.for_registers.ensures ∙ w.if-for_registers.true)) in
+          rw (← c.word_at-word.ensures) (registers-word _ _ refl (sym c.for_registers.ensures ∙ w.if-for_registers.true)) in
           rw (w.unlocked-is, w.reach-is)
           (elim w.match-which.branch [
             | in-Read v ↦ checking_registers c.loop-rest.invariant c.loop-rest-test.true _ (w.register_at-c.ensures _) 0
@@ -151,7 +151,7 @@ slice_bounds-rest-count c = let at_step : Checked c.args.lent.now c.args.packet.
       | then-for_registers w ↦
           let found = w.register_at-c.result.found in
           let registers : ForRegisters (fields_at c.loop-rest.rest.now) =
-              rw (← c.word_at-word.ensures) (registers-word _ _ refl (sym c.for_registers.ensures ∙ w.if-for_registers.true)) in
+          rw (← c.word_at-word.ensures) (registers-word _ _ refl (sym c.for_registers.ensures ∙ w.if-for_registers.true)) in
           rw (w.unlocked-is, w.reach-is)
           (elim w.match-which.branch [
             | in-Read v ↦ checking_registers c.loop-rest.invariant c.loop-rest-test.true _ (w.register_at-c.ensures _) 0
@@ -178,7 +178,7 @@ slice_bounds-rest-start c = let at_step : Checked c.args.lent.now c.args.packet.
       | then-for_registers w ↦
           let found = w.register_at-c.result.found in
           let registers : ForRegisters (fields_at c.loop-rest.rest.now) =
-              rw (← c.word_at-word.ensures) (registers-word _ _ refl (sym c.for_registers.ensures ∙ w.if-for_registers.true)) in
+          rw (← c.word_at-word.ensures) (registers-word _ _ refl (sym c.for_registers.ensures ∙ w.if-for_registers.true)) in
           rw (w.unlocked-is, w.reach-is)
           (elim w.match-which.branch [
             | in-Read v ↦ checking_registers c.loop-rest.invariant c.loop-rest-test.true _ (w.register_at-c.ensures _) 0
@@ -205,7 +205,7 @@ loop-rest-smaller c = let at_step : Checked c.args.lent.now c.args.packet.now c.
       | then-for_registers w ↦
           let found = w.register_at-c.result.found in
           let registers : ForRegisters (fields_at c.loop-rest.rest.now) =
-              rw (← c.word_at-word.ensures) (registers-word _ _ refl (sym c.for_registers.ensures ∙ w.if-for_registers.true)) in
+          rw (← c.word_at-word.ensures) (registers-word _ _ refl (sym c.for_registers.ensures ∙ w.if-for_registers.true)) in
           rw (w.unlocked-is, w.reach-is)
           (elim w.match-which.branch [
             | in-Read v ↦ checking_registers c.loop-rest.invariant c.loop-rest-test.true _ (w.register_at-c.ensures _) 0
@@ -232,7 +232,7 @@ loop-rest-preserved c = let at_step : Checked c.args.lent.now c.args.packet.now 
       | then-for_registers w ↦
           let found = w.register_at-c.result.found in
           let registers : ForRegisters (fields_at c.loop-rest.rest.now) =
-              rw (← c.word_at-word.ensures) (registers-word _ _ refl (sym c.for_registers.ensures ∙ w.if-for_registers.true)) in
+          rw (← c.word_at-word.ensures) (registers-word _ _ refl (sym c.for_registers.ensures ∙ w.if-for_registers.true)) in
           rw (w.unlocked-is, w.reach-is)
           (elim w.match-which.branch [
             | in-Read v ↦ checking_registers c.loop-rest.invariant c.loop-rest-test.true _ (w.register_at-c.ensures _) 0

@@ -29,8 +29,8 @@ unfolding bounds_of
 returns-then-not-bounds c = c.refused-then-not-bounds.ensures
     ∙ sym
     (refused_45 _ _ _ _ _ (sym c.unreadable.ensures ∙ c.if-unreadable.false)
-        (by_order _ (both-finite _ _ _ _ c.finite_bits.ensures c.finite_bits-2.ensures c.if-not-finite_bits.false)
-        ∙ disordered (sym c.bounds_of-bounds.ensures) ∙ ap not c.if-not-bounds.true))
+    (by_order _ (both-finite _ _ _ _ c.finite_bits.ensures c.finite_bits-2.ensures c.if-not-finite_bits.false)
+    ∙ disordered (sym c.bounds_of-bounds.ensures) ∙ ap not c.if-not-bounds.true))
 
 pub overflow_cast-value : goal.overflow_cast-value
 overflow_cast-value c = omega (arith, (readable _ _ _ (sym c.unreadable.ensures ∙ c.if-unreadable.false)).small)
@@ -47,4 +47,4 @@ returns c = c.scaled.ensures
     (sound _ _ _ _ _
     (sym c.unreadable.ensures ∙ c.if-unreadable.false)
     (by_order _ (both-finite _ _ _ _ c.finite_bits.ensures c.finite_bits-2.ensures c.if-not-finite_bits.false) ∙ disordered (sym c.bounds_of-bounds.ensures)
-        ∙ ap not c.if-not-bounds.false)))
+    ∙ ap not c.if-not-bounds.false)))

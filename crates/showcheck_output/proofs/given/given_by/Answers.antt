@@ -16,17 +16,32 @@ returns-then-not-store c = rw (le-ltb _ 2 c.if-count-lt2.false, ← c.has_option
 
 pub returns-then-count-eq2 : goal.returns-then-count-eq2
 unfolding given_by
-returns-then-count-eq2 c = rw (le-ltb _ 2 c.if-count-lt2.false, ← c.has_option.ensures, c.if-has_option-count.false, c.if-not-store.false, eq-eqb _ 2
-    c.if-count-eq2.true)
+returns-then-count-eq2 c = rw (
+  le-ltb _ 2 c.if-count-lt2.false,
+  ← c.has_option.ensures,
+  c.if-has_option-count.false,
+  c.if-not-store.false,
+  eq-eqb _ 2 c.if-count-eq2.true,
+)
 
 pub returns-then-pointers : goal.returns-then-pointers
 unfolding given_by
-returns-then-pointers c = rw
-    (le-ltb _ 2 c.if-count-lt2.false, ← c.has_option.ensures, c.if-has_option-count.false, c.if-not-store.false, ne_eqb _ 2 c.if-count-eq2.false,
-        c.if-pointers.true)
+returns-then-pointers c = rw (
+  le-ltb _ 2 c.if-count-lt2.false,
+  ← c.has_option.ensures,
+  c.if-has_option-count.false,
+  c.if-not-store.false,
+  ne_eqb _ 2 c.if-count-eq2.false,
+  c.if-pointers.true,
+)
 
 pub returns-else-pointers : goal.returns-else-pointers
 unfolding given_by
-returns-else-pointers c = rw
-    (le-ltb _ 2 c.if-count-lt2.false, ← c.has_option.ensures, c.if-has_option-count.false, c.if-not-store.false, ne_eqb _ 2 c.if-count-eq2.false,
-        c.if-pointers.false)
+returns-else-pointers c = rw (
+  le-ltb _ 2 c.if-count-lt2.false,
+  ← c.has_option.ensures,
+  c.if-has_option-count.false,
+  c.if-not-store.false,
+  ne_eqb _ 2 c.if-count-eq2.false,
+  c.if-pointers.false,
+)

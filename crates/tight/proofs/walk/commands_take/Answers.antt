@@ -18,26 +18,26 @@ slice_bounds-command_takes-start c = slice_bounds-command_takes-count c
 pub command_takes-next-requires : goal.command_takes-next-requires
 command_takes-next-requires c = let at_found : (let a = c.args in
     Here a.p a.packet.now a.list.now c.loop-rest.pointers c.loop-rest.rest.now c.loop-rest.taken c.fields_at-f.result) =
-        record { going = c.loop-rest.invariant; more = c.loop-rest-test.true; read = c.fields_at-f.ensures } in
+    record { going = c.loop-rest.invariant; more = c.loop-rest-test.true; read = c.fields_at-f.ensures } in
     passed_here at_found
 
 pub returns-in_default : goal.returns-in_default
 returns-in_default c = let at_found : (let a = c.args in
     Here a.p a.packet.now a.list.now c.loop-rest.pointers c.loop-rest.rest.now c.loop-rest.taken c.fields_at-f.result) =
-        record { going = c.loop-rest.invariant; more = c.loop-rest-test.true; read = c.fields_at-f.ensures } in
+    record { going = c.loop-rest.invariant; more = c.loop-rest-test.true; read = c.fields_at-f.ensures } in
     going-rejected at_found _ c.command_takes-next.ensures c.in_default.is
 
 pub overflow_add-taken : goal.overflow_add-taken
 overflow_add-taken c = let at_found : (let a = c.args in
     Here a.p a.packet.now a.list.now c.loop-rest.pointers c.loop-rest.rest.now c.loop-rest.taken c.fields_at-f.result) =
-        record { going = c.loop-rest.invariant; more = c.loop-rest-test.true; read = c.fields_at-f.ensures } in
+    record { going = c.loop-rest.invariant; more = c.loop-rest-test.true; read = c.fields_at-f.ensures } in
     let l = more_within at_found _ c.command_takes-next.ensures _ c.in-Bytes.is in
     omega (arith, c.well_formed.0)
 
 pub slice_bounds-rest-count : goal.slice_bounds-rest-count
 slice_bounds-rest-count c = command-within ((let found' : (let a = c.args in
     Here a.p a.packet.now a.list.now c.loop-rest.pointers c.loop-rest.rest.now c.loop-rest.taken c.fields_at-f.result) =
-        record { going = c.loop-rest.invariant; more = c.loop-rest-test.true; read = c.fields_at-f.ensures } in found')) _ c.command_bytes-k.ensures
+    record { going = c.loop-rest.invariant; more = c.loop-rest-test.true; read = c.fields_at-f.ensures } in found')) _ c.command_bytes-k.ensures
 
 pub slice_bounds-rest-start : goal.slice_bounds-rest-start
 slice_bounds-rest-start c = slice_bounds-rest-count c
@@ -45,17 +45,17 @@ slice_bounds-rest-start c = slice_bounds-rest-count c
 pub loop-rest-smaller : goal.loop-rest-smaller
 loop-rest-smaller c = let s = command-some ((let found' : (let a = c.args in
     Here a.p a.packet.now a.list.now c.loop-rest.pointers c.loop-rest.rest.now c.loop-rest.taken c.fields_at-f.result) =
-        record { going = c.loop-rest.invariant; more = c.loop-rest-test.true; read = c.fields_at-f.ensures } in found')) _ c.command_bytes-k.ensures in
+    record { going = c.loop-rest.invariant; more = c.loop-rest-test.true; read = c.fields_at-f.ensures } in found')) _ c.command_bytes-k.ensures in
     let w = (command-within ((let found' : (let a = c.args in
     Here a.p a.packet.now a.list.now c.loop-rest.pointers c.loop-rest.rest.now c.loop-rest.taken c.fields_at-f.result) =
-        record { going = c.loop-rest.invariant; more = c.loop-rest-test.true; read = c.fields_at-f.ensures } in found')) _ c.command_bytes-k.ensures) in
+    record { going = c.loop-rest.invariant; more = c.loop-rest-test.true; read = c.fields_at-f.ensures } in found')) _ c.command_bytes-k.ensures) in
     simp (length-take, length-drop) (omega arith)
 
 pub loop-rest-preserved : goal.loop-rest-preserved
 loop-rest-preserved c = going_next ((let found' : (let a = c.args in
     Here a.p a.packet.now a.list.now c.loop-rest.pointers c.loop-rest.rest.now c.loop-rest.taken c.fields_at-f.result) =
-        record { going = c.loop-rest.invariant; more = c.loop-rest-test.true; read = c.fields_at-f.ensures } in found')) _ c.command_bytes-k.ensures _
-        c.command_takes-next.ensures _ c.in-Bytes.is _
+    record { going = c.loop-rest.invariant; more = c.loop-rest-test.true; read = c.fields_at-f.ensures } in found')) _ c.command_bytes-k.ensures _
+    c.command_takes-next.ensures _ c.in-Bytes.is _
     c.address_used-used.ensures _ c.pointers_after-pointers.ensures
 
 pub returns : goal.returns

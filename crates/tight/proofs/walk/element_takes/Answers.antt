@@ -58,7 +58,7 @@ returns-then-same c = let at_compared : Compared c.args.write
     (let answer' : (let a = c.args in
     cond true (Taken.Bytes c.record_bytes-n.result) Taken.Rejected
     ≡ step_takes (element_step a.write a.space a.address a.bytes.now) a.list.now) =
-        element-taken at_compared c.if-list-n.false c.if-r-write.false _ c.carried_bytes-m.ensures.0 true
+    element-taken at_compared c.if-list-n.false c.if-r-write.false _ c.carried_bytes-m.ensures.0 true
     c.same.ensures
     c.if-same.true in answer')
 
@@ -78,6 +78,6 @@ returns-else-same c = let at_compared : Compared c.args.write
     (let answer' : (let a = c.args in
     cond false (Taken.Bytes c.record_bytes-n.result) Taken.Rejected
     ≡ step_takes (element_step a.write a.space a.address a.bytes.now) a.list.now) =
-        element-taken at_compared c.if-list-n.false c.if-r-write.false _ c.carried_bytes-m.ensures.0 false
+    element-taken at_compared c.if-list-n.false c.if-r-write.false _ c.carried_bytes-m.ensures.0 false
     c.same.ensures
     c.if-same.false in answer')
