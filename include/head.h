@@ -887,8 +887,8 @@ uint32_t head_sentence(uint32_t number,
  *
  * A stack is the deepest that the call can need, without that of the functions of libc and libgcc that are named below. No
  * function is reached from itself, none asks for memory, and none keeps anything between calls, so that calls which are lent
- * different memory may run at the same time. On a Cortex-M4 a packet takes at most 240,165 instructions in head_run, a burst
- * 1,366 in head_spi, a record of a list 443 in head_compile.
+ * different memory may run at the same time. On a Cortex-M4 a packet takes at most 239,439 instructions in head_run, a burst
+ * 1,376 in head_spi, a record of a list 460 in head_compile.
  * x86_64-linux needs memcpy (libc), memset (libc). Registers beyond the integer ones: assemble, capture, check, compile,
  *   field, fields, guarded_check, guarded_list, guarded_run, guarded_spi, independent, judge, pack, packet_text,
  *   panel_reading, part, run, spi, table, tight_check, tighten, unpack, why.
