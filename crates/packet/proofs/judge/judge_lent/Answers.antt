@@ -62,195 +62,57 @@ unlocked_next-unlocked-requires c = let found = c.area_at-c.result.found in
     (is-write found.which found.place c.in-Write-which.is)
     ).header
 
+-- what the turn leaves, from either branch
+turn : (c : goal.After-struct_known-1)
+    → Checked c.args.lent.now c.args.packet.now c.loop-rest.pointers c.if-for_registers.unlocked c.loop-rest.reply c.loop-rest.rest.now
+    c.if-for_registers.reach
+turn c = elim c.if-for_registers.branch [
+  | then-for_registers w ↦
+      let found = w.register_at-c.result.found in
+      let registers : ForRegisters (fields_at c.loop-rest.rest.now) =
+      rw (← c.word_at-word.ensures) (registers-word _ _ refl (sym c.for_registers.ensures ∙ w.if-for_registers.true)) in
+      rw (w.unlocked-is, w.reach-is)
+      (elim w.match-which.branch [
+        | in-Read v ↦ checking_registers c.loop-rest.invariant c.loop-rest-test.true _ (w.register_at-c.ensures _) 0
+            (is_read found.which found.place v.in-Read.is) registers
+        | in-Write v ↦ checking_registers c.loop-rest.invariant c.loop-rest-test.true _ (w.register_at-c.ensures _) 1
+            (is-write found.which found.place v.in-Write.is) registers
+      ])
+  | else-for_registers w ↦
+      let found = w.area_at-c.result.found in
+      rw (w.unlocked-is, w.reach-is)
+      (elim w.match-which-2.branch [
+        | in-Read-which v ↦ checking_read c.loop-rest.invariant c.loop-rest-test.true _ w.area_at-c.ensures
+            (is_read found.which found.place v.in-Read-which.is) _ v.unlocked-is
+        | in-Write-which v ↦ checking_next c.loop-rest.invariant c.loop-rest-test.true _ w.area_at-c.ensures 1
+            (is-write found.which found.place v.in-Write-which.is) _ (v.unlocked-is ∙ v.unlocked_next-unlocked.ensures)
+      ])
+]
+
 pub overflow_add-reply : goal.overflow_add-reply
-overflow_add-reply c = let at_step : Checked c.args.lent.now c.args.packet.now c.loop-rest.pointers c.if-for_registers.unlocked c.loop-rest.reply
-    c.loop-rest.rest.now c.if-for_registers.reach =
-    elim c.if-for_registers.branch [
-      | then-for_registers w ↦
-          let found = w.register_at-c.result.found in
-          let registers : ForRegisters (fields_at c.loop-rest.rest.now) =
-          rw (← c.word_at-word.ensures) (registers-word _ _ refl (sym c.for_registers.ensures ∙ w.if-for_registers.true)) in
-          rw (w.unlocked-is, w.reach-is)
-          (elim w.match-which.branch [
-            | in-Read v ↦ checking_registers c.loop-rest.invariant c.loop-rest-test.true _ (w.register_at-c.ensures _) 0
-                (is_read found.which found.place v.in-Read.is) registers
-            | in-Write v ↦ checking_registers c.loop-rest.invariant c.loop-rest-test.true _ (w.register_at-c.ensures _) 1
-                (is-write found.which found.place v.in-Write.is) registers
-          ])
-      | else-for_registers w ↦
-          let found = w.area_at-c.result.found in
-          rw (w.unlocked-is, w.reach-is)
-          (elim w.match-which-2.branch [
-            | in-Read-which v ↦ checking_read c.loop-rest.invariant c.loop-rest-test.true _ w.area_at-c.ensures
-                (is_read found.which found.place v.in-Read-which.is) _ v.unlocked-is
-            | in-Write-which v ↦ checking_next c.loop-rest.invariant c.loop-rest-test.true _ w.area_at-c.ensures 1
-                (is-write found.which found.place v.in-Write-which.is) _ (v.unlocked-is ∙ v.unlocked_next-unlocked.ensures)
-          ])
-    ] in
-    let h = at_step.answers in omega arith
+overflow_add-reply c = let h = (turn c).answers in omega arith
 
 pub offset_bounds-pointers-slot : goal.offset_bounds-pointers-slot
-offset_bounds-pointers-slot c =
-    let at_step : Checked c.args.lent.now c.args.packet.now c.loop-rest.pointers c.if-for_registers.unlocked c.loop-rest.reply c.loop-rest.rest.now
-    c.if-for_registers.reach =
-    elim c.if-for_registers.branch [
-      | then-for_registers w ↦
-          let found = w.register_at-c.result.found in
-          let registers : ForRegisters (fields_at c.loop-rest.rest.now) =
-          rw (← c.word_at-word.ensures) (registers-word _ _ refl (sym c.for_registers.ensures ∙ w.if-for_registers.true)) in
-          rw (w.unlocked-is, w.reach-is)
-          (elim w.match-which.branch [
-            | in-Read v ↦ checking_registers c.loop-rest.invariant c.loop-rest-test.true _ (w.register_at-c.ensures _) 0
-                (is_read found.which found.place v.in-Read.is) registers
-            | in-Write v ↦ checking_registers c.loop-rest.invariant c.loop-rest-test.true _ (w.register_at-c.ensures _) 1
-                (is-write found.which found.place v.in-Write.is) registers
-          ])
-      | else-for_registers w ↦
-          let found = w.area_at-c.result.found in
-          rw (w.unlocked-is, w.reach-is)
-          (elim w.match-which-2.branch [
-            | in-Read-which v ↦ checking_read c.loop-rest.invariant c.loop-rest-test.true _ w.area_at-c.ensures
-                (is_read found.which found.place v.in-Read-which.is) _ v.unlocked-is
-            | in-Write-which v ↦ checking_next c.loop-rest.invariant c.loop-rest-test.true _ w.area_at-c.ensures 1
-                (is-write found.which found.place v.in-Write-which.is) _ (v.unlocked-is ∙ v.unlocked_next-unlocked.ensures)
-          ])
-    ] in
-    let h = at_step.slot in omega arith
+offset_bounds-pointers-slot c = let h = (turn c).slot in omega arith
 
 pub bounds-pointers-slot : goal.bounds-pointers-slot
-bounds-pointers-slot c = let at_step : Checked c.args.lent.now c.args.packet.now c.loop-rest.pointers c.if-for_registers.unlocked c.loop-rest.reply
-    c.loop-rest.rest.now c.if-for_registers.reach =
-    elim c.if-for_registers.branch [
-      | then-for_registers w ↦
-          let found = w.register_at-c.result.found in
-          let registers : ForRegisters (fields_at c.loop-rest.rest.now) =
-          rw (← c.word_at-word.ensures) (registers-word _ _ refl (sym c.for_registers.ensures ∙ w.if-for_registers.true)) in
-          rw (w.unlocked-is, w.reach-is)
-          (elim w.match-which.branch [
-            | in-Read v ↦ checking_registers c.loop-rest.invariant c.loop-rest-test.true _ (w.register_at-c.ensures _) 0
-                (is_read found.which found.place v.in-Read.is) registers
-            | in-Write v ↦ checking_registers c.loop-rest.invariant c.loop-rest-test.true _ (w.register_at-c.ensures _) 1
-                (is-write found.which found.place v.in-Write.is) registers
-          ])
-      | else-for_registers w ↦
-          let found = w.area_at-c.result.found in
-          rw (w.unlocked-is, w.reach-is)
-          (elim w.match-which-2.branch [
-            | in-Read-which v ↦ checking_read c.loop-rest.invariant c.loop-rest-test.true _ w.area_at-c.ensures
-                (is_read found.which found.place v.in-Read-which.is) _ v.unlocked-is
-            | in-Write-which v ↦ checking_next c.loop-rest.invariant c.loop-rest-test.true _ w.area_at-c.ensures 1
-                (is-write found.which found.place v.in-Write-which.is) _ (v.unlocked-is ∙ v.unlocked_next-unlocked.ensures)
-          ])
-    ] in
-    at_step.slot
+bounds-pointers-slot c = (turn c).slot
 
 pub slice_bounds-rest-count : goal.slice_bounds-rest-count
-slice_bounds-rest-count c = let at_step : Checked c.args.lent.now c.args.packet.now c.loop-rest.pointers c.if-for_registers.unlocked c.loop-rest.reply
-    c.loop-rest.rest.now c.if-for_registers.reach =
-    elim c.if-for_registers.branch [
-      | then-for_registers w ↦
-          let found = w.register_at-c.result.found in
-          let registers : ForRegisters (fields_at c.loop-rest.rest.now) =
-          rw (← c.word_at-word.ensures) (registers-word _ _ refl (sym c.for_registers.ensures ∙ w.if-for_registers.true)) in
-          rw (w.unlocked-is, w.reach-is)
-          (elim w.match-which.branch [
-            | in-Read v ↦ checking_registers c.loop-rest.invariant c.loop-rest-test.true _ (w.register_at-c.ensures _) 0
-                (is_read found.which found.place v.in-Read.is) registers
-            | in-Write v ↦ checking_registers c.loop-rest.invariant c.loop-rest-test.true _ (w.register_at-c.ensures _) 1
-                (is-write found.which found.place v.in-Write.is) registers
-          ])
-      | else-for_registers w ↦
-          let found = w.area_at-c.result.found in
-          rw (w.unlocked-is, w.reach-is)
-          (elim w.match-which-2.branch [
-            | in-Read-which v ↦ checking_read c.loop-rest.invariant c.loop-rest-test.true _ w.area_at-c.ensures
-                (is_read found.which found.place v.in-Read-which.is) _ v.unlocked-is
-            | in-Write-which v ↦ checking_next c.loop-rest.invariant c.loop-rest-test.true _ w.area_at-c.ensures 1
-                (is-write found.which found.place v.in-Write-which.is) _ (v.unlocked-is ∙ v.unlocked_next-unlocked.ensures)
-          ])
-    ] in
-    at_step.whole
+slice_bounds-rest-count c = (turn c).whole
 
 pub slice_bounds-rest-start : goal.slice_bounds-rest-start
-slice_bounds-rest-start c = let at_step : Checked c.args.lent.now c.args.packet.now c.loop-rest.pointers c.if-for_registers.unlocked c.loop-rest.reply
-    c.loop-rest.rest.now c.if-for_registers.reach =
-    elim c.if-for_registers.branch [
-      | then-for_registers w ↦
-          let found = w.register_at-c.result.found in
-          let registers : ForRegisters (fields_at c.loop-rest.rest.now) =
-          rw (← c.word_at-word.ensures) (registers-word _ _ refl (sym c.for_registers.ensures ∙ w.if-for_registers.true)) in
-          rw (w.unlocked-is, w.reach-is)
-          (elim w.match-which.branch [
-            | in-Read v ↦ checking_registers c.loop-rest.invariant c.loop-rest-test.true _ (w.register_at-c.ensures _) 0
-                (is_read found.which found.place v.in-Read.is) registers
-            | in-Write v ↦ checking_registers c.loop-rest.invariant c.loop-rest-test.true _ (w.register_at-c.ensures _) 1
-                (is-write found.which found.place v.in-Write.is) registers
-          ])
-      | else-for_registers w ↦
-          let found = w.area_at-c.result.found in
-          rw (w.unlocked-is, w.reach-is)
-          (elim w.match-which-2.branch [
-            | in-Read-which v ↦ checking_read c.loop-rest.invariant c.loop-rest-test.true _ w.area_at-c.ensures
-                (is_read found.which found.place v.in-Read-which.is) _ v.unlocked-is
-            | in-Write-which v ↦ checking_next c.loop-rest.invariant c.loop-rest-test.true _ w.area_at-c.ensures 1
-                (is-write found.which found.place v.in-Write-which.is) _ (v.unlocked-is ∙ v.unlocked_next-unlocked.ensures)
-          ])
-    ] in
-    at_step.whole
+slice_bounds-rest-start c = (turn c).whole
+
+-- back to the join, from the loop's end
+abbrev at_join : goal.After-rest-1 → goal.After-struct_known-1
+at_join c = record { before = c.before.before; type_inv = record { lent = c.type_inv.lent; packet = c.type_inv.packet } }
 
 pub loop-rest-smaller : goal.loop-rest-smaller
-loop-rest-smaller c = let at_step : Checked c.args.lent.now c.args.packet.now c.loop-rest.pointers c.if-for_registers.unlocked c.loop-rest.reply
-    c.loop-rest.rest.now c.if-for_registers.reach =
-    elim c.if-for_registers.branch [
-      | then-for_registers w ↦
-          let found = w.register_at-c.result.found in
-          let registers : ForRegisters (fields_at c.loop-rest.rest.now) =
-          rw (← c.word_at-word.ensures) (registers-word _ _ refl (sym c.for_registers.ensures ∙ w.if-for_registers.true)) in
-          rw (w.unlocked-is, w.reach-is)
-          (elim w.match-which.branch [
-            | in-Read v ↦ checking_registers c.loop-rest.invariant c.loop-rest-test.true _ (w.register_at-c.ensures _) 0
-                (is_read found.which found.place v.in-Read.is) registers
-            | in-Write v ↦ checking_registers c.loop-rest.invariant c.loop-rest-test.true _ (w.register_at-c.ensures _) 1
-                (is-write found.which found.place v.in-Write.is) registers
-          ])
-      | else-for_registers w ↦
-          let found = w.area_at-c.result.found in
-          rw (w.unlocked-is, w.reach-is)
-          (elim w.match-which-2.branch [
-            | in-Read-which v ↦ checking_read c.loop-rest.invariant c.loop-rest-test.true _ w.area_at-c.ensures
-                (is_read found.which found.place v.in-Read-which.is) _ v.unlocked-is
-            | in-Write-which v ↦ checking_next c.loop-rest.invariant c.loop-rest-test.true _ w.area_at-c.ensures 1
-                (is-write found.which found.place v.in-Write-which.is) _ (v.unlocked-is ∙ v.unlocked_next-unlocked.ensures)
-          ])
-    ] in
-    let s = at_step in let h = s.some in let w = s.whole in simp (length-take, length-drop) (omega arith)
+loop-rest-smaller c = let t = turn (at_join c) in let h = t.some in let w = t.whole in simp (length-take, length-drop) (omega arith)
 
 pub loop-rest-preserved : goal.loop-rest-preserved
-loop-rest-preserved c = let at_step : Checked c.args.lent.now c.args.packet.now c.loop-rest.pointers c.if-for_registers.unlocked c.loop-rest.reply
-    c.loop-rest.rest.now c.if-for_registers.reach =
-    elim c.if-for_registers.branch [
-      | then-for_registers w ↦
-          let found = w.register_at-c.result.found in
-          let registers : ForRegisters (fields_at c.loop-rest.rest.now) =
-          rw (← c.word_at-word.ensures) (registers-word _ _ refl (sym c.for_registers.ensures ∙ w.if-for_registers.true)) in
-          rw (w.unlocked-is, w.reach-is)
-          (elim w.match-which.branch [
-            | in-Read v ↦ checking_registers c.loop-rest.invariant c.loop-rest-test.true _ (w.register_at-c.ensures _) 0
-                (is_read found.which found.place v.in-Read.is) registers
-            | in-Write v ↦ checking_registers c.loop-rest.invariant c.loop-rest-test.true _ (w.register_at-c.ensures _) 1
-                (is-write found.which found.place v.in-Write.is) registers
-          ])
-      | else-for_registers w ↦
-          let found = w.area_at-c.result.found in
-          rw (w.unlocked-is, w.reach-is)
-          (elim w.match-which-2.branch [
-            | in-Read-which v ↦ checking_read c.loop-rest.invariant c.loop-rest-test.true _ w.area_at-c.ensures
-                (is_read found.which found.place v.in-Read-which.is) _ v.unlocked-is
-            | in-Write-which v ↦ checking_next c.loop-rest.invariant c.loop-rest-test.true _ w.area_at-c.ensures 1
-                (is-write found.which found.place v.in-Write-which.is) _ (v.unlocked-is ∙ v.unlocked_next-unlocked.ensures)
-          ])
-    ] in
-    at_step.again
+loop-rest-preserved c = (turn (at_join c)).again
 
 pub returns : goal.returns
 unfolding verdict_listed
