@@ -10,6 +10,7 @@ pub mod UnlockLaws
 pub mod CommandLaws
 pub mod ProgressLaws
 pub mod ReachLaws
+pub mod TableLaws
 pub mod JudgeLaws
 pub mod LoopLaws
 pub mod RefusalLaws
