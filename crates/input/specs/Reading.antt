@@ -20,6 +20,10 @@ abbrev pub TookSome : Option (List ℕ) → Option (List ℕ) → Taken → List
 TookSome old new (Taken.Bytes n) room = Consumes old new (take n room) × (n ≡ 0 → 0 < length room → IsAtEnd new)
 TookSome old new Taken.Failed room = Keeps old new
 
+-- nothing was read
+abbrev pub TookNone : Option (List ℕ) → Option (List ℕ) → Taken → Type 0
+TookNone old new t = (t ≡ Taken.Bytes 0) × Keeps old new
+
 -- the same behind bytes that were there before
 abbrev pub TookBehind : Option (List ℕ) → Option (List ℕ) → ℕ → Taken → List ℕ → Type 0
 TookBehind old new from t room = TookSome old new t (drop from room)

@@ -1,12 +1,14 @@
 // What programs read and write, over any reader and writer: a read that fails, or that a signal interrupts, is not the end.
 #![tactic(auto)]
 
-ghost use Rattle.std.specs.Prelude.{◌≤◌, ◌≡◌, length, take, OnOk};
+ghost use Rattle.std.specs.Prelude.{◌≤◌, ◌≡◌, ◌≢◌, length, take};
 ghost use Rattle.std.specs.Str.{IsUtf8};
 ghost use Rattle.std.specs.declared.option.Option.TheVariants.{None};
 ghost use Rattle.text.specs.Number.{ascii};
-ghost use Rattle.input.specs.Reading.{Within, Behind, TookSome, TookBehind, TookAll};
-ghost use Rattle.std.specs.Io.KnownBytes.{Appends};
+ghost use Rattle.std.specs.Io.{WritesAtMost};
+ghost use Rattle.std.specs.Io.KnownBytes.{WriteAppends};
+ghost use Rattle.input.specs.Reading.{Within, Behind, TookNone, TookSome, TookBehind, TookAll};
+ghost use Rattle.input.specs.Writing.{WroteAll};
 
 use std::env::{Env, FillError};
 use std::fs::File;
@@ -76,6 +78,7 @@ pub fn all<R: Read>(from: &mut R, room: &mut [u8]) -> Taken
 pub fn asked<R: Read>(words: usize, from: &mut R, room: &mut [u8]) -> Taken
     ensures within { Within result room.new }
     ensures bytes { words ≡ 1 → TookAll (R.remaining from.old) (R.remaining from.new) result room.new }
+    ensures none { words ≢ 1 → TookNone (R.remaining from.old) (R.remaining from.new) result }
 {
     if words != 1 {
         return Taken::Bytes(0);
@@ -93,17 +96,51 @@ pub fn front(bytes: &[u8], n: usize) -> &[u8]
     bytes
 }
 
-pub fn put<W: Write>(to: &mut W, room: &[u8], n: usize) -> io::Result<()>
-    ensures { OnOk result (Appends (W.contents to.old) (W.contents to.new) (take n room.now)) }
+// What one write takes.
+fn written<W: Write>(to: &mut W, bytes: &[u8]) -> io::Result<usize>
+    ensures bound { WritesAtMost result bytes.now }
+    ensures bytes { WriteAppends (W.contents to.old) (W.contents to.new) result bytes.now }
 {
-    to.write_all(front(room, n))
+    for _ in 0..TRIES {
+        match to.write(bytes) {
+            Ok(n) => return Ok(n),
+            Err(e) => {
+                if e.kind() != ErrorKind::Interrupted {
+                    return Err(e);
+                }
+            }
+        }
+    }
+    Err(io::Error::from(ErrorKind::Interrupted))
+}
+
+// Where a write fails, a front of the bytes was written.
+fn write_all<W: Write>(to: &mut W, bytes: &[u8]) -> io::Result<()>
+    ensures { WroteAll (W.contents to.old) (W.contents to.new) result bytes.now }
+{
+    let mut done: usize = 0;
+    while done < bytes.len() {
+        match written(to, &bytes[done..]) {
+            Ok(0) => return Err(io::Error::from(ErrorKind::WriteZero)),
+            Ok(n) => done += n,
+            Err(e) => return Err(e),
+        }
+    }
+    Ok(())
+}
+
+// Writes the first n bytes.
+pub fn put<W: Write>(to: &mut W, room: &[u8], n: usize) -> io::Result<()>
+    ensures { WroteAll (W.contents to.old) (W.contents to.new) result (take n room.now) }
+{
+    write_all(to, front(room, n))
 }
 
 // What is said of a read that failed.
 pub fn cannot_read<W: Write>(to: &mut W) -> io::Result<()>
-    ensures { OnOk result (Appends (W.contents to.old) (W.contents to.new) (ascii "cannot read\n")) }
+    ensures { WroteAll (W.contents to.old) (W.contents to.new) result (ascii "cannot read\n") }
 {
-    to.write_all(b"cannot read\n")
+    write_all(to, b"cannot read\n")
 }
 
 // How many words the program was started with, its name among them, counted up to `most`.

@@ -3,4 +3,4 @@ use Rattle.input.proofs.cannot_read.Goals as goal
 
 pub returns : goal.returns
 unfolding number.ascii
-returns g c = c.write_all.ensures.bytes
+returns g c = c.write_all.ensures
