@@ -12,18 +12,23 @@ struct Turn {
     card: Card,
 }
 
-// All packets of one output and then all of the other.
-fn in_turn<W: Write>(to: &mut W, one: Bytes, other: Bytes) -> io::Result<Turn> {
-    let mut card = wire::fresh();
-    show::play(to, one, &mut card)?;
-    let first = card.read;
-    show::play(to, other, &mut card)?;
-    Ok(Turn { first, card })
+fn fresh() -> Turn {
+    Turn {
+        first: slice::empty(),
+        card: wire::fresh(),
+    }
 }
 
-fn compared<W: Write>(to: &mut W, forth: Turn, back: Turn) -> io::Result<()> {
-    let a = forth.card;
-    let b = back.card;
+// All packets of one output and then all of the other.
+fn in_turn<W: Write>(to: &mut W, one: Bytes, other: Bytes, turn: &mut Turn) -> io::Result<()> {
+    show::play(to, one, &mut turn.card)?;
+    turn.first = turn.card.read;
+    show::play(to, other, &mut turn.card)
+}
+
+fn compared<W: Write>(to: &mut W, forth: &Turn, back: &Turn) -> io::Result<()> {
+    let a = &forth.card;
+    let b = &back.card;
     form::fill(
         to,
         b"all bytes of the stores: [equal|different]; packet count # and #; the first list's values: [equal|different]; the second's: [equal|different]\n",
@@ -43,10 +48,12 @@ fn compared<W: Write>(to: &mut W, forth: Turn, back: Turn) -> io::Result<()> {
 
 fn orders<W: Write>(to: &mut W, one: Bytes, other: Bytes) -> io::Result<()> {
     form::say(to, b"in this order:\n")?;
-    let forth = in_turn(to, one, other)?;
+    let mut forth = fresh();
+    in_turn(to, one, other, &mut forth)?;
     form::say(to, b"in the other:\n")?;
-    let back = in_turn(to, other, one)?;
-    compared(to, forth, back)
+    let mut back = fresh();
+    in_turn(to, other, one, &mut back)?;
+    compared(to, &forth, &back)
 }
 
 // Writes the answer. Whether the lists are independent.

@@ -99,7 +99,7 @@ fn values<W: Write>(to: &mut W, read: Bytes) -> io::Result<()> {
     form::fill_with(to, b"records one by one, values read:&\n", [0; 9], s, s)
 }
 
-fn compared<W: Write>(to: &mut W, packets: Card, records: Card) -> io::Result<()> {
+fn compared<W: Write>(to: &mut W, packets: &Card, records: &Card) -> io::Result<()> {
     let same = slice::same_bytes(packets.read, records.read);
     let stores = wire::same_stores(packets, records, true);
     form::fill(
@@ -123,5 +123,5 @@ pub(crate) fn show<W: Write>(to: &mut W, list: &[u8]) -> io::Result<()> {
     play(to, out, &mut packets)?;
     let records = alone(list);
     values(to, records.read)?;
-    compared(to, packets, records)
+    compared(to, &packets, &records)
 }

@@ -32,11 +32,11 @@ pub(crate) fn fresh() -> Card {
     }
 }
 
-pub(crate) fn count(card: Card) -> u64 {
+pub(crate) fn count(card: &Card) -> u64 {
     bytes::pair_at(&card.store, COUNT) as u64
 }
 
-pub(crate) fn same_stores(a: Card, b: Card, but: bool) -> u64 {
+pub(crate) fn same_stores(a: &Card, b: &Card, but: bool) -> u64 {
     slice::same(&a.store, &b.store, but) as u64
 }
 
