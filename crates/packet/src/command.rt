@@ -9,11 +9,10 @@ ghost use Rattle.packet.specs.Command.{fields_at, kind_of, row_of, header_bytes,
 ghost use Rattle.packet.specs.Reach.{reach_from, reach_at};
 
 use crate::bytes;
-use lbp16::Rule;
 use lbp16::pointer::{Pointer, Pointers};
 use lbp16::space::Row;
 use lbp16::word::Fields;
-use lbp16::{pointer, space, word};
+use lbp16::{Rule, pointer, space, word};
 
 // The most bytes that a packet or its reply may have: 1,500 less 28 of IP and UDP headers.
 pub const LIMIT: usize = 1472;

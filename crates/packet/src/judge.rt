@@ -7,8 +7,8 @@ ghost use Rattle.packet.specs.Verdict.{answer_to, verdict_listed};
 
 use crate::command::Which;
 use crate::{command, refusal};
-use lbp16::{Refusal, Rule};
 use lbp16::pointer::Pointers;
+use lbp16::{Refusal, Rule};
 
 // The reply length, or the refusal.
 pub type Verdict = Result<u64, Refusal>;

@@ -12,10 +12,9 @@ ghost use Rattle.packet.specs.Inside.{ForRegisters, Ruled, JudgedAt};
 
 use crate::command::{Found, LIMIT, Reach, Which};
 use crate::{bytes, command};
-use lbp16::Rule;
 use lbp16::space::Row;
 use lbp16::word::Fields;
-use lbp16::{pointer, space, word};
+use lbp16::{Rule, pointer, space, word};
 
 // What is found at a command, and its reach if it is not refused.
 #[derive(Clone, Copy)]
@@ -171,12 +170,7 @@ const NOWHERE: Reach = Reach {
     next: 0,
 };
 
-fn register_ruling(
-    rest: &[u8],
-    f: Fields,
-    pointers: &[u32],
-    reply: usize,
-) -> Result<Reach, Rule>
+fn register_ruling(rest: &[u8], f: Fields, pointers: &[u32], reply: usize) -> Result<Reach, Rule>
     requires { (reply ≤ limit) × ForRegisters f × (header_bytes f ≤ length rest.now) }
     ensures { (unlocked : Bool) → Ruled (pointers_of pointers.now) unlocked reply f rest.now result }
 {
