@@ -2,8 +2,7 @@ use Prim.Native.Nat.{◌^◌, ◌<◌}
 use mathlib.Core.Path.{refl}
 use borrow.Author.Rules.{rules}
 use lib.ListN.{replicate}
-use native.Mathlib.Omega.{arith}
-use Rattle.text.proofs.DecimalLaws.{counting-first, counting_more, counting-some, counting-all}
+use Rattle.text.proofs.DecimalLaws.{counting-first, counting_more, counting-all}
 use Rattle.text.proofs.number.decimal.Goals as goal
 
 pub loop-left-init : goal.loop-left-init
