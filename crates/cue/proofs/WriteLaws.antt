@@ -1,11 +1,13 @@
 -- Laws of what the second pass writes.
-use Prim.Native.Nat.{ℕ, ◌+◌, ◌-◌, ◌/◌, ◌%◌, ◌≤◌, ◌<◌}
-use mathlib.Core.Path.{◌≡◌, refl, ◌∙◌}
+use Prim.Native.Nat.{ℕ, ◌+◌, ◌-◌, ◌≤◌}
+use mathlib.Core.Path.{◌≡◌, refl, sym, ◌∙◌}
 use mathlib.Core.List.{List, [], ◌∷◌, ◌++◌}
 use mathlib.Core.Bool.{true, false}
 use native.Mathlib.Omega.{arith}
-use lib.ListN.{length, take, drop, set, length-take, length-drop}
-use lib.Seq.{sets}
+use lib.ListN.{length, take, drop, length-take, length-drop}
+use lib.Seq.{sets, sets-eq, take_all}
+use borrow.Rule.Slice.PartMut.{put_mid}
+use Rattle.std.proofs.lemmas.Slice.{put_mid-paste}
 use borrow.Author.Tests.{le-ltb}
 use Rattle.lbp16.specs.Space.{space_of, row}
 use Rattle.lbp16.specs.Answer.{Answer, refusal}
@@ -14,14 +16,15 @@ use Rattle.lbp16.specs.declared.word.Written.{Written}
 use Rattle.lbp16.specs.declared.word.Written.TheVariants.{Word, Refused}
 use Rattle.lbp16.specs.declared.Refusal.{Refusal}
 use Rattle.lbp16.proofs.SpaceLaws.{size_le}
-use Rattle.card.proofs.ElementLaws.{stored_bytes}
 use Rattle.packet.specs.Bytes.{bytes_of}
 use Rattle.lbp16.proofs.ListLaws.{sets_append}
 use Rattle.cue.specs.Summary.{last_fields, framed_at, unlocked_at, headed_at, wrote, bytes_of_unlock}
 use Rattle.cue.specs.declared.packer.Packer.{Packer}
 
-pub put2_is : (l : List ℕ) (at v : ℕ) → v < 65536 → set (set l at (v % 256)) (at + 1) (v / 256) ≡ sets l at (bytes_of 2 v)
-put2_is l at v h = let q : v / 256 % 256 ≡ v / 256 = omega arith in rw q at (stored_bytes 1 l at v)
+-- a part of a room written at once
+pub part_put : (l : List ℕ) (at n : ℕ) {ys vs : List ℕ} → ys ≡ vs → n ≡ length vs → at + n ≤ length l → put_mid at n l ys ≡ sets l at vs
+part_put l at n {ys} {vs} e k h =
+    put_mid-paste at n l ys vs n e refl k ∙ rw (take_all n vs (omega arith), k) (sym (sets-eq vs l at (omega arith)))
 
 pub put4_is : (l : List ℕ) (at a b : ℕ) → sets (sets l at (bytes_of 2 a)) (at + 2) (bytes_of 2 b) ≡ sets l at (bytes_of 2 a ++ bytes_of 2 b)
 unfolding bytes_of
