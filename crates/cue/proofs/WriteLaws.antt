@@ -5,15 +5,15 @@ use mathlib.Core.List.{List, [], ◌∷◌, ◌++◌}
 use mathlib.Core.Bool.{true, false}
 use native.Mathlib.Omega.{arith}
 use lib.ListN.{length, take, drop, length-take, length-drop}
+use Rattle.std.specs.Prelude.{Result, Ok, Err}
+use Rattle.std.specs.Result.{result_unwrap_or}
 use lib.Seq.{sets, sets-eq, take_all}
 use borrow.Rule.Slice.PartMut.{put_mid}
 use Rattle.std.proofs.lemmas.Slice.{put_mid-paste}
 use borrow.Author.Tests.{le-ltb}
 use Rattle.lbp16.specs.Space.{space_of, row}
-use Rattle.lbp16.specs.Answer.{Answer, refusal}
+use Rattle.lbp16.specs.Answer.{Answer}
 use Rattle.lbp16.specs.Word.{word_of, out_of_range, written, listed}
-use Rattle.lbp16.specs.declared.word.Written.{Written}
-use Rattle.lbp16.specs.declared.word.Written.TheVariants.{Word, Refused}
 use Rattle.lbp16.specs.declared.Refusal.{Refusal}
 use Rattle.lbp16.proofs.SpaceLaws.{size_le}
 use Rattle.packet.specs.Bytes.{bytes_of}
@@ -42,8 +42,9 @@ unfolding written out_of_range last_fields
 last_written q h k =
     rw (le-ltb 7 q.space h, le-ltb 3 (row (space_of q.space)).size (size_le _), le-ltb 127 q.count k) refl
 
-module _ (q : Packer) (s : ℕ) (r : Written) (h : q.space ≤ 7) (k : q.count ≤ 127) (a : s ≡ (row (space_of q.space)).size)
-    (e : listed r ≡ written (record {
+-- so what the code gives for it is no 0
+pub word-is : (q : Packer) (s : ℕ) (r : Result ℕ Refusal) → q.space ≤ 7 → q.count ≤ 127 → s ≡ (row (space_of q.space)).size
+    → listed r ≡ written (record {
       write = q.write;
       address = true;
       info = false;
@@ -51,21 +52,14 @@ module _ (q : Packer) (s : ℕ) (r : Written) (h : q.space ≤ 7) (k : q.count �
       size = s;
       increment = true;
       count = q.count;
-    })) where
-  word-answer : listed r ≡ Answer.accepted (word_of (last_fields q) ∷ [])
-  unfolding last_fields
-  word-answer = rw a at e ∙ last_written q h k
-
-  pub word-is : (w : ℕ) → r ≡ Word w → w ≡ word_of (last_fields q)
-  unfolding listed
-  word-is w d = let z : Answer.accepted (w ∷ []) ≡ Answer.accepted (word_of (last_fields q) ∷ []) = rw d at word-answer in cc
-
-  pub word_not : (f : Refusal) → r ≡ Refused f → 0 ≡ word_of (last_fields q)
-  unfolding listed
-  word_not f d =
-      let z : refusal f ≡ Answer.accepted (word_of (last_fields q) ∷ []) = rw d at word-answer in
-      let y : ◌≡◌ {A = ℕ} 0 1 = cc in
-      absurd (omega arith)
+    })
+    → result_unwrap_or r 0 ≡ word_of (last_fields q)
+unfolding listed last_fields
+word-is q s r h k a e = go r (rw a at e ∙ last_written q h k)
+  where
+    go : (r : Result ℕ Refusal) → listed r ≡ Answer.accepted (word_of (last_fields q) ∷ []) → result_unwrap_or r 0 ≡ word_of (last_fields q)
+    go (Ok w) e = cc
+    go (Err f) e = let y : ◌≡◌ {A = ℕ} 0 1 = cc in absurd (omega arith)
 
 -- the parts of a record's writing, one behind the other
 pub wrote-is : (q : Packer) (n : ℕ) (rest room : List ℕ) → 6 + n ≤ length rest

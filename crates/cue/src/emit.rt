@@ -10,7 +10,7 @@ ghost use Rattle.cue.specs.Summary.{Progress, last_fields, framed_at, unlocked_a
 use crate::frame::MARK;
 use crate::packer::Packer;
 use crate::{packer, records};
-use lbp16::word::{Fields, Written};
+use lbp16::word::Fields;
 use lbp16::{space, word};
 
 // Two bytes, low byte first.
@@ -43,10 +43,7 @@ fn word_of(q: Packer) -> u16
         increment: true,
         count: q.count,
     };
-    match word::word_of(fields) {
-        Written::Word(w) => w,
-        Written::Refused(_) => 0,
-    }
+    word::word_of(fields).unwrap_or(0)
 }
 
 fn put_frame(out: &mut [u8], q: Packer)
