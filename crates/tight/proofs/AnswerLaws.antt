@@ -14,7 +14,15 @@ use Rattle.cue.specs.Output.{apart}
 use Rattle.cue.specs.Compile.{output, compile_listed, needed}
 use Rattle.cue.specs.declared.CompileAnswer.{CompileAnswer}
 use Rattle.tight.specs.Tight.{rejected, refused, frames_checked, proposal_checked, checked, check_listed}
-use Rattle.tight.specs.declared.TightAnswer.{TightAnswer}
+use Rattle.std.proofs.Common.{Option, Some, None, ok_or}
+use Rattle.tight.specs.Inside.{count_listed}
+use Rattle.tight.specs.declared.Fault.{Fault}
+
+-- A count that is missing is the fault `Rejected`.
+pub missing-rejected : (t : Option ℕ) → check_listed (ok_or t Fault.Rejected) ≡ count_listed t
+unfolding check_listed count_listed
+missing-rejected None = refl
+missing-rejected (Some n) = refl
 
 -- a refused list
 refused-by : (v : Listed) (n i : ℕ) (proposal : List ℕ) → Answer.refused n i ≡ needed v
@@ -52,9 +60,9 @@ module _ (list proposal : List ℕ) (a : CompileAnswer)
         let c = compiled in
         rw (c.same, lt-ltb (length (output c.xs)) (length proposal) (rw c.size at h)) refl
 
-    pub gone_through : length proposal ≤ bytes → (t : TightAnswer)
-        → ((xs : List Step) → records_of list ≡ records xs → check_listed t ≡ frames_checked (apart proposal) xs)
-        → check_listed t ≡ checked list proposal
+    pub gone_through : length proposal ≤ bytes → (t : Option ℕ)
+        → ((xs : List Step) → records_of list ≡ records xs → count_listed t ≡ frames_checked (apart proposal) xs)
+        → count_listed t ≡ checked list proposal
     unfolding checked proposal_checked
     gone_through h t g =
         let c = compiled in

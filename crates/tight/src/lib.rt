@@ -14,13 +14,15 @@ ghost use Rattle.tight.specs.Demand3.{TightDemand3};
 // Where a pointer stands that its packet has not set: no multiple of any element's size, and above every address.
 pub const UNSET_ADDRESS: u32 = 65537;
 
-// The packet count, or that the proposal is rejected, or why the list was refused.
+// Why a proposal may not stand for the list's output: it is rejected, or the list itself is refused.
 #[derive(Clone, Copy)]
-pub enum TightAnswer {
-    Accepted(u64),
+pub enum Fault {
     Rejected,
-    Refused(Refusal),
+    List(Refusal),
 }
+
+// The packet count.
+pub type TightAnswer = Result<u64, Fault>;
 
 // A bad list gets its own refusal first.
 pub fn check(list: &[u8], proposal: &[u8]) -> TightAnswer
@@ -29,12 +31,12 @@ pub fn check(list: &[u8], proposal: &[u8]) -> TightAnswer
 {
     let answer = plan::plan(list);
     match answer {
-        CompileAnswer::Refused(r) => TightAnswer::Refused(r),
+        CompileAnswer::Refused(r) => Err(Fault::List(r)),
         CompileAnswer::Compiled { bytes, packets: _ } => {
             if bytes < proposal.len() {
-                return TightAnswer::Rejected;
+                return Err(Fault::Rejected);
             }
-            walk::packets_checked(list, proposal)
+            walk::packets_checked(list, proposal).ok_or(Fault::Rejected)
         }
     }
 }
