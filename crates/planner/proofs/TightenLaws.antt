@@ -2,7 +2,6 @@
 use Prim.Native.Nat.{ℕ, ◌≤◌, ◌<◌}
 use mathlib.Core.Path.{◌≡◌, refl, sym, ap, ◌∙◌}
 use mathlib.Core.List.{List, [], ◌∷◌}
-use mathlib.Core.Bool.{Bool, true, false, not}
 use native.Mathlib.Omega.{arith}
 use lib.ListN.{length, take, replicate}
 use Rattle.lbp16.specs.Answer.{Answer}
@@ -13,13 +12,15 @@ use Rattle.cue.specs.declared.CompileAnswer.{CompileAnswer}
 use Rattle.cue.proofs.CompileLaws.{accepted_exactly, output-at_front, room-beyond, room-length, refusal_changes_nothing, whole}
 use Rattle.cue.proofs.AnswerLaws.{turned-away, too_small}
 use Rattle.lbp16.specs.declared.Refusal.{Refusal}
-use Rattle.tight.specs.Tight.{Checked, checked}
+use Rattle.tight.specs.Tight.{Checked, checked, check_listed}
+use Rattle.tight.specs.declared.Fault.{Fault}
+use Rattle.std.proofs.Common.{Result, Ok, Err}
 use Rattle.tight.specs.Tight
 use Rattle.tight.specs.Demand3.{TightDemand3}
 use Rattle.tight.proofs.OwnLaws.{own-accepted}
 use Rattle.tight.proofs.Demand3Laws.{tight_demand3}
 use Rattle.planner.specs.Planner.{Tighter, TightenedBy, Tightened, OneCell, EightBytes}
-use Rattle.planner.specs.Inside.{Proposed, StillPut, Packs, is_accepted, packets_of}
+use Rattle.planner.specs.Inside.{Proposed, StillPut, Packs}
 use Rattle.planner.proofs.PutLaws.{kept-later}
 use Rattle.planner.proofs.EightLaws.{eight-least, still-accepted}
 
@@ -113,21 +114,19 @@ module _ (list room : List ℕ) (most : ℕ) (p : Packs list most) (fits : most 
     unfolding EightBytes
     own-eight s never m x o f = absurd (never 1 (still-front mid n s m x o).1)
 
--- what the checker said, by the two questions that the code asks
-pub taken : (v : Checked) (b : Bool) (n : ℕ) → b ≡ is_accepted v → not b ≡ false → n ≡ packets_of v → v ≡ Tight.accepted n
-unfolding is_accepted packets_of
-taken (Tight.accepted k) b n e h p = ap Tight.accepted (sym p)
-taken Tight.rejected b n e h p = let y : not false ≡ false = rw e at h in let z : ◌≡◌ {A = ℕ} 0 1 = cc in absurd (omega arith)
-taken (Tight.refused k i) b n e h p =
-    let y : not false ≡ false = rw e at h in let z : ◌≡◌ {A = ℕ} 0 1 = cc in absurd (omega arith)
+-- what the checker's answer says
+pub answered-ok : (v : Checked) (t : Result ℕ Fault) → check_listed t ≡ v → (n : ℕ) → t ≡ Ok n → v ≡ Tight.accepted n
+unfolding check_listed
+answered-ok v t e n d = rw d at (sym e)
 
-pub not_taken : (v : Checked) (b : Bool) → b ≡ is_accepted v → not b ≡ true → (count : ℕ) → v ≡ Tight.accepted count → ⊥
-unfolding is_accepted
-not_taken v b e h count f =
-    let t : b ≡ true = e ∙ ap is_accepted f in
-    let y : not true ≡ true = rw t at h in
-    let z : ◌≡◌ {A = ℕ} 0 1 = cc in
-    omega arith
+pub answered-err : (v : Checked) (t : Result ℕ Fault) → check_listed t ≡ v → (f : Fault) → t ≡ Err f → (count : ℕ) → v ≡ Tight.accepted count
+    → ⊥
+unfolding check_listed
+answered-err v t e f d count a = go f (rw d at e ∙ a)
+  where
+    go : (f : Fault) → check_listed (Err f) ≡ Tight.accepted count → ⊥
+    go Fault.Rejected b = let z : ◌≡◌ {A = ℕ} 0 1 = cc in omega arith
+    go (Fault.List r) b = let z : ◌≡◌ {A = ℕ} 0 1 = cc in omega arith
 
 -- what the compiler's first pass says of a good list
 pub packs_of : (list : List ℕ) (a : CompileAnswer) → compile_listed a ≡ needed (records_of list) → (b n : ℕ)

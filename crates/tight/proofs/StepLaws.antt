@@ -22,7 +22,7 @@ use Rattle.cue.specs.declared.records.Record.{Record}
 use Rattle.lbp16.proofs.CaseLaws.{space-cases}
 use Rattle.tight.specs.Tight.{unlocks, same_kind, same_step}
 use Rattle.tight.specs.Inside.{element_step, step_takes}
-use Rattle.std.proofs.Common.{Option, Some, None}
+use Rattle.std.proofs.Common.{Some, None}
 
 pub unlocks-is : (w : Bool) (space address pair : ℕ) (bytes : List ℕ) → pair ≡ number (take 2 (drop 0 bytes))
     → (w && eqb space 6 && eqb address 0x1A && eqb pair 0x5A02) ≡ unlocks (element_step w space address bytes)

@@ -1,7 +1,7 @@
 use mathlib.Core.Path.{◌≡◌, sym, ◌∙◌}
 use mathlib.Core.Bool.{true, false, cond}
 use Rattle.tight.specs.Inside.{element_step, step_takes}
-use Rattle.std.proofs.Common.{Option, Some, None}
+use Rattle.std.proofs.Common.{Some, None}
 use Rattle.tight.proofs.StepLaws.{Compared, element-unlocks, element-short, element-other, element-taken}
 use Rattle.tight.proofs.walk.element_takes.Goals as goal
 
