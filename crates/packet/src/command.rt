@@ -12,16 +12,16 @@ use crate::bytes;
 use lbp16::pointer::{Pointer, Pointers};
 use lbp16::space::Row;
 use lbp16::word::Fields;
-use lbp16::{pointer, space, word};
+use lbp16::{Rule, pointer, space, word};
 
 // The most bytes that a packet or its reply may have: 1,500 less 28 of IP and UDP headers.
 pub const LIMIT: usize = 1472;
 
-#[derive(Clone, Copy)]
+#[derive(Clone, Copy, Debug, PartialEq, Eq)]
 pub enum Which {
     Read,
     Write,
-    Refused(u32),
+    Refused(Rule),
 }
 
 // The fields (all 0 where the word is cut off), the command's offset, and which of read, write or refusal it is.
