@@ -1,9 +1,13 @@
-use mathlib.Core.Path.{sym, ◌∙◌}
+use mathlib.Core.Path.{◌≡◌, sym, ◌∙◌}
+use Rattle.reason.specs.Reason.{explained, reason_listed}
 use Rattle.reason.proofs.ReasonLaws.{explained-bad, explained-fine, front-accepted}
 use Rattle.reason.proofs.explain.Goals as goal
 
 pub returns-then-bad_state : goal.returns-then-bad_state
-returns-then-bad_state c = let e = c.no_command.ensures ∙ explained-bad _ _ _ (sym c.bad_state.ensures ∙ c.if-bad_state.true) in
+unfolding reason_listed
+returns-then-bad_state c =
+    let e : c.no_command.result ≡ explained c.args.packet.now c.args.store.now c.args.p =
+    rw (c.no_command.ensures, c.number.ensures) (explained-bad _ _ _ (sym c.bad_state.ensures ∙ c.if-bad_state.true)) in
     record {
       explained = e;
       front = front-accepted _ _ _ _ e;
