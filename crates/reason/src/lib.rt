@@ -5,15 +5,14 @@ pub mod reader;
 pub mod slice;
 mod walk;
 
-ghost use Rattle.std.specs.Prelude.{take, ◌≡◌};
+ghost use Rattle.std.specs.Prelude.{take, ◌≡◌, ◌≤◌, IfSome};
 ghost use Rattle.card.specs.Run.{checked_packet};
 ghost use Rattle.reason.specs.Reason.{unnamed, reason_of, explained, reason_listed, FrontAccepted};
 
 use card::check;
-use lbp16::Rule;
 use lbp16::pointer::Pointers;
-use lbp16::word;
 use lbp16::word::Fields;
+use lbp16::{Rule, word};
 use packet::{command, judge};
 
 // `address` is the one that the command uses, given or from a pointer; index, fields and address are 0 where no command is at
@@ -42,7 +41,8 @@ pub fn no_command(number: u32) -> Reason
 
 // Of the packet and the pointers alone: refusal 1 is not asked. None of a packet that is accepted.
 pub fn explain_packet(packet: &[u8], p: Pointers) -> Option<Reason>
-    ensures { reason_listed result ≡ reason_of p packet.now (checked_packet p packet.now) }
+    ensures told { reason_listed result ≡ reason_of p packet.now (checked_packet p packet.now) }
+    ensures refused { IfSome result (λ r. 1 ≤ r.number) }
 {
     if command::LIMIT < packet.len() {
         return Some(no_command(Rule::PacketTooLong.number()));
@@ -56,6 +56,7 @@ pub fn explain_packet(packet: &[u8], p: Pointers) -> Option<Reason>
 // The number and the place are those that the check, and a run with 1,472 bytes of reply room, answers.
 pub fn explain(packet: &[u8], store: &[u8], p: Pointers) -> Option<Reason>
     ensures explained { reason_listed result ≡ explained packet.now store.now p }
+    ensures refused { IfSome result (λ r. 1 ≤ r.number) }
     ensures front { FrontAccepted packet.now store.now p (reason_listed result) }
 {
     if check::bad_state(store, p) {
