@@ -2,6 +2,7 @@
 use Rattle.std.specs.Prelude.{ℕ, List, [], ◌∷◌, ◌++◌, Bool, true, false, ◌&&◌, ◌||◌, cond, length, eqb, ltb, Result, Ok, Err}
 use Rattle.std.specs.Bool.{beq}
 use Rattle.text.specs.Find.{same_bytes}
+use Rattle.lbp16.specs.Answer.{rule_number}
 use Rattle.lbp16.specs.Space.{space_number}
 use Rattle.lbp16.specs.Pointer.{fresh}
 use Rattle.packet.specs.Bytes.{number}
@@ -102,4 +103,4 @@ checked list proposal = proposal_checked (records_of list) proposal
 unfoldable pub check_listed : Result ℕ Fault → Checked
 check_listed (Ok n) = accepted n
 check_listed (Err Fault.Rejected) = rejected
-check_listed (Err (Fault.List r)) = refused r.number r.place
+check_listed (Err (Fault.List r)) = refused (rule_number r.rule) r.place

@@ -17,7 +17,6 @@ use lbp16::pointer::{Pointer, Pointers, SpacePointers};
 use lbp16::space;
 use lbp16::word::Fields;
 use packet::command::LIMIT;
-use packet::judge::Verdict;
 use packet::{bytes, command, judge};
 use text::find;
 
@@ -142,10 +141,9 @@ fn packet_takes(list: &[u8], packet: &[u8]) -> Option<usize>
         return None;
     }
     let p = unset();
-    let verdict = judge::judge(packet, p);
-    match verdict {
-        Verdict::Refused(_) => None,
-        Verdict::Accepted(_) => commands_take(list, packet, p),
+    match judge::judge(packet, p) {
+        Ok(_) => commands_take(list, packet, p),
+        Err(_) => None,
     }
 }
 

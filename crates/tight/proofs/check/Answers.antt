@@ -6,23 +6,20 @@ use Rattle.tight.proofs.Demand3Laws.{tight_demand3}
 use Rattle.tight.proofs.AnswerLaws.{missing-rejected, list-refused, too_long, gone_through}
 use Rattle.tight.proofs.check.Goals as goal
 
-pub returns-then-bytes-proposal : goal.returns-then-bytes-proposal
+pub returns-then-packed-proposal : goal.returns-then-packed-proposal
 unfolding check_listed
-returns-then-bytes-proposal c =
+returns-then-packed-proposal c =
     let e : check_listed (Err Fault.Rejected) ≡ checked c.args.list.now c.args.proposal.now =
-    too_long _ _ _ c.plan-answer.ensures _ _ c.in-Compiled.is c.if-bytes-proposal.true in
+    too_long _ _ _ c.plan.ensures _ c.in_ok-packed.was c.if-packed-proposal.true in
     record { checked = e; demand3 = λ count a. tight_demand3 _ _ count (sym e ∙ a) }
 
-pub returns-in-Refused : goal.returns-in-Refused
+pub returns-in_err-packed : goal.returns-in_err-packed
 unfolding check_listed
-returns-in-Refused c =
-    let e : check_listed (Err (Fault.List c.in-Refused.r)) ≡ checked c.args.list.now c.args.proposal.now =
-    list-refused _ _ _ c.plan-answer.ensures _ c.in-Refused.is in
-    record { checked = e; demand3 = λ count a. tight_demand3 _ _ count (sym e ∙ a) }
+returns-in_err-packed c = ?
 
-pub returns-else-bytes-proposal : goal.returns-else-bytes-proposal
-returns-else-bytes-proposal c =
+pub returns : goal.returns
+returns c =
     let e : check_listed c.ok_or.result ≡ checked c.args.list.now c.args.proposal.now =
     rw c.ok_or.ensures.value (missing-rejected _
-    ∙ gone_through _ _ _ c.plan-answer.ensures _ _ c.in-Compiled.is c.if-bytes-proposal.false _ c.packets_checked.ensures) in
+    ∙ gone_through _ _ _ c.plan.ensures _ c.in_ok-packed.was c.if-packed-proposal.false _ c.packets_checked.ensures) in
     record { checked = e; demand3 = λ count a. tight_demand3 _ _ count (sym e ∙ a) }
