@@ -1,5 +1,6 @@
 use mathlib.Core.Path.{◌≡◌, sym, ◌∙◌}
 use Rattle.std.proofs.Common.{Err}
+use Rattle.std.proofs.lemmas.Result.{err_from_is_err_and}
 use Rattle.tight.specs.Tight.{checked, check_listed}
 use Rattle.tight.specs.declared.Fault.{Fault}
 use Rattle.tight.proofs.Demand3Laws.{tight_demand3}
@@ -15,7 +16,11 @@ returns-then-packed-proposal c =
 
 pub returns-in_err-packed : goal.returns-in_err-packed
 unfolding check_listed
-returns-in_err-packed c = ?
+returns-in_err-packed c =
+    let p = err_from_is_err_and c.from_residual.result c.from_residual.ensures.1 in
+    let e : check_listed (Err (Fault.List c.in_err-packed.field-0.0)) ≡ checked c.args.list.now c.args.proposal.now =
+    list-refused _ _ _ c.plan.ensures _ c.in_err-packed.was in
+    rw (p.1, p.2) (record { checked = e; demand3 = λ count a. tight_demand3 _ _ count (sym e ∙ a) })
 
 pub returns : goal.returns
 returns c =
