@@ -8,7 +8,8 @@ use Rattle.lbp16.specs.Answer.{Answer}
 use Rattle.packet.specs.Step.{Step}
 use Rattle.cue.specs.Records.{Listed, refused, records, records_of}
 use Rattle.cue.specs.Compile.{Compiled, compiled, compile_listed, left, packed, needed}
-use Rattle.cue.specs.declared.CompileAnswer.{CompileAnswer}
+use Rattle.cue.specs.declared.Packed.{Packed}
+use Rattle.lbp16.specs.declared.Rule.{Rule}
 use Rattle.cue.proofs.CompileLaws.{accepted_exactly, output-at_front, room-beyond, room-length, refusal_changes_nothing, whole}
 use Rattle.cue.proofs.AnswerLaws.{turned-away, too_small}
 use Rattle.lbp16.specs.declared.Refusal.{Refusal}
@@ -69,7 +70,7 @@ module _ (list room : List ℕ) (most : ℕ) (p : Packs list most) (fits : most 
   -- a proposal that is accepted
   module _ (after : List ℕ) (n count : ℕ) (a : checked list (take n after) ≡ Tight.accepted count) where
     pub taken_tightened : Proposed n most room after → length after ≡ length room
-        → Tightened list room (left (CompileAnswer.Compiled n count) after)
+        → Tightened list room (left (Ok (record { bytes = n; packets = count })) after)
     unfolding left compile_listed
     taken_tightened q size =
         tightened_by _
@@ -83,7 +84,7 @@ module _ (list room : List ℕ) (most : ℕ) (p : Packs list most) (fits : most 
           size = size;
         })
 
-    pub taken-eight : StillPut list n most after → EightBytes list room (compile_listed (CompileAnswer.Compiled n count))
+    pub taken-eight : StillPut list n most after → EightBytes list room (compile_listed (Ok (record { bytes = n; packets = count })))
     unfolding EightBytes compile_listed
     taken-eight s m x o f =
         let (e, g) = still-front after n s m x o in
@@ -129,12 +130,11 @@ answered-err v t e f d count a = go f (rw d at e ∙ a)
     go (Fault.List r) b = let z : ◌≡◌ {A = ℕ} 0 1 = cc in omega arith
 
 -- what the compiler's first pass says of a good list
-pub packs_of : (list : List ℕ) (a : CompileAnswer) → compile_listed a ≡ needed (records_of list) → (b n : ℕ)
-    → a ≡ CompileAnswer.Compiled b n → Packs list b
+pub packs_of : (list : List ℕ) (p : Packed) → compile_listed (Ok p) ≡ needed (records_of list) → Packs list p.bytes
 unfolding compile_listed needed
-packs_of list a e b n d = go (records_of list) refl (rw d at e)
+packs_of list p e = go (records_of list) refl e
   where
-    go : (v : Listed) → records_of list ≡ v → Answer.accepted (b ∷ n ∷ []) ≡ needed v → Packs list b
+    go : (v : Listed) → records_of list ≡ v → Answer.accepted (p.bytes ∷ p.packets ∷ []) ≡ needed v → Packs list p.bytes
     go (refused m i) r f = let z : ◌≡◌ {A = ℕ} 0 1 = cc in absurd (omega arith)
     go (records xs) r f = record { xs = xs; list-records = r; size = cc }
 
@@ -156,32 +156,32 @@ tightened_demand3 list room l t bytes count e = go (compiled list room).answer t
         rw (← b, ← c) (tight_demand3 list _ _ s.accepted)
 
 -- all three promises, of an answer and the room that it leaves
-abbrev pub Promised : List ℕ → List ℕ → CompileAnswer → List ℕ → Type 0
+abbrev pub Promised : List ℕ → List ℕ → Result Packed Refusal → List ℕ → Type 0
 Promised list room a after =
     Tightened list room (left a after)
     × (EightBytes list room (compile_listed a)
     × ((bytes count : ℕ) → compile_listed a ≡ Answer.accepted (bytes ∷ count ∷ []) → TightDemand3 list (take bytes after) count))
 
-pub promised : (list room : List ℕ) (a : CompileAnswer) (after : List ℕ) → Tightened list room (left a after)
+pub promised : (list room : List ℕ) (a : Result Packed Refusal) (after : List ℕ) → Tightened list room (left a after)
     → EightBytes list room (compile_listed a) → Promised list room a after
 unfolding left
 promised list room a after t e = (t, (e, tightened_demand3 list room (left a after) t))
 
--- as the code comes to it: `a` is the first pass's answer
-module _ (list room : List ℕ) (a : CompileAnswer) (e : compile_listed a ≡ needed (records_of list)) where
-  pub turned-away_all : (r : Refusal) → a ≡ CompileAnswer.Refused r → Promised list room a room
+-- as the code comes to it from the first pass's answer
+module _ (list room : List ℕ) where
+  pub turned-away_all : (r : Refusal) → compile_listed (Err r) ≡ needed (records_of list) → Promised list room (Err r) room
   unfolding left compile_listed
-  turned-away_all r d =
-      let same : left a room ≡ compiled list room = turned-away list room a e r d in
-      let f : compile_listed a ≡ Answer.refused r.number r.place = ap compile_listed d in
-      promised list room a room (refused_tightened list room (left a room) same _ _ f)
-      (refused-eight list room (left a room) same _ _ f)
+  turned-away_all r e =
+      let answer : Result Packed Refusal = Err r in
+      let same : left answer room ≡ compiled list room = turned-away list room r e in
+      promised list room answer room (refused_tightened list room (left answer room) same _ _ refl)
+      (refused-eight list room (left answer room) same _ _ refl)
 
-  pub too_small-all : (b n : ℕ) → a ≡ CompileAnswer.Compiled b n → length room < b
-      → Promised list room (CompileAnswer.Refused (record { number = 26; place = b })) room
+  pub too_small-all : (p : Packed) → compile_listed (Ok p) ≡ needed (records_of list) → length room < p.bytes
+      → Promised list room (Err (record { rule = Rule.OutputRoom; place = p.bytes })) room
   unfolding left compile_listed
-  too_small-all b n d h =
-      let answer = CompileAnswer.Refused (record { number = 26; place = b }) in
-      let same = too_small list room a e b n d h in
-      promised list room answer room (refused_tightened list room (left answer room) same 26 b refl)
-      (refused-eight list room (left answer room) same 26 b refl)
+  too_small-all p e h =
+      let answer : Result Packed Refusal = Err (record { rule = Rule.OutputRoom; place = p.bytes }) in
+      let same : left answer room ≡ compiled list room = too_small list room p e h in
+      promised list room answer room (refused_tightened list room (left answer room) same 26 p.bytes refl)
+      (refused-eight list room (left answer room) same 26 p.bytes refl)

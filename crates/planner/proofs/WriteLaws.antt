@@ -4,18 +4,17 @@ use mathlib.Core.Path.{◌≡◌, refl, sym, ap, ◌∙◌}
 use mathlib.Core.List.{List, [], ◌∷◌, ◌++◌}
 use mathlib.Core.Bool.{true, false, not, ◌&&◌}
 use native.Mathlib.Omega.{arith}
-use Rattle.std.proofs.Common.{Option, Some}
+use Rattle.std.proofs.Common.{Option, Some, Result, Ok, Err}
 use Rattle.std.specs.Prelude.{IfSome}
+use Rattle.std.specs.Result.{result_unwrap_or}
 use lib.ListN.{length, take, drop, take-append-drop}
 use lib.Seq.{length-take-le, take-append-le, drop-append-le}
 use lib.Dec.{eqb}
 use borrow.Author.Tests.{eq-eqb, le-ltb}
-use Rattle.lbp16.specs.Answer.{Answer, refusal}
+use Rattle.lbp16.specs.Answer.{Answer}
 use Rattle.lbp16.specs.Space.{space_of, row}
 use Rattle.lbp16.specs.declared.space.Row.{Row}
 use Rattle.lbp16.specs.Word.{word_of, out_of_range, written, listed}
-use Rattle.lbp16.specs.declared.word.Written.{Written}
-use Rattle.lbp16.specs.declared.word.Written.TheVariants.{Word, Refused}
 use Rattle.lbp16.specs.declared.Refusal.{Refusal}
 use Rattle.lbp16.proofs.SpaceLaws.{size_le, number_le}
 use Rattle.packet.specs.Bytes.{bytes_of}
@@ -28,7 +27,7 @@ use Rattle.planner.proofs.PutLaws.{kept-none}
 use Rattle.planner.proofs.OneCellLaws.{cell-is}
 
 -- the word of the command that reads the cell `count` times: no field is out of range
-module _ (cell : Record) (count : ℕ) (line : Row) (r : Written) (l : line ≡ row (space_of cell.space))
+module _ (cell : Record) (count : ℕ) (line : Row) (r : Result ℕ Refusal) (l : line ≡ row (space_of cell.space))
     (e : listed r ≡ written (record {
       write = false;
       address = true;
@@ -44,17 +43,14 @@ module _ (cell : Record) (count : ℕ) (line : Row) (r : Written) (l : line ≡ 
       rw l at e
       ∙ rw (le-ltb 7 cell.space h, le-ltb 3 (row (space_of cell.space)).size (size_le _), le-ltb 127 count k) refl
 
-  pub still-word : (w : ℕ) → r ≡ Word w → w ≡ word_of (still_fields count cell)
+  pub still-word : result_unwrap_or r 0 ≡ word_of (still_fields count cell)
   unfolding listed
-  still-word w d =
-      let z : Answer.accepted (w ∷ []) ≡ Answer.accepted (word_of (still_fields count cell) ∷ []) = rw d at answered in cc
-
-  pub still-no_word : (f : Refusal) → r ≡ Refused f → 0 ≡ word_of (still_fields count cell)
-  unfolding listed
-  still-no_word f d =
-      let z : refusal f ≡ Answer.accepted (word_of (still_fields count cell) ∷ []) = rw d at answered in
-      let y : ◌≡◌ {A = ℕ} 0 1 = cc in
-      absurd (omega arith)
+  still-word = go r answered
+    where
+      go : (r : Result ℕ Refusal) → listed r ≡ Answer.accepted (word_of (still_fields count cell) ∷ [])
+          → result_unwrap_or r 0 ≡ word_of (still_fields count cell)
+      go (Ok w) d = cc
+      go (Err f) d = let y : ◌≡◌ {A = ℕ} 0 1 = cc in absurd (omega arith)
 
 -- a record that is equal to the cell's and reads passes all three tests
 pub reads_true : (r cell : Record) → r ≡ cell → r.write ≡ false

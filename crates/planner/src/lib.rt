@@ -1,8 +1,8 @@
 // Packets that are tighter than the packing rule's, for the same cue list.
 #![tactic(auto)]
 
-use cue::{CompileAnswer, plan};
-use lbp16::Refusal;
+use cue::{CompileAnswer, Packed, plan};
+use lbp16::Rule;
 
 mod draft;
 mod one_cell;
@@ -25,10 +25,10 @@ fn improved(list: &[u8], out: &mut [u8], most: usize) -> CompileAnswer
 {
     let n = propose::propose_within(list, out, most);
     match tight::check(list, &out[..n]) {
-        Ok(packets) => CompileAnswer::Compiled {
+        Ok(packets) => Ok(Packed {
             bytes: n,
             packets: packets as usize,
-        },
+        }),
         Err(_) => cue::compile(list, out),
     }
 }
@@ -40,15 +40,9 @@ pub fn tighten(list: &[u8], out: &mut [u8]) -> CompileAnswer
     ensures demand3 { (bytes count : ℕ) → compile_listed result ≡ Answer.accepted (bytes ∷ count ∷ [])
         → TightDemand3 list.now (take bytes out.new) count }
 {
-    let answer = plan::plan(list);
-    let CompileAnswer::Compiled { bytes, packets: _ } = answer else {
-        return answer;
-    };
-    if out.len() < bytes {
-        return CompileAnswer::Refused(Refusal {
-            number: 26,
-            place: bytes as u64,
-        });
+    let packed = plan::plan(list)?;
+    if out.len() < packed.bytes {
+        return Err(Rule::OutputRoom.at(packed.bytes as u64));
     }
-    improved(list, out, bytes)
+    improved(list, out, packed.bytes)
 }

@@ -7,7 +7,7 @@ ghost use Rattle.planner.specs.Inside.{Proposed, StillPut, still_fields, framed_
 
 use cue::records;
 use cue::records::Record;
-use lbp16::word::{Fields, Written};
+use lbp16::word::Fields;
 use lbp16::{space, word};
 
 // Whether a record is a read of the cell.
@@ -57,10 +57,7 @@ fn word_of(cell: Record, count: u8) -> u16
         increment: false,
         count,
     };
-    match word::word_of(fields) {
-        Written::Word(w) => w,
-        Written::Refused(_) => 0,
-    }
+    word::word_of(fields).unwrap_or(0)
 }
 
 // A packet of one command without data.
