@@ -5,22 +5,15 @@ ghost use Rattle.sserial.specs.Table.{checked_at};
 ghost use Rattle.sserial.specs.Calls.{no_channel, packed_by, packed_to, unpacked_by, unpacked_to, call_listed, called};
 ghost use Rattle.sserial.specs.Inside.{Packable, fields_left, chosen};
 
-use crate::count::TableAnswer;
+use crate::count::FieldCounts;
 use crate::table::Direction;
 use crate::{channels, count, pack};
 use lbp16::Refusal;
 
-// The answer of packing and of unpacking.
-#[derive(Clone, Copy)]
-pub enum CallAnswer {
-    Done,
-    Refused(Refusal),
-}
-
-fn bad_call() -> CallAnswer
+fn bad_call() -> Result<(), Refusal>
     ensures { call_listed result ≡ refused 40 0 }
 {
-    CallAnswer::Refused(Refusal {
+    Err(Refusal {
         number: 40,
         place: 0,
     })
@@ -32,12 +25,12 @@ fn no_channel(channel: u32, registers: &[u32]) -> bool
     (7 < channel) | (registers.len() != 24)
 }
 
-fn fields_of(d: Direction, inputs: usize, outputs: usize) -> usize
-    ensures { result ≡ chosen d inputs outputs }
+fn fields_of(d: Direction, counts: FieldCounts) -> usize
+    ensures { result ≡ chosen d counts.inputs counts.outputs }
 {
     match d {
-        Direction::Inputs => inputs,
-        Direction::Outputs => outputs,
+        Direction::Inputs => counts.inputs,
+        Direction::Outputs => counts.outputs,
     }
 }
 
@@ -49,7 +42,7 @@ fn pack_fields(
     channel: u32,
     values: &[u64],
     registers: &mut [u32],
-) -> CallAnswer
+) -> Result<(), Refusal>
     requires { Packable d memory.now table 0 n }
     ensures { called result registers.new
         ≡ packed_by (fields_left d memory.now table) channel values.now registers.old }
@@ -68,7 +61,7 @@ fn pack_fields(
     let all = channels::channels_of(registers);
     let next = channels::with_channel(all, channel as usize, words);
     channels::put_channels(next, registers);
-    CallAnswer::Done
+    Ok(())
 }
 
 fn unpack_fields(
@@ -79,7 +72,7 @@ fn unpack_fields(
     channel: u32,
     registers: &[u32],
     values: &mut [u64],
-) -> CallAnswer
+) -> Result<(), Refusal>
     requires { Packable d memory.now table 0 n }
     ensures { called result values.new
         ≡ unpacked_by (fields_left d memory.now table) channel registers.now values.old }
@@ -94,7 +87,7 @@ fn unpack_fields(
     let k = channel as usize;
     let words = all[k];
     pack::read(memory, table, d, words, values);
-    CallAnswer::Done
+    Ok(())
 }
 
 // Packs one value for each field of the direction into the channel's registers; the other channels stay.
@@ -105,15 +98,15 @@ pub fn pack(
     channel: u32,
     values: &[u64],
     registers: &mut [u32],
-) -> CallAnswer
+) -> Result<(), Refusal>
     ensures { called result registers.new
         ≡ packed_to (checked_at memory.now table) d channel values.now registers.old }
 {
     let answer = count::count_fields(memory, table);
     match answer {
-        TableAnswer::Refused(r) => CallAnswer::Refused(r),
-        TableAnswer::Fields { inputs, outputs } => {
-            let n = fields_of(d, inputs, outputs);
+        Err(r) => Err(r),
+        Ok(counts) => {
+            let n = fields_of(d, counts);
             pack_fields(memory, table, d, n, channel, values, registers)
         }
     }
@@ -127,15 +120,15 @@ pub fn unpack(
     channel: u32,
     registers: &[u32],
     values: &mut [u64],
-) -> CallAnswer
+) -> Result<(), Refusal>
     ensures { called result values.new
         ≡ unpacked_to (checked_at memory.now table) d channel registers.now values.old }
 {
     let answer = count::count_fields(memory, table);
     match answer {
-        TableAnswer::Refused(r) => CallAnswer::Refused(r),
-        TableAnswer::Fields { inputs, outputs } => {
-            let n = fields_of(d, inputs, outputs);
+        Err(r) => Err(r),
+        Ok(counts) => {
+            let n = fields_of(d, counts);
             unpack_fields(memory, table, d, n, channel, registers, values)
         }
     }

@@ -23,11 +23,11 @@ pub struct Sums {
     pub over: bool,
 }
 
-// How many fields each way, or why the table was refused.
-#[derive(Clone, Copy)]
-pub enum TableAnswer {
-    Fields { inputs: usize, outputs: usize },
-    Refused(Refusal),
+// How many fields a table has each way.
+#[derive(Clone, Copy, Debug, PartialEq, Eq)]
+pub struct FieldCounts {
+    pub inputs: usize,
+    pub outputs: usize,
 }
 
 fn sum_with(s: Sum, f: Field, d: Direction) -> Sum
@@ -69,23 +69,23 @@ fn sums_with(s: Sums, f: Field) -> Sums
     }
 }
 
-fn answered(s: Sums) -> TableAnswer
+fn answered(s: Sums) -> Result<FieldCounts, Refusal>
     ensures { table_listed result ≡ sums_answer s }
 {
     if s.over {
-        return TableAnswer::Refused(Refusal {
+        return Err(Refusal {
             number: 42,
             place: 0,
         });
     }
-    TableAnswer::Fields {
+    Ok(FieldCounts {
         inputs: s.inputs.fields,
         outputs: s.outputs.fields,
-    }
+    })
 }
 
 // How many fields the table at this address has each way. 41 holds anywhere in the table before 42 does.
-pub fn count_fields(memory: &[u8], table: u16) -> TableAnswer
+pub fn count_fields(memory: &[u8], table: u16) -> Result<FieldCounts, Refusal>
     ensures { table_listed result ≡ counted (checked_at memory.now table) }
 {
     let mut at = table as usize;
@@ -99,7 +99,7 @@ pub fn count_fields(memory: &[u8], table: u16) -> TableAnswer
         match entry {
             Entry::End => return answered(s),
             Entry::Unreadable => {
-                return TableAnswer::Refused(Refusal {
+                return Err(Refusal {
                     number: 41,
                     place: 0,
                 });

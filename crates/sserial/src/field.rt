@@ -5,16 +5,9 @@ ghost use Rattle.sserial.specs.Table.{checked_at, table_at};
 ghost use Rattle.sserial.specs.Calls.{indexed, front, field_listed};
 ghost use Rattle.sserial.specs.Inside.{Readable, fields_in, fields_left};
 
-use crate::count::TableAnswer;
 use crate::table::{Direction, Entry, Field};
 use crate::{count, table};
 use lbp16::Refusal;
-
-#[derive(Clone, Copy)]
-pub enum FieldAnswer {
-    Field(Field),
-    Refused(Refusal),
-}
 
 // A field, and the place of the entry after its own.
 #[derive(Clone, Copy)]
@@ -23,16 +16,16 @@ pub(crate) struct Next {
     pub at: usize,
 }
 
-fn past_last() -> FieldAnswer
+fn past_last() -> Result<Field, Refusal>
     ensures { field_listed result ≡ refused 40 0 }
 {
-    FieldAnswer::Refused(Refusal {
+    Err(Refusal {
         number: 40,
         place: 0,
     })
 }
 
-fn find(memory: &[u8], table: u16, index: u64) -> FieldAnswer
+fn find(memory: &[u8], table: u16, index: u64) -> Result<Field, Refusal>
     requires { Readable (table_at memory.now table) }
     ensures { field_listed result ≡ front (drop index (fields_in (table_at memory.now table))) }
 {
@@ -46,7 +39,7 @@ fn find(memory: &[u8], table: u16, index: u64) -> FieldAnswer
             Entry::Mode => {}
             Entry::Field(f) => {
                 if left == 0 {
-                    return FieldAnswer::Field(f);
+                    return Ok(f);
                 }
                 left -= 1;
             }
@@ -56,16 +49,13 @@ fn find(memory: &[u8], table: u16, index: u64) -> FieldAnswer
 }
 
 // The index-th field of the table at this address, modes not counted. 40 for an index past the last.
-pub fn field(memory: &[u8], table: u16, index: u64) -> FieldAnswer
+pub fn field(memory: &[u8], table: u16, index: u64) -> Result<Field, Refusal>
     ensures { field_listed result ≡ indexed (checked_at memory.now table) index }
 {
     let answer = count::count_fields(memory, table);
     match answer {
-        TableAnswer::Refused(r) => FieldAnswer::Refused(r),
-        TableAnswer::Fields {
-            inputs: _,
-            outputs: _,
-        } => find(memory, table, index),
+        Err(r) => Err(r),
+        Ok(_) => find(memory, table, index),
     }
 }
 

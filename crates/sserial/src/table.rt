@@ -5,7 +5,7 @@ ghost use Rattle.sserial.specs.Inside.{field_record, mode_record, entry_at};
 
 // A field as its descriptor has it. `kind` is the data type, `minimum` and `maximum` are the bits that stand there, `unit` and
 // `name` the places of the two strings.
-#[derive(Clone, Copy)]
+#[derive(Clone, Copy, Debug, PartialEq, Eq)]
 pub struct Field {
     pub width: u8,
     pub kind: u8,
@@ -17,7 +17,7 @@ pub struct Field {
 }
 
 // What stands at a table's entry.
-#[derive(Clone, Copy)]
+#[derive(Clone, Copy, Debug, PartialEq, Eq)]
 pub enum Entry {
     End,
     Unreadable,
@@ -26,7 +26,7 @@ pub enum Entry {
 }
 
 // Read from the card, or written to it. A field of both directions stands in both.
-#[derive(Clone, Copy)]
+#[derive(Clone, Copy, Debug, PartialEq, Eq)]
 pub enum Direction {
     Inputs,
     Outputs,

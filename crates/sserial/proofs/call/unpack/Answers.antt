@@ -8,16 +8,16 @@ use Rattle.sserial.proofs.call.unpack.Goals as goal
 pub unpack_fields-requires : goal.unpack_fields-requires
 unfolding table_listed checked_at
 unpack_fields-requires c = packable _ _ _ _ _ _
-    (accepted-checked _ _ _ (rw c.in-Fields.is at c.count_fields-answer.ensures))
+    (accepted-checked _ _ _ (rw c.in-Ok.is at c.count_fields-answer.ensures))
     c.fields_of-n.ensures
 
-pub returns-in-Refused : goal.returns-in-Refused
+pub returns-in-Err : goal.returns-in-Err
 unfolding table_listed call_listed unpacked_to
-returns-in-Refused c = sym (called-refused _ _ _ _ _ _ _ (rw c.in-Refused.is at c.count_fields-answer.ensures))
+returns-in-Err c = sym (called-refused _ _ _ _ _ _ _ (rw c.in-Err.is at c.count_fields-answer.ensures))
 
-pub returns-in-Fields : goal.returns-in-Fields
+pub returns-in-Ok : goal.returns-in-Ok
 unfolding table_listed checked_at unpacked_to
-returns-in-Fields c = rw
+returns-in-Ok c = rw
     (called-laid _ _ _ _ _
-    (accepted-checked _ _ _ (rw c.in-Fields.is at c.count_fields-answer.ensures)).laid)
+    (accepted-checked _ _ _ (rw c.in-Ok.is at c.count_fields-answer.ensures)).laid)
     c.unpack_fields.ensures

@@ -7,14 +7,14 @@ use Rattle.sserial.proofs.field.field.Goals as goal
 
 pub find-requires : goal.find-requires
 unfolding table_listed checked_at
-find-requires c = (field_found _ _ 0 (accepted-checked _ _ _ (rw c.in-Fields.is at c.count_fields-answer.ensures)).laid).0
+find-requires c = (field_found _ _ 0 (accepted-checked _ _ _ (rw c.in-Ok.is at c.count_fields-answer.ensures)).laid).0
 
-pub returns-in-Refused : goal.returns-in-Refused
+pub returns-in-Err : goal.returns-in-Err
 unfolding table_listed field_listed
-returns-in-Refused c = field-refused _ _ _ _ _ (rw c.in-Refused.is at c.count_fields-answer.ensures)
+returns-in-Err c = field-refused _ _ _ _ _ (rw c.in-Err.is at c.count_fields-answer.ensures)
 
-pub returns-in-Fields : goal.returns-in-Fields
+pub returns-in-Ok : goal.returns-in-Ok
 unfolding table_listed checked_at
-returns-in-Fields c = c.find.ensures
+returns-in-Ok c = c.find.ensures
     ∙ (field_found _ _ _
-    (accepted-checked _ _ _ (rw c.in-Fields.is at c.count_fields-answer.ensures)).laid).1
+    (accepted-checked _ _ _ (rw c.in-Ok.is at c.count_fields-answer.ensures)).laid).1
