@@ -4,9 +4,7 @@ use mathlib.Core.Path.{◌≡◌, refl, sym, ap, ◌∙◌}
 use mathlib.Core.Bool.{Bool, true, false, ◌&&◌, cond}
 use mathlib.Core.List.{List}
 use native.Mathlib.Omega.{arith}
-use native.Mathlib.Numerals.{add-one}
 use lib.ListN.{length, get_or, drop, length-drop}
-use lib.Seq.{drop-cons}
 use lib.Dec.{eqb, ltb}
 use Rattle.std.specs.Prelude.{position, Option, Some, None}
 use Rattle.std.proofs.lemmas.Option.{cond_some, none-some}

@@ -3,9 +3,10 @@ ghost use Rattle.std.specs.Prelude.{◌≡◌};
 ghost use Rattle.lbp16.specs.Answer.{refused};
 ghost use Rattle.sserial.specs.Table.{checked_at};
 ghost use Rattle.sserial.specs.Calls.{no_channel, packed_by, packed_to, unpacked_by, unpacked_to, call_listed, called};
-ghost use Rattle.sserial.specs.Inside.{Packable, fields_left, chosen};
+ghost use Rattle.sserial.specs.Inside.{Packable, directed_ahead, chosen};
 
 use crate::count::FieldCounts;
+use crate::field::Directed;
 use crate::table::Direction;
 use crate::{channels, count, pack};
 use lbp16::Refusal;
@@ -25,7 +26,7 @@ fn no_channel(channel: u32, registers: &[u32]) -> bool
     (7 < channel) | (registers.len() != 24)
 }
 
-fn fields_of(d: Direction, counts: FieldCounts) -> usize
+fn counted_in(d: Direction, counts: FieldCounts) -> usize
     ensures { result ≡ chosen d counts.inputs counts.outputs }
 {
     match d {
@@ -35,29 +36,22 @@ fn fields_of(d: Direction, counts: FieldCounts) -> usize
 }
 
 fn pack_fields(
-    memory: &[u8],
-    table: u16,
-    d: Direction,
+    fields: Directed,
     n: usize,
     channel: u32,
     values: &[u64],
     registers: &mut [u32],
 ) -> Result<(), Refusal>
-    requires { Packable d memory.now table 0 n }
+    requires { Packable (directed_ahead fields) n }
     ensures { called result registers.new
-        ≡ packed_by (fields_left d memory.now table) channel values.now registers.old }
+        ≡ packed_by (directed_ahead fields.entry) channel values.now registers.old }
 {
-    if no_channel(channel, registers) {
+    if no_channel(channel, registers) || values.len() != n {
         return bad_call();
     }
-    if values.len() != n {
+    let Some(words) = pack::pack_values(fields, values) else {
         return bad_call();
-    }
-    let packed = pack::pack_values(memory, table, d, values);
-    if !packed.good {
-        return bad_call();
-    }
-    let words = packed.words;
+    };
     let all = channels::channels_of(registers);
     let next = channels::with_channel(all, channel as usize, words);
     channels::put_channels(next, registers);
@@ -65,28 +59,21 @@ fn pack_fields(
 }
 
 fn unpack_fields(
-    memory: &[u8],
-    table: u16,
-    d: Direction,
+    fields: Directed,
     n: usize,
     channel: u32,
     registers: &[u32],
     values: &mut [u64],
 ) -> Result<(), Refusal>
-    requires { Packable d memory.now table 0 n }
+    requires { Packable (directed_ahead fields) n }
     ensures { called result values.new
-        ≡ unpacked_by (fields_left d memory.now table) channel registers.now values.old }
+        ≡ unpacked_by (directed_ahead fields.entry) channel registers.now values.old }
 {
-    if no_channel(channel, registers) {
-        return bad_call();
-    }
-    if values.len() != n {
+    if no_channel(channel, registers) || values.len() != n {
         return bad_call();
     }
     let all = channels::channels_of(registers);
-    let k = channel as usize;
-    let words = all[k];
-    pack::read(memory, table, d, words, values);
+    pack::read(fields, all[channel as usize], values);
     Ok(())
 }
 
@@ -102,14 +89,9 @@ pub fn pack(
     ensures { called result registers.new
         ≡ packed_to (checked_at memory.now table) d channel values.now registers.old }
 {
-    let answer = count::count_fields(memory, table);
-    match answer {
-        Err(r) => Err(r),
-        Ok(counts) => {
-            let n = fields_of(d, counts);
-            pack_fields(memory, table, d, n, channel, values, registers)
-        }
-    }
+    let counts = count::count_fields(memory, table)?;
+    let fields = Directed::new(memory, table, d);
+    pack_fields(fields, counted_in(d, counts), channel, values, registers)
 }
 
 // Unpacks the value of each field of the direction from the channel's registers.
@@ -124,12 +106,7 @@ pub fn unpack(
     ensures { called result values.new
         ≡ unpacked_to (checked_at memory.now table) d channel registers.now values.old }
 {
-    let answer = count::count_fields(memory, table);
-    match answer {
-        Err(r) => Err(r),
-        Ok(counts) => {
-            let n = fields_of(d, counts);
-            unpack_fields(memory, table, d, n, channel, registers, values)
-        }
-    }
+    let counts = count::count_fields(memory, table)?;
+    let fields = Directed::new(memory, table, d);
+    unpack_fields(fields, counted_in(d, counts), channel, registers, values)
 }

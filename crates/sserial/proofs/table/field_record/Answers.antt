@@ -1,6 +1,5 @@
 use mathlib.Core.Path.{sym}
 use native.Mathlib.Omega.{arith}
-use lib.ListN.{length}
 use Rattle.sserial.proofs.TableLaws.{unit_cut, name-cut, field-lent, unlisted, listed}
 use Rattle.sserial.specs.Table.{field_of, name_place}
 use Rattle.sserial.proofs.table.field_record.Goals as goal
