@@ -1,5 +1,6 @@
 -- Texts taken apart.
-use Rattle.std.specs.Prelude.{ℕ, suc, ◌-◌, List, [], ◌∷◌, Bool, true, false, ◌&&◌, cond, take, drop, eqb, ltb}
+use Rattle.std.specs.Prelude.{ℕ, suc, ◌-◌, List, [], ◌∷◌, Bool, ◌&&◌, cond, take, drop, eqb, ltb}
+use lib.Pointwise.{pointwise}
 use Rattle.text.specs.Number.{ascii}
 
 -- how many bytes stand before the first b: all of them where there is none
@@ -21,7 +22,4 @@ hex_value c = bytes_before (capital c) (ascii "0123456789ABCDEF")
 
 -- whether two texts are the same
 unfoldable pub same_bytes : List ℕ → List ℕ → Bool
-same_bytes [] [] = true
-same_bytes [] (b ∷ bs) = false
-same_bytes (a ∷ az) [] = false
-same_bytes (a ∷ az) (b ∷ bs) = eqb a b && same_bytes az bs
+same_bytes a b = pointwise eqb a b

@@ -12,7 +12,7 @@ ghost use Rattle.text.specs.Room.{filled, put_at};
 pub fn least(a: usize, b: usize) -> usize
     ensures { result ≡ min a b }
 {
-    if a < b { a } else { b }
+    a.min(b)
 }
 
 pub fn put(out: &mut [u8], at: usize, text: &[u8]) -> usize
@@ -20,12 +20,8 @@ pub fn put(out: &mut [u8], at: usize, text: &[u8]) -> usize
 {
     let from = least(at, out.len());
     let n = least(text.len(), out.len() - from);
-    let mut i: usize = 0;
-    while i < n {
-        out[from + i] = text[i];
-        i += 1;
-    }
-    from + i
+    out[from..from + n].copy_from_slice(&text[..n]);
+    from + n
 }
 
 // One of two texts.

@@ -27,7 +27,7 @@ fn last_code(n: u64) -> u8
     48 + (n % 10) as u8
 }
 
-// The digits are found from the last on. No number of 64 bits has more than 20.
+// The digits are found from the last on, and how many there are is known only with the first. No number of 64 bits has more than 20.
 pub fn decimal(out: &mut [u8], at: usize, n: u64) -> usize
     ensures { filled result out.new ≡ put_at (decimal n) at out.old }
 {
@@ -69,9 +69,7 @@ pub fn hex(out: &mut [u8], at: usize, digits: usize, n: u64) -> usize
     ensures { filled result out.new ≡ put_at (hexadecimal digits n) at out.old }
 {
     let mut next = least(at, out.len());
-    let mut k = digits;
-    while 0 < k {
-        k -= 1;
+    for k in (0..digits).rev() {
         next = digit(out, next, digit_at(n, k));
     }
     next
@@ -88,10 +86,8 @@ pub fn bytes(out: &mut [u8], at: usize, s: &[u8]) -> usize
     ensures { filled result out.new ≡ put_at (bytes_of_hex s.now) at out.old }
 {
     let mut next = least(at, out.len());
-    let mut i: usize = 0;
-    while i < s.len() {
-        next = byte(out, next, s[i]);
-        i += 1;
+    for &b in s {
+        next = byte(out, next, b);
     }
     next
 }

@@ -1,5 +1,5 @@
 // Hexadecimal text read into a room.
-ghost use Rattle.std.specs.Prelude.{◌≡◌, ◌+◌, ◌*◌, ◌<◌, length, get_or, drop};
+ghost use Rattle.std.specs.Prelude.{◌≡◌, ◌<◌, length, get_or, drop, MatchOption};
 ghost use Rattle.text.specs.Find.{hex_value};
 ghost use Rattle.why_output.specs.Hex.{is_blank, turn_at, hex_of, has_byte, Reads};
 
@@ -26,21 +26,14 @@ fn is_blank(c: u8) -> bool
     (c == 32) | ((c == 9) | ((c == 10) | (c == 13)))
 }
 
-// The value of the digit at a place; 16 where none stands there.
-fn value_at(text: &[u8], i: usize) -> usize
-    ensures { result ≡ hex_value (get_or text.now i 0) }
+// The value of the digit at a place, where one stands there.
+fn value_at(text: &[u8], i: usize) -> Option<u8>
+    ensures { MatchOption result (hex_value (get_or text.now i 0) ≡ 16) (λ d. (d ≡ hex_value (get_or text.now i 0)) × (d < 16)) }
 {
-    if text.len() <= i {
-        return 16;
-    }
-    find::hex_value(text[i])
-}
-
-fn byte_of(high: usize, low: usize) -> u8
-    requires { (high < 16) × (low < 16) }
-    ensures { result ≡ 16 * high + low }
-{
-    (16 * high + low) as u8
+    let Some(&c) = text.get(i) else {
+        return None;
+    };
+    find::hex_value(c)
 }
 
 fn turn_at(text: &[u8], i: usize) -> Turn
@@ -50,15 +43,13 @@ fn turn_at(text: &[u8], i: usize) -> Turn
     if is_blank(text[i]) {
         return Turn::Blank;
     }
-    let high = value_at(text, i);
-    if 16 <= high {
+    let Some(high) = value_at(text, i) else {
         return Turn::Bad(i);
-    }
-    let low = value_at(text, i + 1);
-    if 16 <= low {
+    };
+    let Some(low) = value_at(text, i + 1) else {
         return Turn::Bad(i + 1);
-    }
-    Turn::Byte(byte_of(high, low))
+    };
+    Turn::Byte(16 * high + low)
 }
 
 pub(crate) fn read(text: &[u8], room: &mut [u8]) -> Found

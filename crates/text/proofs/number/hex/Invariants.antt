@@ -8,6 +8,3 @@ use Rattle.text.proofs.number.hex.Given as goal
 abbrev pub invariant-loop-k : goal.invariant-loop-k
 invariant-loop-k l = (put_at (hexadecimal l.k l.n) l.next l.out ≡ put_at (hexadecimal l.digits l.n) l.at l.initial.out) ×
     (length l.out ≡ length l.initial.out) × (l.next ≤ length l.out)
-
-abbrev pub decreases-loop-k : goal.decreases-loop-k
-decreases-loop-k l = l.k
