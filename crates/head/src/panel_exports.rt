@@ -17,7 +17,7 @@ pub extern "C" fn head_panel_start(asked: u8, running: u8, mask: &mut u8) -> u32
             *mask = m;
             0
         }
-        Err(r) => r.number,
+        Err(r) => r.rule.number(),
     }
 }
 
@@ -56,6 +56,6 @@ pub extern "C" fn head_panel_reading(
             *reading_bits = f32::to_bits(x);
             0
         }
-        Err(refusal) => refusal.number,
+        Err(refusal) => refusal.rule.number(),
     }
 }

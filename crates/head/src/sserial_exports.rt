@@ -17,7 +17,7 @@ fn numbers_of(answer: Result<FieldCounts, Refusal>) -> Numbers
 {
     match answer {
         Ok(counts) => Numbers(0, counts.inputs as u64, counts.outputs as u64),
-        Err(r) => Numbers(r.number, r.place, 0),
+        Err(r) => Numbers(r.rule.number(), r.place, 0),
     }
 }
 
@@ -26,7 +26,7 @@ fn call_number(answer: Result<(), Refusal>) -> u32
 {
     match answer {
         Ok(()) => 0,
-        Err(r) => r.number,
+        Err(r) => r.rule.number(),
     }
 }
 
@@ -37,7 +37,7 @@ fn table_or_40(memory: &[u8], table: u16) -> u32
     let answer = count::count_fields(memory, table);
     match answer {
         Ok(_) => 40,
-        Err(r) => r.number,
+        Err(r) => r.rule.number(),
     }
 }
 
@@ -95,7 +95,7 @@ pub extern "C" fn head_field(memory: &[u8], table: u16, index: u64, field: &mut 
             put_field(f, field);
             0
         }
-        Err(r) => r.number,
+        Err(r) => r.rule.number(),
     }
 }
 

@@ -3,6 +3,7 @@ use Rattle.std.specs.Prelude.{ℕ, ◌-◌, ◌^◌, Bool, not, ◌||◌, cond, 
 use Rattle.std.specs.Float.{binary32}
 use Rattle.std.specs.Float.Ieee.{of_bits, of_int, mul, div, lt}
 use Rattle.std.specs.Float.Ieee.Scale.{finite}
+use Rattle.lbp16.specs.Answer.{rule_number}
 use Rattle.lbp16.specs.declared.Refusal.{Refusal}
 use Rattle.panel.specs.declared.reading.Bounds.{Bounds}
 
@@ -11,9 +12,12 @@ pub data Shown : Type 0 where
   shown : Float → Shown
   refused : ℕ → ℕ → Shown
 
+abbrev pub refused_by : Refusal → Shown
+refused_by r = refused (rule_number r.rule) r.place
+
 unfoldable pub reading_listed : Result Float Refusal → Shown
 reading_listed (Ok x) = shown x
-reading_listed (Err r) = refused r.number r.place
+reading_listed (Err r) = refused_by r
 
 -- the largest value of a width
 abbrev pub full : ℕ → ℕ

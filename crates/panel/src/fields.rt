@@ -13,13 +13,8 @@ use sserial::field;
 pub fn field_reading(memory: &[u8], table: u16, index: u64, value: u64) -> Result<f32, Refusal>
     ensures { reading_listed result ≡ field_reading (checked_at memory.now table) index value }
 {
-    let answer = field::field(memory, table, index);
-    match answer {
-        Err(r) => Err(r),
-        Ok(f) => {
-            let kind = f.kind as u32;
-            let width = f.width as u32;
-            reading::reading(kind, width, value, f.minimum, f.maximum)
-        }
-    }
+    let f = field::field(memory, table, index)?;
+    let kind = f.kind as u32;
+    let width = f.width as u32;
+    reading::reading(kind, width, value, f.minimum, f.maximum)
 }

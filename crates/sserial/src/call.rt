@@ -1,24 +1,14 @@
 // One direction of one channel, packed and unpacked. The registers lent are three words for each of eight channels.
 ghost use Rattle.std.specs.Prelude.{◌≡◌};
-ghost use Rattle.lbp16.specs.Answer.{refused};
 ghost use Rattle.sserial.specs.Table.{checked_at};
-ghost use Rattle.sserial.specs.Calls.{no_channel, packed_by, packed_to, unpacked_by, unpacked_to, call_listed, called};
+ghost use Rattle.sserial.specs.Calls.{no_channel, packed_by, packed_to, unpacked_by, unpacked_to, called};
 ghost use Rattle.sserial.specs.Inside.{Packable, directed_ahead, chosen};
 
 use crate::count::FieldCounts;
 use crate::field::Directed;
 use crate::table::Direction;
 use crate::{channels, count, pack};
-use lbp16::Refusal;
-
-fn bad_call() -> Result<(), Refusal>
-    ensures { call_listed result ≡ refused 40 0 }
-{
-    Err(Refusal {
-        number: 40,
-        place: 0,
-    })
-}
+use lbp16::{Refusal, Rule};
 
 fn no_channel(channel: u32, registers: &[u32]) -> bool
     ensures { result ≡ no_channel channel registers.now }
@@ -47,10 +37,10 @@ fn pack_fields(
         ≡ packed_by (directed_ahead fields.entry) channel values.now registers.old }
 {
     if no_channel(channel, registers) || values.len() != n {
-        return bad_call();
+        return Err(Rule::BadCall.at(0));
     }
     let Some(words) = pack::pack_values(fields, values) else {
-        return bad_call();
+        return Err(Rule::BadCall.at(0));
     };
     let all = channels::channels_of(registers);
     let next = channels::with_channel(all, channel as usize, words);
@@ -70,7 +60,7 @@ fn unpack_fields(
         ≡ unpacked_by (directed_ahead fields.entry) channel registers.now values.old }
 {
     if no_channel(channel, registers) || values.len() != n {
-        return bad_call();
+        return Err(Rule::BadCall.at(0));
     }
     let all = channels::channels_of(registers);
     pack::read(fields, all[channel as usize], values);

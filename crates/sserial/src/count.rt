@@ -6,7 +6,7 @@ ghost use Rattle.sserial.specs.Inside.{Small, Within, sum_with, sums_with, sums_
 
 use crate::table;
 use crate::table::{Direction, Entry, Field};
-use lbp16::Refusal;
+use lbp16::{Refusal, Rule};
 
 // How many fields stand in a direction, and how many bits they take.
 #[derive(Clone, Copy)]
@@ -73,10 +73,7 @@ fn answered(s: Sums) -> Result<FieldCounts, Refusal>
     ensures { table_listed result ≡ sums_answer s }
 {
     if s.over {
-        return Err(Refusal {
-            number: 42,
-            place: 0,
-        });
+        return Err(Rule::FieldWidth.at(0));
     }
     Ok(FieldCounts {
         inputs: s.inputs.fields,
@@ -99,10 +96,7 @@ pub fn count_fields(memory: &[u8], table: u16) -> Result<FieldCounts, Refusal>
         match entry {
             Entry::End => return answered(s),
             Entry::Unreadable => {
-                return Err(Refusal {
-                    number: 41,
-                    place: 0,
-                });
+                return Err(Rule::BadTable.at(0));
             }
             Entry::Mode => {}
             Entry::Field(f) => s = sums_with(s, f),

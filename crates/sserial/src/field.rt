@@ -6,7 +6,7 @@ ghost use Rattle.sserial.specs.Inside.{fields_met, fields_ahead, directed_ahead}
 
 use crate::table::{Direction, Entry, Field};
 use crate::{count, table};
-use lbp16::Refusal;
+use lbp16::{Refusal, Rule};
 
 // The fields from an entry on, up to the table's end or to an entry that is unreadable.
 #[derive(Clone, Copy)]
@@ -102,9 +102,6 @@ pub fn field(memory: &[u8], table: u16, index: u64) -> Result<Field, Refusal>
     count::count_fields(memory, table)?;
     match nth(memory, table, index) {
         Some(f) => Ok(f),
-        None => Err(Refusal {
-            number: 40,
-            place: 0,
-        }),
+        None => Err(Rule::BadCall.at(0)),
     }
 }

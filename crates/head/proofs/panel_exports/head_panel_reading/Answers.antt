@@ -14,4 +14,4 @@ returns-in-Ok c = rw (← c.reading-answer.ensures, c.in-Ok.is) refl
 
 pub returns-in-Err : goal.returns-in-Err
 unfolding reading_listed reading_number bits_left export_reading
-returns-in-Err c = rw (← c.reading-answer.ensures, c.in-Err.is) refl
+returns-in-Err c = rw (← c.reading-answer.ensures, c.in-Err.is, c.number.ensures) refl

@@ -10,4 +10,4 @@ returns-in-Ok c = rw (← c.start-answer.ensures, c.in-Ok.is) refl
 
 pub returns-in-Err : goal.returns-in-Err
 unfolding start_listed number_of word_left export_start
-returns-in-Err c = rw (← c.start-answer.ensures, c.in-Err.is) refl
+returns-in-Err c = rw (← c.start-answer.ensures, c.in-Err.is, c.number.ensures) refl

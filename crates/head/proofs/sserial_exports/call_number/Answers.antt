@@ -1,3 +1,4 @@
+use mathlib.Core.Path.{refl}
 use Rattle.sserial.specs.Calls.{call_listed}
 use Rattle.head.specs.Exports.{number_of}
 use Rattle.head.proofs.sserial_exports.call_number.Goals as goal
@@ -8,4 +9,4 @@ returns-in-Ok c = rw c.in-Ok.is
 
 pub returns-in-Err : goal.returns-in-Err
 unfolding number_of call_listed
-returns-in-Err c = rw c.in-Err.is
+returns-in-Err c = rw (c.number.ensures, c.in-Err.is) refl

@@ -17,4 +17,4 @@ returns-in-Ok c = rw
 
 pub returns-in-Err : goal.returns-in-Err
 unfolding shown_in field_listed
-returns-in-Err c = rw (seven_words _ _ _ c.if-field-ne7.false, ← c.field-answer.ensures, c.in-Err.is) refl
+returns-in-Err c = rw (seven_words _ _ _ c.if-field-ne7.false, ← c.field-answer.ensures, c.in-Err.is, c.number.ensures) refl

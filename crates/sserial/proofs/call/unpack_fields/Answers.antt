@@ -1,4 +1,5 @@
-use mathlib.Core.Path.{sym, ◌∙◌}
+use mathlib.Core.Path.{sym, ap, ◌∙◌}
+use Rattle.lbp16.specs.Answer.{refusal}
 use native.Mathlib.Omega.{arith}
 use Rattle.sserial.specs.Calls.{call_listed}
 use Rattle.sserial.specs.Inside.{directed_ahead}
@@ -8,12 +9,13 @@ use Rattle.sserial.proofs.call.unpack_fields.Goals as goal
 use Rattle.sserial.proofs.call.unpack_fields.Goals.{then-no_channel-via-then-no_channel, then-no_channel-via-else-no_channel+then-values-n}
 
 pub returns-then-no_channel : goal.returns-then-no_channel
+unfolding call_listed
 returns-then-no_channel c = rw
     (unpack_refused (directed_ahead c.args.fields) c.args.channel c.args.values.now c.args.registers.now (elim c.then-no_channel.branch [
       | then-no_channel-via-then-no_channel w ↦ unpack_no_channel _ _ _ _ (sym c.no_channel.ensures ∙ w.if-no_channel.true)
       | then-no_channel-via-else-no_channel+then-values-n w ↦ unpack_uncounted _ _ _ _ (λ e. w.if-values-n.true (e ∙ c.requires.count))
     ]))
-    (refused-by _ c.bad_call.ensures)
+    (refused-by _ (ap refusal c.at.ensures))
 
 pub channels_of-all-requires : goal.channels_of-all-requires
 channels_of-all-requires c = (channel_there _ _ (sym c.no_channel.ensures ∙ c.if-no_channel.false)).1

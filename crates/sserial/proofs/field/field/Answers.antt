@@ -1,4 +1,5 @@
-use mathlib.Core.Path.{sym, ◌∙◌}
+use mathlib.Core.Path.{sym, ap, ◌∙◌}
+use Rattle.lbp16.specs.Answer.{refusal}
 use Rattle.std.proofs.lemmas.Result.{err_from_is_err_and}
 use Rattle.sserial.specs.Table.{checked_at}
 use Rattle.sserial.specs.Calls.{table_listed, field_listed}
@@ -22,5 +23,5 @@ returns-in-Some c =
 pub returns-in-None : goal.returns-in-None
 unfolding table_listed field_listed checked_at
 returns-in-None c =
-    front_none (fields_met c.args.memory.now c.args.table) c.args.index (sym c.nth.ensures ∙ c.in-None.is)
+    ap refusal c.at.ensures ∙ front_none (fields_met c.args.memory.now c.args.table) c.args.index (sym c.nth.ensures ∙ c.in-None.is)
     ∙ field_found _ _ _ (accepted-checked _ _ _ c.in_ok-count_fields.ensures).laid
