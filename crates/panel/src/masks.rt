@@ -16,7 +16,8 @@ pub struct Tally {
 pub fn start(asked: u8, running: u8) -> Result<u8, Refusal>
     ensures { start_listed result ≡ started asked running }
 {
-    if asked & !running != 0 {
+    let outside = asked & !running;
+    if outside != 0 {
         return Err(Rule::NotStarted.at(0));
     }
     Ok(asked)
