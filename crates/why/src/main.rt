@@ -2,7 +2,6 @@
 // from the pointers in the file named.
 #![tactic(auto)]
 
-use input::Taken;
 use std::env::Env;
 use std::io;
 use std::io::{Read, Write};
@@ -10,11 +9,8 @@ use std::rt::Files;
 use why_output::words;
 use why_output::words::Words;
 
-fn take<R: Read>(w: Words, found: bool, from: &mut R, bytes: &mut [u8]) -> Taken {
-    let most = words::most_read(w, found);
-    if bytes.len() < most {
-        return Taken::Failed;
-    }
+fn take<R: Read>(w: Words, found: bool, from: &mut R, bytes: &mut [u8]) -> io::Result<usize> {
+    let most = words::most_read(w, found).min(bytes.len());
     input::all(from, &mut bytes[..most])
 }
 
@@ -43,15 +39,15 @@ fn serve<R: Read, W: Write, E: Write>(
 ) -> io::Result<()> {
     let taken = take(w, found, from, bytes);
     match taken {
-        Taken::Failed => input::cannot_read(beside),
-        Taken::Bytes(n) => answer(to, w, found, file, input::front(bytes, n), room),
+        Err(_) => input::cannot_read(beside),
+        Ok(n) => answer(to, w, found, file, input::front(bytes, n), room),
     }
 }
 
 // A file that cannot be opened has nothing to read.
-fn read_file<F: Read>(opened: &mut Option<F>, file: &mut [u8]) -> Taken {
+fn read_file<F: Read>(opened: &mut Option<F>, file: &mut [u8]) -> io::Result<usize> {
     match opened {
-        None => Taken::Bytes(0),
+        None => Ok(0),
         Some(f) => input::all(f, file),
     }
 }
@@ -97,8 +93,8 @@ fn start<R: Read, W: Write, F: Read + Drop, E: Write>(
     let found = opened.is_some();
     let had = read_file(&mut opened, file);
     match had {
-        Taken::Failed => input::cannot_read(beside),
-        Taken::Bytes(k) => judge(beside, from, to, w, found, input::front(file, k)),
+        Err(_) => input::cannot_read(beside),
+        Ok(k) => judge(beside, from, to, w, found, input::front(file, k)),
     }
 }
 
