@@ -25,21 +25,40 @@ fn shown(out: &mut [u8], at: usize, s: &[u8], most: u64) -> usize
 }
 
 // The bytes of the first packet of an output, with its mark and length.
-pub(crate) fn frame_bytes(rest: &[u8]) -> usize
+fn frame_bytes(rest: &[u8]) -> usize
     requires { 4 ≤ length rest.now }
     ensures { (4 ≤ result) × (result ≤ length rest.now) }
 {
     slice::within(4 + bytes::pair_at(rest, 2) as u64, rest)
 }
 
+// The packets of an output, without their marks and lengths.
+#[derive(Clone, Copy)]
+pub(crate) struct Packets<'a>(pub(crate) &'a [u8]);
+
+impl<'a> Iterator for Packets<'a> {
+    ghost use Rattle.std.specs.Prelude.{length};
+    ghost use Rattle.std.specs.Iterator.{at_most};
+
+    type Item = &'a [u8];
+
+    ghost remaining = { λ s. at_most (length s.0.now) };
+
+    fn next(&mut self) -> Option<&'a [u8]> {
+        if self.0.len() < 4 {
+            return None;
+        }
+        let (frame, others) = self.0.split_at(frame_bytes(self.0));
+        self.0 = others;
+        Some(&frame[4..])
+    }
+}
+
 // The lengths of an output's packets.
 fn lengths(out: &mut [u8], at: usize, packets: &[u8]) -> usize {
     let mut next = at;
-    let mut rest = packets;
-    while 4 <= rest.len() {
-        let k = frame_bytes(rest);
-        next = text::line::numbered(out, next, b" ", (k - 4) as u64);
-        rest = &rest[k..];
+    for packet in Packets(packets) {
+        next = text::line::numbered(out, next, b" ", packet.len() as u64);
     }
     next
 }
@@ -69,19 +88,21 @@ fn left_out(c: u8, v: u64, out: bool) -> bool {
     }
 }
 
-// Whether a byte only begins, parts or ends a choice.
-fn is_mark(c: u8) -> bool {
-    (c == b'[') | (c == b'|') | (c == b']')
-}
-
 // A byte of a form, unless it is left out.
 fn part(out: &mut [u8], at: usize, left: bool, c: u8, v: u64, sent: &[u8], got: &[u8]) -> usize {
-    if left | is_mark(c) {
-        return at;
+    match c {
+        // These only begin, part or end a choice.
+        b'[' | b'|' | b']' => at,
+        _ => {
+            if left {
+                return at;
+            }
+            put(out, at, c, v, sent, got)
+        }
     }
-    put(out, at, c, v, sent, got)
 }
 
+// How many values a byte takes.
 fn taken(c: u8) -> usize
     ensures { result ≤ 1 }
 {
@@ -96,14 +117,11 @@ fn filled(room: &mut [u8], form: &[u8], values: [u64; 9], sent: &[u8], got: &[u8
     let mut at: usize = 0;
     let mut out = false;
     let mut next: usize = 0;
-    let mut i: usize = 0;
-    while i < form.len() {
-        let c = form[i];
+    for &c in form {
         let v = values[next % 9];
         out = left_out(c, v, out);
         at = part(room, at, out, c, v, sent, got);
         next += taken(c);
-        i += 1;
     }
     at
 }

@@ -1,102 +1,92 @@
 // Hexadecimal digits as bytes.
 use text::find;
 
-// The bytes of so many digits; bad where anything else than digits and blanks stood among them.
+// What a letter of a text stands for: a digit, or a byte of the address.
+#[derive(Clone, Copy, Debug, PartialEq, Eq)]
+enum Letter {
+    Digit(u8),
+    Low,
+    High,
+    Blank,
+    Other,
+}
+
+// The bytes of so many digits; bad where anything else than digits and blanks stood among them. Past 8,192 bytes they start again,
+// since the room is fixed.
 #[derive(Clone, Copy)]
 pub(crate) struct Data {
-    pub(crate) bytes: [u8; 8192],
-    pub(crate) digits: usize,
+    bytes: [u8; 8192],
+    digits: usize,
     bad: bool,
 }
 
-pub(crate) fn none() -> Data {
-    Data {
-        bytes: [0; 8192],
-        digits: 0,
-        bad: false,
+impl Data {
+    pub(crate) fn none() -> Data {
+        Data {
+            bytes: [0; 8192],
+            digits: 0,
+            bad: false,
+        }
+    }
+
+    // The bytes whose both digits came.
+    pub(crate) fn whole(&self) -> &[u8] {
+        input::front(&self.bytes, self.digits / 2)
+    }
+
+    // Half a byte is bad too.
+    pub(crate) fn is_bad(&self) -> bool {
+        self.bad | (self.digits % 2 == 1)
+    }
+
+    // A digit more.
+    fn put(&mut self, digit: u8) {
+        let n = self.digits % 16384;
+        self.bytes[n / 2] = self.bytes[n / 2] % 16 * 16 + digit % 16;
+        self.digits = n + 1;
+    }
+
+    // A byte of an address in the place of a digit.
+    fn put_byte(&mut self, byte: u8) {
+        let n = self.digits % 16384;
+        self.bytes[n / 2] = byte;
+        self.digits = n + 1;
+    }
+
+    fn put_letter(&mut self, letter: Letter, address: u16) {
+        match letter {
+            Letter::Digit(digit) => self.put(digit),
+            Letter::Low => self.put_byte((address % 256) as u8),
+            Letter::High => self.put_byte((address / 256) as u8),
+            Letter::Blank => {}
+            Letter::Other => self.bad = true,
+        }
+    }
+
+    // A text's digits behind those that there are.
+    pub(crate) fn put_text(&mut self, text: &[u8], address: u16) {
+        for &c in text {
+            self.put_letter(letter_of(c), address);
+        }
+    }
+
+    // The same so many times, the address rising by 4.
+    pub(crate) fn put_times(&mut self, text: &[u8], times: u16) {
+        for i in 0..times {
+            self.put_text(text, i % 16384 * 4);
+        }
     }
 }
 
-// Half a byte is bad too.
-pub(crate) fn is_bad(d: Data) -> bool {
-    d.bad | (d.digits % 2 == 1)
-}
-
-// A byte after the digit v: 16 and 17 are the letters of LL and HH, the bytes of an address.
-fn with_value(byte: u8, v: usize, address: u16) -> u8 {
-    match v {
-        16 => (address % 256) as u8,
-        17 => (address / 256) as u8,
-        _ => byte % 16 * 16 + (v % 16) as u8,
-    }
-}
-
-// A digit more. Past 8,192 bytes they start again.
-fn with_digit(d: Data, v: usize, address: u16) -> Data {
-    let n = d.digits % 16384;
-    let mut bytes = d.bytes;
-    bytes[n / 2] = with_value(bytes[n / 2], v, address);
-    Data {
-        bytes,
-        digits: n + 1,
-        bad: d.bad,
-    }
-}
-
-// A digit's value; 16 and 17 are L and H.
-fn value_of(c: u8) -> usize {
-    if let Some(v) = find::hex_value(c) {
-        return v as usize;
+// The letters of LL and HH are the bytes of an address. A text's bytes begin behind its =, and a line's end is no letter.
+fn letter_of(c: u8) -> Letter {
+    if let Some(digit) = find::hex_value(c) {
+        return Letter::Digit(digit);
     }
     match c {
-        b'L' => 16,
-        b'H' => 17,
-        _ => 18,
+        b'L' => Letter::Low,
+        b'H' => Letter::High,
+        b' ' | b'\n' | b'=' => Letter::Blank,
+        _ => Letter::Other,
     }
-}
-
-// A text's bytes begin behind its =, and a line's end is no letter.
-fn is_blank(c: u8) -> bool {
-    (c == b' ') | (c == b'\n') | (c == b'=')
-}
-
-fn with_other(d: Data, c: u8) -> Data {
-    let bytes = d.bytes;
-    Data {
-        bytes,
-        digits: d.digits,
-        bad: d.bad | !is_blank(c),
-    }
-}
-
-fn with_letter(d: Data, c: u8, address: u16) -> Data {
-    let v = value_of(c);
-    if v < 18 {
-        return with_digit(d, v, address);
-    }
-    with_other(d, c)
-}
-
-// A text's digits behind those that there are.
-pub(crate) fn with_text(front: Data, text: &[u8], address: u16) -> Data {
-    let mut data = front;
-    let mut i: usize = 0;
-    while i < text.len() {
-        let next = with_letter(data, text[i], address);
-        data = next;
-        i += 1;
-    }
-    data
-}
-
-// The same so many times, the address rising by 4.
-pub(crate) fn with_texts(front: Data, text: &[u8], times: u16) -> Data {
-    let mut data = front;
-    let mut i: u16 = 0;
-    while i < times {
-        let next = with_text(data, text, i % 16384 * 4);
-        data = next;
-        i += 1;
-    }
-    data
 }

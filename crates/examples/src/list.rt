@@ -33,7 +33,7 @@ fn output<W: Write>(
         room,
     )?;
     let n = answer::first(values);
-    Ok(Bytes { bytes: room, n })
+    Ok(Bytes::of(room, n))
 }
 
 // A list, and what it compiles to with so many bytes of room.
@@ -77,10 +77,10 @@ fn entry<W: Write>(to: &mut W, log: [u64; 8], i: usize) -> io::Result<()>
 }
 
 fn entries<W: Write>(to: &mut W, log: [u64; 8]) -> io::Result<()> {
-    entry(to, log, 0)?;
-    entry(to, log, 2)?;
-    entry(to, log, 4)?;
-    entry(to, log, 6)
+    for i in 0..4 {
+        entry(to, log, 2 * i)?;
+    }
+    Ok(())
 }
 
 fn kept<W: Write>(

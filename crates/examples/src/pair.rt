@@ -14,13 +14,13 @@ struct Turn {
 
 fn fresh() -> Turn {
     Turn {
-        first: slice::empty(),
+        first: Bytes::empty(),
         card: wire::fresh(),
     }
 }
 
 // All packets of one output and then all of the other.
-fn in_turn<W: Write>(to: &mut W, one: Bytes, other: Bytes, turn: &mut Turn) -> io::Result<()> {
+fn in_turn<W: Write>(to: &mut W, one: &Bytes, other: &Bytes, turn: &mut Turn) -> io::Result<()> {
     show::play(to, one, &mut turn.card)?;
     turn.first = turn.card.read;
     show::play(to, other, &mut turn.card)
@@ -36,8 +36,8 @@ fn compared<W: Write>(to: &mut W, forth: &Turn, back: &Turn) -> io::Result<()> {
             wire::same_stores(a, b, false),
             wire::count(a),
             wire::count(b),
-            slice::same_bytes(forth.first, b.read),
-            slice::same_bytes(a.read, back.first),
+            slice::same_bytes(&forth.first, &b.read),
+            slice::same_bytes(&a.read, &back.first),
             0,
             0,
             0,
@@ -46,7 +46,7 @@ fn compared<W: Write>(to: &mut W, forth: &Turn, back: &Turn) -> io::Result<()> {
     )
 }
 
-fn orders<W: Write>(to: &mut W, one: Bytes, other: Bytes) -> io::Result<()> {
+fn orders<W: Write>(to: &mut W, one: &Bytes, other: &Bytes) -> io::Result<()> {
     form::say(to, b"in this order:\n")?;
     let mut forth = fresh();
     in_turn(to, one, other, &mut forth)?;
@@ -73,7 +73,7 @@ pub(crate) fn pair<W: Write>(to: &mut W, first: &[u8], second: &[u8]) -> io::Res
     form::say(to, b"the second, list")?;
     let other = list::compiled(to, second, 8192)?;
     if answered(to, first, second)? {
-        return orders(to, one, other);
+        return orders(to, &one, &other);
     }
     Ok(())
 }

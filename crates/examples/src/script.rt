@@ -18,11 +18,9 @@
 //
 // A name is written before the answer. A line that begins with = is passed over. HEX are digits of either case, with blanks between as one
 // likes; of a line with anything else, `bad hex` is said.
-ghost use Rattle.std.specs.Prelude.{◌≤◌, length};
-
 use crate::hex::Data;
 use crate::wire::Card;
-use crate::{form, hex, list, pair, show, slice, wire, word};
+use crate::{form, list, pair, show, slice, wire, word};
 use packet::bytes;
 use std::io;
 use std::io::Write;
@@ -39,7 +37,7 @@ struct State {
 fn apart<W: Write>(to: &mut W, kind: u8, list: &[u8], data: &[u8]) -> io::Result<()> {
     match kind {
         b'w' => word::word(to, data),
-        b'h' => word::header(to, wire::word_at(data, 0)),
+        b'h' => word::header(to, wire::first_word(data)),
         b'j' => list::judged(to, data),
         b'l' => {
             list::compiled(to, list, bytes::pair_at(data, 0) as u64)?;
@@ -76,46 +74,26 @@ fn on_card<W: Write>(
     }
 }
 
-fn with_list<W: Write>(
-    to: &mut W,
-    kind: u8,
-    before: Data,
-    data: &[u8],
-    card: &mut Card,
-) -> io::Result<()> {
-    let list = slice::part(&before.bytes, 0, (before.digits / 2) as u64);
-    apart(to, kind, list, data)?;
-    on_card(to, kind, list, data, card)
-}
-
-fn example<W: Write>(
-    to: &mut W,
-    kind: u8,
-    before: Data,
-    own: Data,
-    card: &mut Card,
-) -> io::Result<()> {
-    let data = slice::part(&own.bytes, 0, (own.digits / 2) as u64);
-    with_list(to, kind, before, data, card)
-}
-
 // How often a line's bytes are put: once where it does not say.
-fn times(count: Data) -> u16 {
-    let n = bytes::pair_at(&count.bytes, 0);
-    if n == 0 { 1 } else { n }
+fn times(count: &Data) -> u16 {
+    match bytes::pair_at(count.whole(), 0) {
+        0 => 1,
+        n => n,
+    }
 }
 
 // A line that is not read leaves the card, and no list.
 fn unread<W: Write>(to: &mut W, state: &mut State) -> io::Result<()> {
     form::say(to, b": bad hex\n")?;
-    state.list = hex::none();
+    state.list = Data::none();
     Ok(())
 }
 
 fn with_more<W: Write>(to: &mut W, name: &[u8], text: &[u8], state: &mut State) -> io::Result<()> {
-    let count = hex::with_text(hex::none(), name, 0);
-    state.list = hex::with_texts(state.list, text, times(count));
-    if hex::is_bad(count) | hex::is_bad(state.list) {
+    let mut count = Data::none();
+    count.put_text(name, 0);
+    state.list.put_times(text, times(&count));
+    if count.is_bad() | state.list.is_bad() {
         form::say(to, b"list")?;
         return unread(to, state);
     }
@@ -133,12 +111,14 @@ fn next<W: Write>(
         return with_more(to, name, text, state);
     }
     form::say(to, name)?;
-    let own = hex::with_text(hex::none(), text, 0);
-    if (kind != b'=') & hex::is_bad(own) {
+    let mut own = Data::none();
+    own.put_text(text, 0);
+    if (kind != b'=') & own.is_bad() {
         return unread(to, state);
     }
-    example(to, kind, state.list, own, &mut state.card)?;
-    state.list = hex::none();
+    apart(to, kind, state.list.whole(), own.whole())?;
+    on_card(to, kind, state.list.whole(), own.whole(), &mut state.card)?;
+    state.list = Data::none();
     Ok(())
 }
 
@@ -149,24 +129,13 @@ fn line<W: Write>(to: &mut W, s: &[u8], state: &mut State) -> io::Result<()> {
     next(to, kind, name, slice::part(s, head, 32768), state)
 }
 
-// The first line, with its end.
-fn line_bytes(rest: &[u8]) -> usize
-    requires { 1 ≤ length rest.now }
-    ensures { (1 ≤ result) × (result ≤ length rest.now) }
-{
-    let n = slice::within(find::bytes_before(rest, b'\n') as u64, rest);
-    if n < rest.len() { n + 1 } else { n }
-}
-
 pub(crate) fn play<W: Write>(to: &mut W, script: &[u8]) -> io::Result<()> {
-    let card = wire::fresh();
-    let list = hex::none();
-    let mut state = State { card, list };
-    let mut rest = script;
-    while 1 <= rest.len() {
-        let k = line_bytes(rest);
-        line(to, slice::part(rest, 0, k as u64), &mut state)?;
-        rest = &rest[k..];
+    let mut state = State {
+        card: wire::fresh(),
+        list: Data::none(),
+    };
+    for s in script.split_inclusive(|&c| c == b'\n') {
+        line(to, s, &mut state)?;
     }
     Ok(())
 }

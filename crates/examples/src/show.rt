@@ -1,6 +1,7 @@
 // Shows played end to end: a list's packets run on one card, and its records done one by one on another.
 ghost use Rattle.std.specs.Prelude.{◌≤◌, length};
 
+use crate::form::Packets;
 use crate::slice::Bytes;
 use crate::wire::Card;
 use crate::{form, list, slice, wire};
@@ -11,25 +12,38 @@ use packet::command::LIMIT;
 use std::io;
 use std::io::Write;
 
-// A packet behind its mark and length.
-fn played<W: Write>(to: &mut W, frame: &[u8], card: &mut Card) -> io::Result<()> {
-    form::say(to, b"packet")?;
-    wire::packet(to, slice::part(frame, 4, LIMIT as u64), card)
-}
-
 // Runs the packets of an output in order, and keeps what they read.
-pub(crate) fn play<W: Write>(to: &mut W, out: Bytes, card: &mut Card) -> io::Result<()> {
-    card.read = slice::empty();
-    let mut rest = slice::part(&out.bytes, 0, out.n);
-    while 4 <= rest.len() {
-        let k = form::frame_bytes(rest);
-        played(to, &rest[..k], card)?;
-        rest = &rest[k..];
+pub(crate) fn play<W: Write>(to: &mut W, out: &Bytes, card: &mut Card) -> io::Result<()> {
+    card.read = Bytes::empty();
+    for packet in Packets(out.whole()) {
+        form::say(to, b"packet")?;
+        wire::packet(to, slice::part(packet, 0, LIMIT as u64), card)?;
     }
     Ok(())
 }
 
-// What follows gets the list's bytes from a record on.
+// The bytes of each record of a list.
+#[derive(Clone, Copy)]
+struct Records<'a>(&'a [u8]);
+
+impl<'a> Iterator for Records<'a> {
+    ghost use Rattle.std.specs.Prelude.{length};
+    ghost use Rattle.std.specs.Iterator.{at_most};
+
+    type Item = &'a [u8];
+
+    ghost remaining = { λ s. at_most (length s.0.now) };
+
+    fn next(&mut self) -> Option<&'a [u8]> {
+        if self.0.is_empty() {
+            return None;
+        }
+        let (record, others) = self.0.split_at(record_bytes(self.0));
+        self.0 = others;
+        Some(record)
+    }
+}
+
 fn record_bytes(rest: &[u8]) -> usize
     requires { 1 ≤ length rest.now }
     ensures { (1 ≤ result) × (result ≤ length rest.now) }
@@ -40,67 +54,35 @@ fn record_bytes(rest: &[u8]) -> usize
     slice::within(6, rest)
 }
 
-// Where a record's element stands, and how many bytes of it are read or written.
-#[derive(Clone, Copy)]
-struct Element {
-    at: u64,
-    read: u64,
-    written: u64,
-}
-
-fn element_of(rest: &[u8]) -> Element {
-    let r = records::record_at(rest);
+// One record alone: its element is read or written straight in the store.
+fn record_alone(record: &[u8], card: &mut Card) {
+    let r = records::record_at(record);
     let row = space::row_of(r.space);
     let at = row.place as u64 + r.address as u64;
     let n = row.element as u64;
     if r.write {
-        return Element {
-            at,
-            read: 0,
-            written: n,
-        };
-    }
-    Element {
-        at,
-        read: n,
-        written: 0,
-    }
-}
-
-// One record alone: its element is read or written straight in the store.
-fn record_alone(rest: &[u8], before: Card) -> Card {
-    let mut store = before.store;
-    let e = element_of(rest);
-    text::put(&mut store, e.at as usize, slice::part(rest, 6, e.written));
-    let read = slice::with(before.read, slice::part(&store, e.at, e.read));
-    let pointers = before.pointers;
-    Card {
-        store,
-        pointers,
-        read,
+        text::put(&mut card.store, at as usize, slice::part(record, 6, n));
+    } else {
+        card.read.add(slice::part(&card.store, at, n));
     }
 }
 
 // The records of a list one by one.
 fn alone(list: &[u8]) -> Card {
-    let mut left = wire::fresh();
-    let mut rest = list;
-    while 1 <= rest.len() {
-        let next = record_alone(rest, left);
-        left = next;
-        let k = record_bytes(rest);
-        rest = &rest[k..];
+    let mut card = wire::fresh();
+    for record in Records(list) {
+        record_alone(record, &mut card);
     }
-    left
+    card
 }
 
-fn values<W: Write>(to: &mut W, read: Bytes) -> io::Result<()> {
-    let s = slice::part(&read.bytes, 0, read.n);
+fn values<W: Write>(to: &mut W, read: &Bytes) -> io::Result<()> {
+    let s = read.whole();
     form::fill_with(to, b"records one by one, values read:&\n", [0; 9], s, s)
 }
 
 fn compared<W: Write>(to: &mut W, packets: &Card, records: &Card) -> io::Result<()> {
-    let same = slice::same_bytes(packets.read, records.read);
+    let same = slice::same_bytes(&packets.read, &records.read);
     let stores = wire::same_stores(packets, records, true);
     form::fill(
         to,
@@ -120,8 +102,8 @@ fn compared<W: Write>(to: &mut W, packets: &Card, records: &Card) -> io::Result<
 pub(crate) fn show<W: Write>(to: &mut W, list: &[u8]) -> io::Result<()> {
     let out = list::compiled(to, list, 8192)?;
     let mut packets = wire::fresh();
-    play(to, out, &mut packets)?;
+    play(to, &out, &mut packets)?;
     let records = alone(list);
-    values(to, records.read)?;
+    values(to, &records.read)?;
     compared(to, &packets, &records)
 }

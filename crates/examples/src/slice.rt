@@ -1,41 +1,47 @@
 // Bytes cut, joined and compared.
-ghost use Rattle.std.specs.Prelude.{◌≡◌, ◌≤◌, min, length, take};
+ghost use Rattle.std.specs.Prelude.{◌≡◌, min, length};
 
-// Bytes by value: the first n.
+// Bytes by value: the first n. No heap is used, so that a show never runs out of it.
 #[derive(Clone, Copy)]
 pub(crate) struct Bytes {
-    pub(crate) bytes: [u8; 8192],
-    pub(crate) n: u64,
+    bytes: [u8; 8192],
+    n: u64,
 }
 
-pub(crate) fn empty() -> Bytes {
-    Bytes {
-        bytes: [0; 8192],
-        n: 0,
+impl Bytes {
+    pub(crate) fn empty() -> Bytes {
+        Bytes {
+            bytes: [0; 8192],
+            n: 0,
+        }
+    }
+
+    // The first n bytes of a room.
+    pub(crate) fn of(bytes: [u8; 8192], n: u64) -> Bytes {
+        Bytes { bytes, n }
+    }
+
+    pub(crate) fn whole(&self) -> &[u8] {
+        part(&self.bytes, 0, self.n)
+    }
+
+    // More bytes behind these, as far as there is room.
+    pub(crate) fn add(&mut self, s: &[u8]) {
+        self.n = text::put(&mut self.bytes, self.n as usize, s) as u64;
     }
 }
 
 // How many of the bytes a number names: all of them where it names more.
 pub(crate) fn within(n: u64, s: &[u8]) -> usize
-    ensures { ((result ≤ length s.now) × (result ≡ length (take result s.now))) × (result ≡ min n (length s.now)) }
+    ensures { result ≡ min n (length s.now) }
 {
-    let most = s.len();
-    if n < most as u64 { n as usize } else { most }
+    text::least(n as usize, s.len())
 }
 
 // Up to n bytes from a place on.
 pub(crate) fn part(s: &[u8], place: u64, n: u64) -> &[u8] {
-    let from = within(place, s);
-    let tail = &s[from..];
-    let k = within(n, tail);
-    &tail[..k]
-}
-
-// The same with more behind them, as far as there is room.
-pub(crate) fn with(front: Bytes, s: &[u8]) -> Bytes {
-    let mut bytes = front.bytes;
-    let n = text::put(&mut bytes, front.n as usize, s) as u64;
-    Bytes { bytes, n }
+    let tail = s.get(place as usize..).unwrap_or(&[]);
+    input::front(tail, n as usize)
 }
 
 // Where `but` is true, two cells of the store may differ: the packet count and the unlock cell.
@@ -44,19 +50,13 @@ fn may_differ(i: usize, but: bool) -> bool {
 }
 
 pub(crate) fn same(a: &[u8], b: &[u8], but: bool) -> bool {
-    if a.len() != b.len() {
-        return false;
-    }
-    let mut i: usize = 0;
-    while i < a.len() {
-        if (a[i] != b[i]) & !may_differ(i, but) {
-            return false;
-        }
-        i += 1;
-    }
-    true
+    a.len() == b.len()
+        && a.iter()
+            .zip(b)
+            .enumerate()
+            .all(|(i, (x, y))| (*x == *y) | may_differ(i, but))
 }
 
-pub(crate) fn same_bytes(a: Bytes, b: Bytes) -> u64 {
-    same(part(&a.bytes, 0, a.n), part(&b.bytes, 0, b.n), false) as u64
+pub(crate) fn same_bytes(a: &Bytes, b: &Bytes) -> u64 {
+    (a.whole() == b.whole()) as u64
 }

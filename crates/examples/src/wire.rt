@@ -24,11 +24,10 @@ pub(crate) struct Card {
 }
 
 pub(crate) fn fresh() -> Card {
-    let read = slice::empty();
     Card {
         store: [0; STORE_BYTES],
         pointers: [0; 8],
-        read,
+        read: Bytes::empty(),
     }
 }
 
@@ -52,7 +51,7 @@ fn replied<W: Write>(to: &mut W, form: &[u8], sent: &[u8], card: &mut Card) -> i
     let values = run_on(sent, card, &mut reply);
     let got = slice::part(&reply, 0, answer::first(values));
     form::fill_with(to, form, values, sent, got)?;
-    card.read = slice::with(card.read, got);
+    card.read.add(got);
     Ok(())
 }
 
@@ -74,25 +73,20 @@ pub(crate) fn moving<W: Write>(to: &mut W, sent: &[u8], card: &mut Card) -> io::
     )
 }
 
-// The two bytes the other way round.
-fn swapped(n: u16) -> u16 {
-    n % 256 * 256 + n / 256
+// A byte that is not there counts as 0.
+fn byte_at(s: &[u8], at: usize) -> u8 {
+    s.get(at).copied().unwrap_or(0)
 }
 
-// Four bytes, high byte first.
-pub(crate) fn word_at(s: &[u8], at: usize) -> u32
-    requires { at ≤ 28 }
-{
-    let high = swapped(bytes::pair_at(s, at)) as u32;
-    high * 65536 + swapped(bytes::pair_at(s, at + 2)) as u32
+// The first four bytes, high byte first.
+pub(crate) fn first_word(s: &[u8]) -> u32 {
+    u32::from_be_bytes([byte_at(s, 0), byte_at(s, 1), byte_at(s, 2), byte_at(s, 3)])
 }
 
 fn words_of(s: &[u8]) -> [u32; 8] {
     let mut words = [0u32; 8];
-    let mut i: usize = 0;
-    while i < 8 {
-        words[i] = word_at(s, 4 * i);
-        i += 1;
+    for (word, bytes) in words.iter_mut().zip(s.chunks(4)) {
+        *word = first_word(bytes);
     }
     words
 }
@@ -108,10 +102,8 @@ fn word<W: Write>(to: &mut W, w: u32) -> io::Result<()> {
 fn words<W: Write>(to: &mut W, all: [u32; 8], n: usize) -> io::Result<()>
     requires { n ≤ 8 }
 {
-    let mut i: usize = 0;
-    while i < n {
-        word(to, all[i])?;
-        i += 1;
+    for &w in &all[..n] {
+        word(to, w)?;
     }
     Ok(())
 }

@@ -1,14 +1,20 @@
-// What is wrong with a table that is refused, in words. The number is the library's; here its entry is looked for. Each function answers
-// the place behind what it put.
+// What is wrong with a table that is refused, in words. The rule is the library's; here the first entry that breaks it is looked for.
+// Each function answers the place behind what it put; what the room does not hold is cut off.
 ghost use Rattle.std.specs.Prelude.{◌≤◌};
 
 use text::{find, line, number};
 
-// What stands at an entry.
+// A card's memory, and the address of its table.
 #[derive(Clone, Copy)]
-enum Entry {
+pub(crate) struct Card<'a> {
+    pub(crate) memory: &'a [u8],
+    pub(crate) table: u16,
+}
+
+// Why an entry is not sound: that the table ends there too.
+#[derive(Clone, Copy, Debug, PartialEq, Eq)]
+enum Fault {
     End,
-    Sound,
     Outside,
     Cut,
     Mark(u8),
@@ -29,72 +35,63 @@ struct Bits {
 
 // A byte that is not there counts as 0.
 fn byte_at(memory: &[u8], at: usize) -> u8 {
-    if memory.len() <= at {
-        return 0;
+    memory.get(at).copied().unwrap_or(0)
+}
+
+fn has_string(bytes: &[u8]) -> bool {
+    bytes.iter().any(|&b| b == 0)
+}
+
+fn has_two(bytes: &[u8]) -> bool {
+    match bytes.iter().position(|&b| b == 0) {
+        Some(n) => has_string(find::rest(bytes, n + 1)),
+        None => false,
     }
-    memory[at]
 }
 
-pub(crate) fn pair(low: u8, high: u8) -> u16 {
-    low as u16 + 256 * high as u16
-}
-
-fn has_string(memory: &[u8], at: usize) -> bool {
-    let from = text::least(at, memory.len());
-    let rest = &memory[from..];
-    find::bytes_before(rest, 0) < rest.len()
-}
-
-fn has_two(memory: &[u8], at: usize) -> bool {
-    let from = text::least(at, memory.len());
-    let rest = &memory[from..];
-    let n = find::bytes_before(rest, 0);
-    if rest.len() <= n {
-        return false;
-    }
-    has_string(rest, n + 1)
-}
-
-fn field(memory: &[u8], p: u16) -> Entry {
-    let at = p as usize;
+fn field(memory: &[u8], at: usize) -> Option<Fault>
+    requires { at ≤ 65535 }
+{
     let kind = byte_at(memory, at + 2);
     let direction = byte_at(memory, at + 3);
-    if !has_two(memory, at + 14) {
-        return Entry::Cut;
+    if !has_two(find::rest(memory, at + 14)) {
+        return Some(Fault::Cut);
     }
     if 7 < kind {
-        return Entry::Type(kind);
+        return Some(Fault::Type(kind));
     }
-    if (direction != 0x00) & (direction != 0x40) & (direction != 0x80) {
-        return Entry::Direction(direction);
+    match direction {
+        0x00 | 0x40 | 0x80 => None,
+        _ => Some(Fault::Direction(direction)),
     }
-    Entry::Sound
 }
 
-fn mode(memory: &[u8], p: u16) -> Entry {
-    let at = p as usize;
+fn mode(memory: &[u8], at: usize) -> Option<Fault>
+    requires { at ≤ 65535 }
+{
     let kind = byte_at(memory, at + 2);
-    if !has_string(memory, at + 4) {
-        return Entry::Cut;
+    if !has_string(find::rest(memory, at + 4)) {
+        return Some(Fault::Cut);
     }
     if 1 < kind {
-        return Entry::Mode(kind);
+        return Some(Fault::Mode(kind));
     }
-    Entry::Sound
+    None
 }
 
-fn entry_at(memory: &[u8], p: u16) -> Entry {
-    if p == 0 {
-        return Entry::End;
+fn record_fault(memory: &[u8], at: usize) -> Option<Fault>
+    requires { at ≤ 65535 }
+{
+    if at == 0 {
+        return Some(Fault::End);
     }
-    if memory.len() <= p as usize {
-        return Entry::Cut;
+    if memory.len() <= at {
+        return Some(Fault::Cut);
     }
-    let mark = byte_at(memory, p as usize);
-    match mark {
-        0xA0 => field(memory, p),
-        0xB0 => mode(memory, p),
-        _ => Entry::Mark(mark),
+    match memory[at] {
+        0xA0 => field(memory, at),
+        0xB0 => mode(memory, at),
+        mark => Some(Fault::Mark(mark)),
     }
 }
 
@@ -105,17 +102,19 @@ fn place_of(table: u16, k: u16) -> usize
     table as usize + 2 * k as usize
 }
 
-fn record_of(memory: &[u8], table: u16, k: u16) -> u16 {
-    let at = place_of(table, k);
-    pair(byte_at(memory, at), byte_at(memory, at + 1))
+fn record_of(card: Card, k: u16) -> usize
+    ensures { result ≤ 65535 }
+{
+    let at = place_of(card.table, k);
+    u16::from_le_bytes([byte_at(card.memory, at), byte_at(card.memory, at + 1)]) as usize
 }
 
 // For 41.
-fn unreadable(memory: &[u8], table: u16, k: u16) -> Entry {
-    if memory.len() < place_of(table, k) + 2 {
-        return Entry::Outside;
+fn unreadable(card: Card, k: u16) -> Option<Fault> {
+    if card.memory.len() < place_of(card.table, k) + 2 {
+        return Some(Fault::Outside);
     }
-    entry_at(memory, record_of(memory, table, k))
+    record_fault(card.memory, record_of(card, k))
 }
 
 fn bits_of(width: u8, counts: bool) -> u64
@@ -132,16 +131,18 @@ fn with_field(b: Bits, width: u8, direction: u8) -> Bits {
 }
 
 // A mode holds no bits.
-fn with_entry(b: Bits, memory: &[u8], p: u16) -> Bits {
-    let at = p as usize;
+fn with_entry(b: Bits, memory: &[u8], at: usize) -> Bits
+    requires { at ≤ 65535 }
+{
     if byte_at(memory, at) != 0xA0 {
         return b;
     }
     with_field(b, byte_at(memory, at + 1), byte_at(memory, at + 3))
 }
 
-fn width_of(memory: &[u8], p: u16) -> u8 {
-    let at = p as usize;
+fn width_of(memory: &[u8], at: usize) -> u8
+    requires { at ≤ 65535 }
+{
     if byte_at(memory, at) != 0xA0 {
         return 1;
     }
@@ -149,21 +150,23 @@ fn width_of(memory: &[u8], p: u16) -> u8 {
 }
 
 // For 42: `b` are the bits up to this entry, its own too.
-fn overfull(memory: &[u8], p: u16, b: Bits) -> Entry {
-    if p == 0 {
-        return Entry::End;
+fn overfull(memory: &[u8], at: usize, b: Bits) -> Option<Fault>
+    requires { at ≤ 65535 }
+{
+    if at == 0 {
+        return Some(Fault::End);
     }
-    let width = width_of(memory, p);
+    let width = width_of(memory, at);
     if (width == 0) | (64 < width) {
-        return Entry::Width(width);
+        return Some(Fault::Width(width));
     }
     if 96 < b.inputs {
-        return Entry::Inputs(b.inputs);
+        return Some(Fault::Inputs(b.inputs));
     }
     if 96 < b.outputs {
-        return Entry::Outputs(b.outputs);
+        return Some(Fault::Outputs(b.outputs));
     }
-    Entry::Sound
+    None
 }
 
 fn hex(out: &mut [u8], at: usize, label: &[u8], digits: usize, n: u64) -> usize {
@@ -177,97 +180,65 @@ fn bit_count(out: &mut [u8], at: usize, label: &[u8], n: u64, behind: &[u8]) -> 
     text::put(out, next, behind)
 }
 
-// What is wrong with the fields' bits.
-fn wide(out: &mut [u8], at: usize, e: Entry) -> usize {
-    match e {
-        Entry::Width(n) => bit_count(out, at, b"a field of ", n as u64, b" bits, not 1 to 64"),
-        Entry::Inputs(n) => bit_count(out, at, b"the inputs have ", n, b" bits with it, above 96"),
-        Entry::Outputs(n) => bit_count(
-            out,
-            at,
-            b"the outputs have ",
-            n,
-            b" bits with it, above 96",
-        ),
-        _ => text::put(out, at, b"the table ends"),
-    }
-}
-
-fn wrong(out: &mut [u8], at: usize, e: Entry) -> usize {
-    match e {
-        Entry::Outside => text::put(out, at, b"the entry is past the memory's end"),
-        Entry::Cut => text::put(out, at, b"the record goes past the memory's end"),
-        Entry::Mark(b) => hex(
-            out,
-            at,
-            b"neither a field nor a mode begins with ",
-            2,
-            b as u64,
-        ),
-        Entry::Type(b) => line::numbered(out, at, b"there is no type ", b as u64),
-        Entry::Direction(b) => hex(out, at, b"there is no direction ", 2, b as u64),
-        Entry::Mode(b) => line::numbered(out, at, b"there is no mode type ", b as u64),
-        _ => wide(out, at, e),
+fn wrong(out: &mut [u8], at: usize, fault: Fault) -> usize {
+    match fault {
+        Fault::End => text::put(out, at, b"the table ends"),
+        Fault::Outside => text::put(out, at, b"the entry is past the memory's end"),
+        Fault::Cut => text::put(out, at, b"the record goes past the memory's end"),
+        Fault::Mark(b) => {
+            let label = b"neither a field nor a mode begins with ";
+            hex(out, at, label, 2, b as u64)
+        }
+        Fault::Type(b) => line::numbered(out, at, b"there is no type ", b as u64),
+        Fault::Direction(b) => hex(out, at, b"there is no direction ", 2, b as u64),
+        Fault::Mode(b) => line::numbered(out, at, b"there is no mode type ", b as u64),
+        Fault::Width(n) => bit_count(out, at, b"a field of ", n as u64, b" bits, not 1 to 64"),
+        Fault::Inputs(n) => bit_count(out, at, b"the inputs have ", n, b" bits with it, above 96"),
+        Fault::Outputs(n) => {
+            let label = b"the outputs have ";
+            bit_count(out, at, label, n, b" bits with it, above 96")
+        }
     }
 }
 
 // The entry by its number, from 0, and where it and its record stand.
-fn placed(out: &mut [u8], at: usize, memory: &[u8], table: u16, k: u16) -> usize {
+fn placed(out: &mut [u8], at: usize, card: Card, k: u16) -> usize {
+    let place = place_of(card.table, k);
     let next = line::numbered(out, at, b": entry ", k as u64);
-    let next = hex(out, next, b" at ", 4, place_of(table, k) as u64);
-    if memory.len() < place_of(table, k) + 2 {
+    let next = hex(out, next, b" at ", 4, place as u64);
+    if card.memory.len() < place + 2 {
         return next;
     }
-    hex(
-        out,
-        next,
-        b", record at ",
-        4,
-        record_of(memory, table, k) as u64,
-    )
+    hex(out, next, b", record at ", 4, record_of(card, k) as u64)
 }
 
-fn said(out: &mut [u8], at: usize, memory: &[u8], table: u16, k: u16, e: Entry) -> usize {
-    let next = placed(out, at, memory, table, k);
+fn said(out: &mut [u8], at: usize, card: Card, k: u16, fault: Fault) -> usize {
+    let next = placed(out, at, card, k);
     let next = text::put(out, next, b": ");
-    let next = wrong(out, next, e);
+    let next = wrong(out, next, fault);
     text::put(out, next, b"\n")
 }
 
-fn goes_on(e: Entry) -> bool {
-    match e {
-        Entry::Sound => true,
-        _ => false,
-    }
-}
-
-pub(crate) fn first_unreadable(out: &mut [u8], at: usize, memory: &[u8], table: u16) -> usize {
-    let mut k: u16 = 0;
-    while k < 65535 {
-        let e = unreadable(memory, table, k);
-        if !goes_on(e) {
-            return said(out, at, memory, table, k, e);
+pub(crate) fn first_unreadable(out: &mut [u8], at: usize, card: Card) -> usize {
+    for k in 0..65535 {
+        if let Some(fault) = unreadable(card, k) {
+            return said(out, at, card, k, fault);
         }
-        k += 1;
     }
     at
 }
 
-pub(crate) fn first_overfull(out: &mut [u8], at: usize, memory: &[u8], table: u16) -> usize {
-    let mut k: u16 = 0;
-    let mut b = Bits {
+pub(crate) fn first_overfull(out: &mut [u8], at: usize, card: Card) -> usize {
+    let mut bits = Bits {
         inputs: 0,
         outputs: 0,
     };
-    while k < 65535 {
-        let p = record_of(memory, table, k);
-        let next = with_entry(b, memory, p);
-        b = next;
-        let e = overfull(memory, p, b);
-        if !goes_on(e) {
-            return said(out, at, memory, table, k, e);
+    for k in 0..65535 {
+        let record = record_of(card, k);
+        bits = with_entry(bits, card.memory, record);
+        if let Some(fault) = overfull(card.memory, record, bits) {
+            return said(out, at, card, k, fault);
         }
-        k += 1;
     }
     at
 }

@@ -1,7 +1,6 @@
 // A field's line: its name, and its reading and unit or, where it has no reading, its value and type. Each function answers the place behind
 // what it put.
-use lbp16::Refusal;
-use panel::reading::ReadingAnswer;
+use lbp16::{Refusal, Rule};
 use sserial::table::Field;
 use text::{find, line, number};
 
@@ -57,18 +56,18 @@ fn type_word(out: &mut [u8], at: usize, kind: u8) -> usize {
 }
 
 fn plain(out: &mut [u8], at: usize, kind: u8, value: u64) -> usize {
-    if (kind == 3) | (kind == 5) {
-        return number::signed(out, at, value);
+    match kind {
+        3 | 5 => number::signed(out, at, value),
+        _ => number::decimal(out, at, value),
     }
-    number::decimal(out, at, value)
 }
 
-// 44 is what the type and the width say.
+// NoReading is what the type and the width say.
 fn why(out: &mut [u8], at: usize, f: Field, r: Refusal) -> usize {
-    if r.number == 44 {
+    if r.rule == Rule::NoReading {
         return line::numbered(out, at, b", width ", f.width as u64);
     }
-    line::numbered(out, at, b", no reading: ", r.number as u64)
+    line::numbered(out, at, b", no reading: ", u64::from(r.rule.number()))
 }
 
 fn unmeasured(out: &mut [u8], at: usize, f: Field, value: u64, r: Refusal) -> usize {
@@ -86,11 +85,11 @@ fn answered(
     unit: &[u8],
     f: Field,
     value: u64,
-    answer: ReadingAnswer,
+    answer: Result<f32, Refusal>,
 ) -> usize {
     match answer {
-        ReadingAnswer::Reading(x) => measured(out, at, unit, x),
-        ReadingAnswer::Refused(r) => unmeasured(out, at, f, value, r),
+        Ok(x) => measured(out, at, unit, x),
+        Err(r) => unmeasured(out, at, f, value, r),
     }
 }
 
@@ -99,7 +98,7 @@ pub(crate) fn reading(
     memory: &[u8],
     f: Field,
     value: u64,
-    answer: ReadingAnswer,
+    answer: Result<f32, Refusal>,
 ) -> usize {
     let next = text::put(out, 0, find::string(memory, f.name));
     let next = answered(out, next, find::string(memory, f.unit), f, value, answer);

@@ -2,21 +2,17 @@
 // (2 bytes), a channel's three registers (4 bytes each), all low byte first, and then the card's memory.
 #![tactic(auto)]
 
+ghost use Rattle.std.specs.Prelude.{◌+◌, ◌≤◌, length};
+
 mod fault;
 mod line;
 
-use fault::pair;
-use lbp16::Refusal;
-use sserial::count::TableAnswer;
-use sserial::field::FieldAnswer;
+use fault::Card;
+use lbp16::Rule;
 use sserial::table::{Direction, Field};
 use sserial::{call, count, field};
 use std::io;
 use std::io::Write;
-
-fn quad(low: u16, high: u16) -> u32 {
-    low as u32 + 65536 * high as u32
-}
 
 fn put<W: Write>(to: &mut W, out: &[u8], n: usize) -> io::Result<()> {
     if n <= out.len() {
@@ -25,36 +21,30 @@ fn put<W: Write>(to: &mut W, out: &[u8], n: usize) -> io::Result<()> {
     Ok(())
 }
 
-fn put_fault(out: &mut [u8], at: usize, memory: &[u8], table: u16, number: u32) -> usize {
-    if number == 41 {
-        return fault::first_unreadable(out, at, memory, table);
+fn put_fault(out: &mut [u8], at: usize, card: Card, rule: Rule) -> usize {
+    match rule {
+        Rule::BadTable => fault::first_unreadable(out, at, card),
+        _ => fault::first_overfull(out, at, card),
     }
-    fault::first_overfull(out, at, memory, table)
 }
 
-fn refused<W: Write>(
-    to: &mut W,
-    out: &mut [u8],
-    memory: &[u8],
-    table: u16,
-    r: Refusal,
-) -> io::Result<()> {
-    let next = text::line::numbered(out, 0, b"the table is refused with ", r.number as u64);
-    let n = put_fault(out, next, memory, table, r.number);
+fn refused<W: Write>(to: &mut W, out: &mut [u8], card: Card, rule: Rule) -> io::Result<()> {
+    let number = u64::from(rule.number());
+    let next = text::line::numbered(out, 0, b"the table is refused with ", number);
+    let n = put_fault(out, next, card, rule);
     put(to, out, n)
 }
 
 fn told<W: Write>(
     to: &mut W,
     out: &mut [u8],
-    memory: &[u8],
-    table: u16,
+    card: Card,
     index: u64,
     f: Field,
     value: u64,
 ) -> io::Result<()> {
-    let reading = panel::fields::field_reading(memory, table, index, value);
-    let n = line::reading(out, memory, f, value, reading);
+    let reading = panel::fields::field_reading(card.memory, card.table, index, value);
+    let n = line::reading(out, card.memory, f, value, reading);
     put(to, out, n)
 }
 
@@ -62,41 +52,26 @@ fn told<W: Write>(
 fn shown<W: Write>(
     to: &mut W,
     out: &mut [u8],
-    memory: &[u8],
-    table: u16,
+    card: Card,
     index: u64,
     values: &[u64],
     k: usize,
 ) -> io::Result<usize> {
-    let answer = field::field(memory, table, index);
-    match answer {
-        FieldAnswer::Refused(_) => Ok(k),
-        FieldAnswer::Field(f) => {
-            if f.direction == 0x80 {
-                return Ok(k);
-            }
-            if values.len() <= k {
-                return Ok(k);
-            }
-            told(to, out, memory, table, index, f, values[k])?;
-            Ok(k + 1)
-        }
+    let Ok(f) = field::field(card.memory, card.table, index) else {
+        return Ok(k);
+    };
+    if (f.direction == 0x80) | (values.len() <= k) {
+        return Ok(k);
     }
+    told(to, out, card, index, f, values[k])?;
+    Ok(k + 1)
 }
 
 // A table has at most 96 fields each way.
-fn readings<W: Write>(
-    to: &mut W,
-    out: &mut [u8],
-    memory: &[u8],
-    table: u16,
-    values: &[u64],
-) -> io::Result<()> {
+fn readings<W: Write>(to: &mut W, out: &mut [u8], card: Card, values: &[u64]) -> io::Result<()> {
     let mut k: usize = 0;
-    let mut index: u64 = 0;
-    while index < 192 {
-        k = shown(to, out, memory, table, index, values, k)?;
-        index += 1;
+    for index in 0..192 {
+        k = shown(to, out, card, index, values, k)?;
     }
     Ok(())
 }
@@ -104,45 +79,52 @@ fn readings<W: Write>(
 fn unpacked<W: Write>(
     to: &mut W,
     out: &mut [u8],
-    memory: &[u8],
-    table: u16,
+    card: Card,
     registers: &[u32],
     values: &mut [u64],
 ) -> io::Result<()> {
-    call::unpack(memory, table, Direction::Inputs, 0, registers, values);
-    readings(to, out, memory, table, values)
+    // The values stay 0 where they are refused.
+    let _ = call::unpack(
+        card.memory,
+        card.table,
+        Direction::Inputs,
+        0,
+        registers,
+        values,
+    );
+    readings(to, out, card, values)
 }
 
 fn incoming<W: Write>(
     to: &mut W,
     out: &mut [u8],
-    memory: &[u8],
-    table: u16,
+    card: Card,
     n: usize,
     registers: &[u32],
     room: &mut [u64],
 ) -> io::Result<()> {
     if n <= room.len() {
-        return unpacked(to, out, memory, table, registers, &mut room[..n]);
+        return unpacked(to, out, card, registers, &mut room[..n]);
     }
     Ok(())
 }
 
-fn card<W: Write>(
+fn show_card<W: Write>(
     to: &mut W,
     out: &mut [u8],
-    memory: &[u8],
-    table: u16,
+    card: Card,
     registers: &[u32],
 ) -> io::Result<()> {
-    let answer = count::count_fields(memory, table);
-    match answer {
-        TableAnswer::Refused(r) => refused(to, out, memory, table, r),
-        TableAnswer::Fields { inputs, outputs: _ } => {
-            let mut room = [0u64; 96];
-            incoming(to, out, memory, table, inputs, registers, &mut room)
-        }
+    match count::count_fields(card.memory, card.table) {
+        Err(r) => refused(to, out, card, r.rule),
+        Ok(counts) => incoming(to, out, card, counts.inputs, registers, &mut [0; 96]),
     }
+}
+
+fn register(bytes: &[u8], at: usize) -> u32
+    requires { at + 4 ≤ length bytes.now }
+{
+    u32::from_le_bytes([bytes[at], bytes[at + 1], bytes[at + 2], bytes[at + 3]])
 }
 
 fn show<W: Write>(to: &mut W, out: &mut [u8], input: &[u8]) -> io::Result<()> {
@@ -150,10 +132,14 @@ fn show<W: Write>(to: &mut W, out: &mut [u8], input: &[u8]) -> io::Result<()> {
         return to.write_all(b"no table address and three registers\n");
     }
     let mut registers = [0u32; 24];
-    registers[0] = quad(pair(input[2], input[3]), pair(input[4], input[5]));
-    registers[1] = quad(pair(input[6], input[7]), pair(input[8], input[9]));
-    registers[2] = quad(pair(input[10], input[11]), pair(input[12], input[13]));
-    card(to, out, &input[14..], pair(input[0], input[1]), &registers)
+    registers[0] = register(input, 2);
+    registers[1] = register(input, 6);
+    registers[2] = register(input, 10);
+    let card = Card {
+        memory: &input[14..],
+        table: u16::from_le_bytes([input[0], input[1]]),
+    };
+    show_card(to, out, card, &registers)
 }
 
 fn usage(rt: &impl Print) -> io::Result<()> {
