@@ -5,7 +5,7 @@ ghost use Rattle.lbp16.specs.Word.{bit, fields_of, out_of_range, written, listed
 use crate::{Refusal, Rule};
 
 // The size code 0, 1, 2, 3 stands for elements of 1, 2, 4, 8 bytes.
-#[derive(Clone, Copy)]
+#[derive(Clone, Copy, Debug, PartialEq, Eq)]
 pub struct Fields {
     pub write: bool,
     pub address: bool,
@@ -34,7 +34,7 @@ pub fn fields_of(word: u16) -> Fields
 fn weighed(flag: bool, weight: u16) -> u16
     ensures { (result ≡ bit flag * weight) × (result ≤ weight) }
 {
-    if flag { weight } else { 0 }
+    u16::from(flag) * weight
 }
 
 fn out_of_range(f: Fields) -> bool

@@ -25,7 +25,7 @@ pub enum Which {
 }
 
 // The fields (all 0 where the word is cut off), the command's offset, and which of read, write or refusal it is.
-#[derive(Clone, Copy)]
+#[derive(Clone, Copy, Debug, PartialEq, Eq)]
 pub struct Found {
     pub fields: Fields,
     pub place: usize,
@@ -34,7 +34,7 @@ pub struct Found {
 
 // How far a command reaches: the slot of its pointer among the eight, the address used, where its first element stands in the
 // store or the info area, an element's bytes, those of the whole command and of its reply, and where it leaves the pointer.
-#[derive(Clone, Copy)]
+#[derive(Clone, Copy, Debug, PartialEq, Eq)]
 pub struct Reach {
     pub slot: usize,
     pub used: u32,
@@ -46,7 +46,7 @@ pub struct Reach {
 }
 
 // A command's fields and its reach.
-#[derive(Clone, Copy)]
+#[derive(Clone, Copy, Debug, PartialEq, Eq)]
 pub struct Command {
     pub fields: Fields,
     pub reach: Reach,
@@ -155,15 +155,12 @@ fn unlock_after(open: bool, count: u8, used: u32, stride: u32, data: &[u8]) -> b
     requires { stride ≤ 4 }
     ensures { result ≡ unlocked «open» (elements Kind.write status count used stride «data».now) }
 {
-    let n = count as usize;
     let step = stride as usize;
     let mut now_open = open;
     let mut address = used as usize;
-    let mut i: usize = 0;
-    while i < n {
+    for i in 0..count as usize {
         now_open = unlock_by_write(now_open, address, data, i * 2);
         address += step;
-        i += 1;
     }
     now_open
 }

@@ -17,7 +17,7 @@ use lbp16::word::Fields;
 use lbp16::{Rule, pointer, space, word};
 
 // What is found at a command, and its reach if it is not refused.
-#[derive(Clone, Copy)]
+#[derive(Clone, Copy, Debug, PartialEq, Eq)]
 pub(crate) struct Judged {
     pub(crate) found: Found,
     pub(crate) reach: Reach,
