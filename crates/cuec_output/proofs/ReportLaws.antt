@@ -6,12 +6,14 @@ use native.Mathlib.Omega.{arith}
 use lib.ListN.{length, take, drop, replicate, length-replicate, take-append-drop}
 use lib.Seq.{take_at}
 use borrow.Author.Tests.{lt-ltb, le-ltb}
-use Rattle.lbp16.specs.Answer.{Answer}
+use Rattle.lbp16.specs.Answer.{Answer, rule_number}
+use Rattle.lbp16.proofs.RuleLaws.{rule_number_range}
 use Rattle.lbp16.specs.declared.Refusal.{Refusal}
 use Rattle.packet.specs.Step.{Step}
 use Rattle.cue.specs.Records.{refused, records, records_of}
 use Rattle.cue.specs.Compile.{compiled, compiled_to, compile_listed, left, output}
-use Rattle.cue.specs.declared.CompileAnswer.{CompileAnswer}
+use Rattle.cue.specs.declared.Packed.{Packed}
+use Rattle.std.specs.Prelude.{Result, Ok, Err}
 use Rattle.cue.proofs.CompileLaws.{accepted-list, answers-alike, outputs-alike, room-beyond, refusal_changes_nothing}
 use Rattle.cue.proofs.CompileLaws.{accepted_exactly, output-at_front}
 use Rattle.cue.proofs.OutputLaws.{output-bound}
@@ -69,7 +71,7 @@ module _ (list room : List ℕ) (few : length list ≤ most_bytes) (size : lengt
       (sym (outputs-alike list room zeros b n alike e))
 
   -- as the code comes to it: `a` is the compiler's answer, `room'` the room after it
-  module _ (a : CompileAnswer) (room'' : List ℕ) (done : left a room'' ≡ compiled list room) where
+  module _ (a : Result Packed Refusal) (room'' : List ℕ) (done : left a room'' ≡ compiled list room) where
     e : compile_listed a ≡ (compiled list room).answer
     unfolding left
     e = ap (λ c. c.answer) done
@@ -78,9 +80,11 @@ module _ (list room : List ℕ) (few : length list ≤ most_bytes) (size : lengt
     unfolding left
     w = ap (λ c. c.room) done
 
-    pub output-reported : (b n : ℕ) → a ≡ CompileAnswer.Compiled b n → Reported list room room'' b
+    pub output-reported : (p : Packed) → a ≡ Ok p → Reported list room room'' p.bytes
     unfolding compile_listed
-    output-reported b n d =
+    output-reported p d =
+        let b = p.bytes in
+        let n = p.packets in
         let f : (compiled list room).answer ≡ Answer.accepted (b ∷ n ∷ []) = sym e ∙ rw d refl in
         let k = accepted-list list room _ f in
         let same = k.same in
@@ -90,15 +94,15 @@ module _ (list room : List ℕ) (few : length list ≤ most_bytes) (size : lengt
         (rw w (sym s))
         (rw w (room-beyond list room b n f))
 
-    pub refusal-reported : (r : Refusal) (after : List ℕ) (m : ℕ) → r.number < 2 ^ 64 → r.place < 2 ^ 64
-        → a ≡ CompileAnswer.Refused r → filled m after ≡ put_at (refused_line r.number r.place) 0 room''
-        → Reported list room after m
+    pub refusal-reported : (r : Refusal) (number : ℕ) (after : List ℕ) (m : ℕ) → number ≡ rule_number r.rule → r.place < 2 ^ 64
+        → a ≡ Err r → filled m after ≡ put_at (refused_line number r.place) 0 room'' → Reported list room after m
     unfolding compile_listed
-    refusal-reported r after m big far d p =
-        let f : (compiled list room).answer ≡ Answer.refused r.number r.place = sym e ∙ rw d refl in
+    refusal-reported r number after m same-number far d p =
+        let f : (compiled list room).answer ≡ Answer.refused (rule_number r.rule) r.place = sym e ∙ rw d refl in
         let same : room'' ≡ room = w ∙ refusal_changes_nothing list room _ _ f in
-        let fits = refused-length r.number r.place big far in
-        rw (said-refused _ _ f) (rw same at p ∙ put_front (refused_line r.number r.place) room (omega arith))
+        let range = rule_number_range r.rule in
+        let fits = refused-length (rule_number r.rule) r.place (omega (arith, range.1)) far in
+        rw (said-refused _ _ f) (rw (same, same-number) at p ∙ put_front (refused_line (rule_number r.rule) r.place) room (omega arith))
 
 -- What is said by the list alone. A list is one or the other, and a bad record's number is 21 to 24, so 26 is never said.
 module _ (list : List ℕ) (few : length list ≤ most_bytes) where

@@ -5,7 +5,6 @@ ghost use Rattle.std.specs.Prelude.{◌≡◌};
 ghost use Rattle.text.specs.Room.{filled, text_left};
 ghost use Rattle.cuec_output.specs.Report.{said};
 
-use cue::CompileAnswer;
 use text::line;
 
 // The most bytes that a list may have.
@@ -19,7 +18,7 @@ pub fn report(input: &[u8], room: &mut [u8; 32768]) -> usize
         return line::too_long(room, 0);
     }
     match cue::compile(input, room) {
-        CompileAnswer::Compiled { bytes, packets: _ } => bytes,
-        CompileAnswer::Refused(r) => line::refused(room, 0, r.number as u64, r.place),
+        Ok(packed) => packed.bytes,
+        Err(r) => line::refused(room, 0, r.rule.number() as u64, r.place),
     }
 }

@@ -3,19 +3,10 @@
 #![tactic(auto)]
 
 use cuefix_output::{Request, Told, lines};
-use input::Taken;
 use salvage::scan::Counts;
 use std::env::Env;
 use std::io;
 use std::io::{Read, Write};
-
-fn take<R: Read>(request: Request, from: &mut R, bytes: &mut [u8]) -> Taken {
-    let most = cuefix_output::most_read(request);
-    if bytes.len() < most {
-        return Taken::Failed;
-    }
-    input::all(from, &mut bytes[..most])
-}
 
 // The record before a stretch, and the stretch.
 fn put_stretch<W: Write>(
@@ -24,13 +15,13 @@ fn put_stretch<W: Write>(
     from: usize,
     start: u64,
     n: u64,
-    line: &mut [u8; 64],
 ) -> io::Result<()> {
     let mut room = [0u8; 128];
     let k = lines::look(&mut room, list, from, start as usize);
     input::put(to, &room, k)?;
-    let k = lines::skipped(line, start, n);
-    input::put(to, line, k)
+    let mut line = [0u8; 64];
+    let k = lines::skipped(&mut line, start, n);
+    input::put(to, &line, k)
 }
 
 // The place behind a stretch of a list of at most 1,000,000 bytes.
@@ -39,74 +30,35 @@ fn behind(start: u64, n: u64) -> usize {
 }
 
 // The lines of each entry, written as they are made.
-fn put_skipped<W: Write>(
-    to: &mut W,
-    list: &[u8],
-    log: &[u64],
-    line: &mut [u8; 64],
-) -> io::Result<()> {
-    let mut rest = log;
+fn put_skipped<W: Write>(to: &mut W, list: &[u8], log: &[u64]) -> io::Result<()> {
     let mut from: usize = 0;
-    while 2 <= rest.len() {
-        put_stretch(to, list, from, rest[0], rest[1], line)?;
-        from = behind(rest[0], rest[1]);
-        rest = &rest[2..];
+    for &[start, n] in log.as_chunks::<2>().0 {
+        put_stretch(to, list, from, start, n)?;
+        from = behind(start, n);
     }
     Ok(())
 }
 
-fn put_kept<W: Write>(
-    to: &mut W,
-    records: usize,
-    bytes: usize,
-    line: &mut [u8; 64],
-) -> io::Result<()> {
-    let n = lines::kept(line, records as u64, bytes as u64);
-    input::put(to, line, n)
-}
-
-fn put_account<W: Write>(
-    to: &mut W,
-    list: &[u8],
-    log: &[u64],
-    counts: Counts,
-    line: &mut [u8; 64],
-) -> io::Result<()> {
+fn put_account<W: Write>(to: &mut W, list: &[u8], log: &[u64], counts: Counts) -> io::Result<()> {
     let entries = counts.entries;
     if entries <= log.len() / 2 {
-        put_skipped(to, list, &log[..2 * entries], line)?;
+        put_skipped(to, list, &log[..2 * entries])?;
     }
-    put_kept(to, counts.records, counts.bytes, line)
+    let mut line = [0u8; 64];
+    let n = lines::kept(&mut line, counts.records as u64, counts.bytes as u64);
+    input::put(to, &line, n)
 }
 
-fn put_usage<W: Write>(to: &mut W, line: &mut [u8; 64]) -> io::Result<()> {
-    let n = lines::usage(line);
-    input::put(to, line, n)
+fn put_usage<W: Write>(to: &mut W) -> io::Result<()> {
+    let mut line = [0u8; 64];
+    let n = lines::usage(&mut line);
+    input::put(to, &line, n)
 }
 
-fn put_too_long<W: Write>(to: &mut W, line: &mut [u8; 64]) -> io::Result<()> {
-    let n = lines::too_long(line);
-    input::put(to, line, n)
-}
-
-fn put_told<W: Write, E: Write>(
-    to: &mut W,
-    beside: &mut E,
-    told: Told,
-    list: &[u8],
-    room: &[u8],
-    log: &[u64],
-    line: &mut [u8; 64],
-) -> io::Result<()> {
-    match told {
-        Told::Usage => put_usage(to, line),
-        Told::TooLong => put_too_long(to, line),
-        Told::List(counts) => {
-            input::put(to, room, counts.bytes)?;
-            put_account(beside, list, log, counts, line)
-        }
-        Told::Account(counts) => put_account(to, list, log, counts, line),
-    }
+fn put_too_long<W: Write>(to: &mut W) -> io::Result<()> {
+    let mut line = [0u8; 64];
+    let n = lines::too_long(&mut line);
+    input::put(to, &line, n)
 }
 
 fn answer<W: Write, E: Write>(
@@ -114,12 +66,23 @@ fn answer<W: Write, E: Write>(
     beside: &mut E,
     request: Request,
     list: &[u8],
-    room: &mut [u8; 1000000],
-    log: &mut [u64; 285716],
-    line: &mut [u8; 64],
 ) -> io::Result<()> {
-    let told = cuefix_output::answer(request, list, room, log);
-    put_told(to, beside, told, list, room, log, line)
+    let mut room = [0; 1000000];
+    let mut log = [0; 285716];
+    match cuefix_output::answer(request, list, &mut room, &mut log) {
+        Told::Usage => put_usage(to),
+        Told::TooLong => put_too_long(to),
+        Told::List(counts) => {
+            input::put(to, &room, counts.bytes)?;
+            put_account(beside, list, &log, counts)
+        }
+        Told::Account(counts) => put_account(to, list, &log, counts),
+    }
+}
+
+fn take<R: Read>(request: Request, from: &mut R, bytes: &mut [u8]) -> io::Result<usize> {
+    let most = cuefix_output::most_read(request).min(bytes.len());
+    input::all(from, &mut bytes[..most])
 }
 
 // `bytes` has room for one byte more than a list may have, so that a longer one is noticed.
@@ -129,15 +92,11 @@ fn serve<R: Read, W: Write, E: Write>(
     beside: &mut E,
     request: Request,
     bytes: &mut [u8; 1000001],
-    room: &mut [u8; 1000000],
-    log: &mut [u64; 285716],
-    line: &mut [u8; 64],
 ) -> io::Result<()> {
-    let taken = take(request, from, bytes);
-    match taken {
-        Err(_) => input::cannot_read(beside),
-        Ok(n) => answer(to, beside, request, input::front(bytes, n), room, log, line),
-    }
+    let Ok(n) = take(request, from, bytes) else {
+        return input::cannot_read(beside);
+    };
+    answer(to, beside, request, input::front(bytes, n))
 }
 
 fn main(rt: HostRuntime) -> io::Result<()> {
@@ -150,8 +109,5 @@ fn main(rt: HostRuntime) -> io::Result<()> {
         &mut rt.stderr(),
         request,
         &mut [0; 1000001],
-        &mut [0; 1000000],
-        &mut [0; 285716],
-        &mut [0; 64],
     )
 }

@@ -62,19 +62,24 @@ leaves_alike : {t u : Told} {room room₁ log log₁ : List ℕ} → t ≡ u →
     → leaves t room log ≡ leaves u room₁ log₁
 leaves_alike e f g = λ i. record { told = e i; room = f i; log = g i }
 
+pub list-asked : (w : Request) → (w ≡ Request.Usage → ⊥) → (w ≡ Request.Log → ⊥) → w ≡ Request.List
+list-asked Request.Usage e f = absurd (e refl)
+list-asked Request.List e f = refl
+list-asked Request.Log e f = absurd (f refl)
+
+-- a list that is too long, whatever is done with it
+pub answered-too_long : (w : Request) (list room log : List ℕ) → (w ≡ Request.Usage → ⊥) → most_bytes < length list
+    → leaves Told.TooLong room log ≡ answered w list room log
+unfolding answered
+answered-too_long Request.Usage list room log e h = absurd (e refl)
+answered-too_long Request.List list room log e h = rw (lt-ltb most_bytes (length list) h) refl
+answered-too_long Request.Log list room log e h = rw (lt-ltb most_bytes (length list) h) refl
+
 -- what is asked for decides
 module _ (w : Request) (list room log : List ℕ) where
   pub usage_answered : w ≡ Request.Usage → leaves Told.Usage room log ≡ answered w list room log
   unfolding answered
   usage_answered e = rw e refl
-
-  pub list-too_long : w ≡ Request.List → most_bytes < length list → leaves Told.TooLong room log ≡ answered w list room log
-  unfolding answered
-  list-too_long e h = rw (e, lt-ltb most_bytes (length list) h) refl
-
-  pub log-too_long : w ≡ Request.Log → most_bytes < length list → leaves Told.TooLong room log ≡ answered w list room log
-  unfolding answered
-  log-too_long e h = rw (e, lt-ltb most_bytes (length list) h) refl
 
   module _ (room₁ log₁ : List ℕ) (c : Counts) (few : length list ≤ most_bytes) (s : Saved list room log room₁ log₁ c) where
     pub list-answered : w ≡ Request.List → leaves (Told.List c) room₁ log₁ ≡ answered w list room log

@@ -1,21 +1,16 @@
 -- Laws of the record before a stretch: the walk over the records, as the code makes it, and the bytes between two places.
 use Prim.Native.Nat.{ℕ, zero, suc, ◌+◌, ◌-◌, min, ◌≤◌, ◌<◌}
-use mathlib.Core.Path.{◌≡◌, refl, sym, ap, ◌∙◌}
+use mathlib.Core.Path.{◌≡◌, refl, sym, ◌∙◌}
 use mathlib.Core.List.{List, []}
 use native.Mathlib.Omega.{arith}
 use native.Mathlib.Decide.{dec_le}
 use lib.ListN.{length, take, drop, length-drop, drop_of_length-le}
 use lib.Seq.{take_all}
 use borrow.Author.Tests.{lt-ltb, le-ltb}
-use Rattle.packet.specs.Command.{pick_kind}
-use Rattle.packet.proofs.SliceLaws.{rest-within}
-use Rattle.cue.specs.Records.{record_bytes, record_at}
-use Rattle.cue.specs.declared.records.Record.{Record}
 use Rattle.text.specs.Room.{filled, put_at}
 use Rattle.text.proofs.RoomLaws.{put-none}
 use Rattle.salvage.specs.Salvage.{size_at}
 use Rattle.salvage.proofs.ScanLaws.{size-some}
-use Rattle.salvage.proofs.SpanLaws.{size_is}
 use Rattle.cuefix_output.specs.Account.{record_line, last_from, look_line}
 
 -- What holds before a record: the last from here on is the last from the start on.
@@ -56,11 +51,6 @@ walking_last {list} {from} {to} {at} {size} w h = go w.fuel w.same
     go : (k : ℕ) → last_from k list at to ≡ last_from to list from to → at ≡ last_from to list from to
     go zero s = s
     go (suc k) s = rw (← w.here, le-ltb size (to - at) h) at s
-
--- a record's size, as the code finds it
-pub size-here : (list : List ℕ) (at from : ℕ) (r : Record) (n : ℕ) → from ≡ min at (length list)
-    → r ≡ record_at (take (length list - from) (drop from list)) → n ≡ record_bytes (pick_kind r.write) → n ≡ size_at (drop at list)
-size-here list at from r n e f g = size_is _ r n f g ∙ ap size_at (rest-within list at from e)
 
 none-taken : (m n : ℕ) → take {A = ℕ} m [] ≡ take n []
 none-taken zero zero = refl

@@ -15,7 +15,7 @@ ghost use Rattle.cuefix_output.specs.Inside.{Taken, Saved};
 const MOST: usize = 1000000;
 
 // What the program is asked for.
-#[derive(Clone, Copy)]
+#[derive(Clone, Copy, Debug, PartialEq, Eq)]
 pub enum Request {
     List,
     Log,
@@ -32,6 +32,7 @@ pub enum Told {
     Account(Counts),
 }
 
+#[tactic(auto, unfolding(crate::specs::Account::is_log, text::specs::Number::ascii))]
 fn is_log(word: &[u8]) -> bool
     ensures { result ≡ is_log word.now }
 {
@@ -39,26 +40,25 @@ fn is_log(word: &[u8]) -> bool
 }
 
 // `count`: how many words the program was started with, its name among them; `word`: the first behind it.
+#[tactic(auto, unfolding(crate::specs::Account::requested))]
 pub fn request_of(count: usize, word: &[u8]) -> Request
     ensures { result ≡ requested count word.now }
 {
-    if count == 1 {
-        return Request::List;
+    match count {
+        1 => Request::List,
+        2 if is_log(word) => Request::Log,
+        _ => Request::Usage,
     }
-    if (count == 2) & is_log(word) {
-        return Request::Log;
-    }
-    Request::Usage
 }
 
 // The bytes of standard input that are looked at: one more than a list may have, and none where nothing is done with them.
+#[tactic(auto, unfolding(crate::specs::Account::most_read))]
 pub fn most_read(request: Request) -> usize
     ensures { result ≡ most_read request }
 {
     match request {
         Request::Usage => 0,
-        Request::List => 1000001,
-        Request::Log => 1000001,
+        Request::List | Request::Log => 1000001,
     }
 }
 
@@ -67,7 +67,8 @@ fn save(input: &[u8], room: &mut [u8], log: &mut [u64]) -> Counts
     ensures { Saved input.now room.old log.old room.new log.new result }
 {
     let counts = scan::count(input);
-    salvage::salvage(input, room, log);
+    // Never refused: the rooms suffice for every list that is taken.
+    let _ = salvage::salvage(input, room, log);
     counts
 }
 
@@ -79,19 +80,15 @@ pub fn answer(
 ) -> Told
     ensures { leaves result room.new log.new ≡ answered request input.now room.old log.old }
 {
+    if let Request::Usage = request {
+        return Told::Usage;
+    }
+    if MOST < input.len() {
+        return Told::TooLong;
+    }
+    let counts = save(input, room, log);
     match request {
-        Request::Usage => Told::Usage,
-        Request::List => {
-            if MOST < input.len() {
-                return Told::TooLong;
-            }
-            Told::List(save(input, room, log))
-        }
-        Request::Log => {
-            if MOST < input.len() {
-                return Told::TooLong;
-            }
-            Told::Account(save(input, room, log))
-        }
+        Request::Log => Told::Account(counts),
+        _ => Told::List(counts),
     }
 }

@@ -6,7 +6,7 @@ ghost use Rattle.salvage.specs.Salvage.{size_at};
 ghost use Rattle.cuefix_output.specs.Account.{usage_line, skipped_line, kept_line, record_line, last_from, look_line};
 
 use cue::records;
-use text::{line, number};
+use text::{find, line, number};
 
 pub fn usage(room: &mut [u8; 64]) -> usize
     ensures { filled result room.new ≡ text_left usage_line room.old }
@@ -37,8 +37,7 @@ pub fn kept(room: &mut [u8; 64], records: u64, bytes: u64) -> usize
 fn size_at(list: &[u8], at: usize) -> usize
     ensures { result ≡ size_at (drop at list.now) }
 {
-    let from = text::least(at, list.len());
-    let r = records::record_at(&list[from..]);
+    let r = records::record_at(find::rest(list, at));
     records::record_bytes(r.write)
 }
 
@@ -48,6 +47,7 @@ fn last_record(list: &[u8], from: usize, to: usize) -> usize
 {
     let mut at = from;
     let mut size = size_at(list, at);
+    // Where a record ends is known only once it is read.
     while size < to - at {
         at += size;
         size = size_at(list, at);

@@ -2,7 +2,6 @@
 // refusal's line if there is one.
 #![tactic(auto)]
 
-use input::Taken;
 use parts::STATE_BYTES;
 use std::io;
 use std::io::{Read, Write};
@@ -27,26 +26,21 @@ fn serve<R: Read, W: Write, E: Write>(
     beside: &mut E,
     from: &mut R,
     to: &mut W,
-    state: &mut [u8; STATE_BYTES],
-    part: &mut [u8; PART],
-    room: &mut [u8; ROOM],
 ) -> io::Result<()> {
+    let mut state = [0; STATE_BYTES];
+    let mut part = [0; PART];
+    let mut room = [0; ROOM];
     let mut at: usize = 0;
+    // How far a turn goes is known only once it has read.
     while at < MOST {
-        let taken = input::some(from, part);
-        match taken {
-            Err(_) => return input::cannot_read(beside),
-            Ok(n) => {
-                let more = feed(to, state, input::front(part, n), room)?;
-                if n == 0 {
-                    return Ok(());
-                }
-                if !more {
-                    return Ok(());
-                }
-                at += n;
-            }
+        let Ok(n) = input::some(from, &mut part) else {
+            return input::cannot_read(beside);
+        };
+        let more = feed(to, &mut state, input::front(&part, n), &mut room)?;
+        if (n == 0) | !more {
+            return Ok(());
         }
+        at += n;
     }
     Ok(())
 }
@@ -57,12 +51,5 @@ fn main(rt: HostRuntime) -> io::Result<()> {
             "usage: cuepipe < LIST\nThe packets of a cue list of any length, each as it is finished.\n",
         );
     }
-    serve(
-        &mut rt.stderr(),
-        &mut rt.stdin(),
-        &mut rt.stdout(),
-        &mut [0; STATE_BYTES],
-        &mut [0; PART],
-        &mut [0; ROOM],
-    )
+    serve(&mut rt.stderr(), &mut rt.stdin(), &mut rt.stdout())
 }
