@@ -6,7 +6,7 @@ use mathlib.Core.Bool.{true, false, cond}
 use native.Mathlib.Omega.{arith}
 use native.Mathlib.Nat.{le_refl, le_trans}
 use lib.ListN.{length, take, drop, get_or, length-drop, drop_of_length-le, take-append-drop}
-use lib.Dec.{eqb, ltb}
+use lib.Dec.{ltb}
 use Rattle.lbp16.specs.Space.{space_of, area_row, store_bytes}
 use Rattle.lbp16.specs.Pointer.{pointer_of, pointers_of, slot_of}
 use Rattle.lbp16.proofs.PointerLaws.{slot_read}
@@ -24,7 +24,7 @@ use Rattle.packet.specs.Command.{kind_of, row_of, header_bytes, command_bytes, s
 use Rattle.packet.specs.Command.{handed, steps_at}
 use Rattle.packet.proofs.CommandLaws.{stride_le}
 use Rattle.packet.specs.Inside.{Passed}
-use Rattle.card.specs.Inside.{LetPass, Within, moved, laid, span_at}
+use Rattle.card.specs.Inside.{IsWidth, LetPass, Within, moved, laid, span_at}
 use Rattle.card.specs.declared.run.Span.{Span}
 use Rattle.card.proofs.CopyLaws.{within_block}
 use Rattle.card.proofs.StepBlockLaws.{element-wide, within-bytes, writes-done, writes-read_nothing}
@@ -70,32 +70,30 @@ unfolding reach_from span_at stride
 span-is f r step e p rest h = rw (e, h) refl
 
 -- the bytes that a command's elements are moved in
-abbrev pub wide_of : ℕ → ℕ
-wide_of n = cond (eqb n 4) 4 2
 
 -- What moving the elements asks of the list that holds them d apart, and of one that holds them in a row.
-pub record Asked (n w i d bytes j row : ℕ) (line : ℕ) : Type 0 where
+pub record Asked (n w i d bytes j line : ℕ) : Type 0 where
   pub step : d ≤ 4
-  pub width : w ≤ 4
-  pub spread : Within n i d row bytes
-  pub lined : Within n j w row line
+  pub width : IsWidth w
+  pub spread : Within n i d w bytes
+  pub lined : Within n j w w line
 
 module _ (p : Pointers) (f : Fields) (rest : List ℕ) (pass : LetPass p f rest) (s : Span) (e : s ≡ span_at p f rest) where
   h : Passed p pass.open? pass.reply f rest
   h = pass.passed
 
-  wide : wide_of (row_of f).element ≡ (row_of f).element
+  wide : IsWidth (row_of f).element
   unfolding row_of row_by
-  wide = element-wide _ _ h.present
+  wide = sym (element-wide _ _ h.present)
 
   asked : (bytes j line : ℕ) → (row_of f).place + (row_of f).bytes ≤ bytes → j + f.count * (row_of f).element ≤ line
-      → Asked s.count s.element s.at s.step bytes j (wide_of s.element) line
+      → Asked s.count s.element s.at s.step bytes j line
   unfolding steps_at span_at row_of
   asked bytes j line b l =
-      rw (e, wide)
+      rw e
       (record {
         step = le_trans (stride_le f) (row_le f);
-        width = row_le f;
+        width = wide;
         spread = within-bytes _ _ _ _ _ _ _ h.inside b;
         lined = within_block _ _ _ _ l;
       })
@@ -107,33 +105,33 @@ module _ (p : Pointers) (f : Fields) (rest : List ℕ) (pass : LetPass p f rest)
     fits : f.count * (row_of f).element ≤ length tail
     fits = rw (answered-read f k) at l
 
-    pub read_asked : Asked s.count s.element s.at s.step (length src) 0 (wide_of s.element) (length tail)
+    pub read_asked : Asked s.count s.element s.at s.step (length src) 0 (length tail)
     read_asked = asked (length src) 0 (length tail) (rw q (source-whole _ f rest store b)) (omega (arith, fits))
 
     pub read_done : (out : List ℕ)
-        → out ≡ moved s.count (wide_of s.element) src s.at s.step tail 0 s.element
+        → out ≡ moved s.count s.element src s.at s.step tail 0 s.element
         → out ≡ values_read (steps_at p f rest) store
         ++ drop (length (values_read (steps_at p f rest) store)) tail
     unfolding steps_at span_at row_of
     read_done out o =
         let (count, same) =
         reads-done (kind_of f) (space_of f.space) (write-kind f ∙ k) f.count _ _ (handed p f rest) store [] tail
-        (rw (e, wide, q) at read_asked.spread)
+        (rw (e, q) at read_asked.spread)
         fits in
-        rw count (o ∙ rw (e, wide, q) same)
+        rw count (o ∙ rw (e, q) same)
 
   module _ (hd : ℕ) (k : f.write ≡ true) (q : hd ≡ header_bytes f) where
     pub write-asked : (bytes : ℕ) → bytes ≡ store_bytes
-        → Asked s.count s.element s.at s.step bytes hd (wide_of s.element) (length rest)
+        → Asked s.count s.element s.at s.step bytes hd (length rest)
     unfolding command_bytes row_of row_by is_info area_row
     write-asked bytes b =
         asked bytes hd (length rest) (rw (b, kind-write f k) (row-end (space_of f.space)))
         (rw q (rw (carried-write f k) at h.whole))
 
-    pub write_done : (store out : List ℕ) → out ≡ moved s.count (wide_of s.element) rest hd s.element store s.at s.step
+    pub write_done : (store out : List ℕ) → out ≡ moved s.count s.element rest hd s.element store s.at s.step
         → out ≡ store_after (steps_at p f rest) store
     unfolding steps_at span_at handed row_of row_by is_info area_row
-    write_done store out o = rw (kind-write f k) (o ∙ rw (e, wide, q, kind-write f k) (writes-done _ _ _ _ _ rest store))
+    write_done store out o = rw (kind-write f k) (o ∙ rw (e, q, kind-write f k) (writes-done _ _ _ _ _ rest store))
 
 -- A read leaves the store, and a write reads nothing.
 pub read_keeps : (p : Pointers) (f : Fields) (rest store : List ℕ) → f.write ≡ false

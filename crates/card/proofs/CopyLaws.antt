@@ -2,7 +2,7 @@
 use Prim.Native.Nat.{ℕ, zero, suc, ◌+◌, ◌-◌, ◌*◌, ◌/◌, ◌%◌, ◌≤◌}
 use mathlib.Core.Path.{◌≡◌, refl, sym, ap, ◌∙◌}
 use mathlib.Core.List.{List, [], ◌∷◌, ◌++◌}
-use mathlib.Core.Bool.{Bool, true, false, not, cond, ◌&&◌}
+use mathlib.Core.Bool.{Bool, true, false, cond, ◌&&◌}
 use lib.Dec.{eqb}
 use borrow.Author.Tests.{eqb-true}
 use Rattle.lbp16.proofs.BoolLaws.{and_true}
@@ -13,21 +13,14 @@ use lib.ListN.{length, take, drop, length-drop}
 use lib.Seq.{sets, drop-drop, length-take-le, take-add, take_at, sets-eq, length-sets}
 use Rattle.packet.proofs.StoreLaws.{sets_twice}
 use Rattle.lbp16.proofs.ListLaws.{sets_append}
-use Rattle.card.specs.Inside.{Within, moved}
+use Rattle.card.specs.Inside.{IsWidth, Within, moved}
 
-pub wide_le : (wide : Bool) → 0 + cond wide 4 2 ≤ 4
-wide_le true = omega arith
-wide_le false = omega arith
-
--- elements of two bytes in a row
-pub narrow : (wide : Bool) (step : ℕ) → (not wide && eqb step 2) ≡ true → (◌≡◌ {A = ℕ} (cond wide 4 2) 2) × (step ≡ 2)
-narrow true step e = let z : ◌≡◌ {A = ℕ} 0 1 = cc in absurd (omega arith)
-narrow false step e = (refl, eqb-true step 2 e)
-
--- elements of four bytes in a row
-pub four : (wide : Bool) (step : ℕ) → (wide && eqb step 4) ≡ true → (◌≡◌ {A = ℕ} (cond wide 4 2) 4) × (step ≡ 4)
-four true step e = (refl, eqb-true step 4 e)
-four false step e = let z : ◌≡◌ {A = ℕ} 0 1 = cc in absurd (omega arith)
+pub width_le : (w : ℕ) → IsWidth w → w ≤ 4
+width_le w e = rw e (go (eqb w 4))
+  where
+    go : (b : Bool) → cond b 4 2 ≤ 4
+    go true = omega arith
+    go false = omega arith
 
 -- where the last of the elements stands
 pub last_within : (n i d w bytes : ℕ) → Within (suc n) i d w bytes → i + n * d + w ≤ bytes
@@ -103,16 +96,16 @@ within-still zero i w bytes h = tt
 within-still (suc n) i w bytes h = (h, rw add-zero (within-still n i w bytes h))
 
 -- the copy that one element is moved from
-module _ (src : List ℕ) (i : ℕ) (wide : Bool) (h : i + cond wide 4 2 ≤ length src) (one : List ℕ)
-    (e : one ≡ sets (0 ∷ 0 ∷ 0 ∷ 0 ∷ []) 0 (take (cond wide 4 2) (drop i src))) where
-  pub one-within : (n : ℕ) → Within n 0 0 (cond wide 4 2) (length one)
-  one-within n = within-still n 0 _ _ (rw (e, length-sets) (wide_le wide))
+module _ (src : List ℕ) (i w : ℕ) (near : w ≤ 4) (h : i + w ≤ length src) (one : List ℕ)
+    (e : one ≡ sets (0 ∷ 0 ∷ 0 ∷ 0 ∷ []) 0 (take w (drop i src))) where
+  pub one-within : (n : ℕ) → Within n 0 0 w (length one)
+  one-within n = within-still n 0 _ _ (rw (e, length-sets) (omega arith))
 
-  pub one_same : take (cond wide 4 2) (drop i src) ≡ take (cond wide 4 2) (drop 0 one)
+  pub one_same : take w (drop i src) ≡ take w (drop 0 one)
   one_same =
-      let v = take (cond wide 4 2) (drop i src) in
-      let l : length v ≡ cond wide 4 2 = length-take-le _ (drop i src) (rw length-drop (omega arith)) in
-      let q = sets-eq v (0 ∷ 0 ∷ 0 ∷ 0 ∷ []) 0 (rw l (wide_le wide)) in
+      let v = take w (drop i src) in
+      let l : length v ≡ w = length-take-le _ (drop i src) (rw length-drop (omega arith)) in
+      let q = sets-eq v (0 ∷ 0 ∷ 0 ∷ 0 ∷ []) 0 (rw l (omega arith)) in
       sym (rw (e, q) (take_at v _ _ l))
 
 -- Some elements, from src to dst: where they stand, and what moving them comes to.

@@ -7,6 +7,8 @@ use native.Mathlib.Nat.{add-suc, div-div-eq-div-mul}
 use native.Mathlib.Numerals.{add-one}
 use lib.ListN.{length, take, drop, get_or, set, length-drop}
 use lib.Seq.{sets, length-take-le, get_or-take, get_or-drop}
+use borrow.Author.Tests.{ne_eqb}
+use Rattle.card.specs.Inside.{IsWidth}
 use Rattle.packet.specs.Bytes.{number, bytes_of}
 
 -- every byte of the list is below 256
@@ -59,3 +61,7 @@ stored_bytes w d at v = stored-on_sets w (set d at (v % 256)) at 1 256 v ∙ rw 
 pub moved : (w : ℕ) (src dst out : List ℕ) (i j value : ℕ) → i + w ≤ length src → Octets src
     → value ≡ number (take w (drop i src)) → out ≡ sets dst j (bytes_of w value) → out ≡ sets dst j (take w (drop i src))
 moved w src dst out i j value h o e q = q ∙ rw (e, bytes_fetched w src i h o) refl
+
+-- An element that has not 4 bytes has 2.
+pub narrow_width : (w : ℕ) → IsWidth w → (w ≡ 4 → ⊥) → w ≡ 2
+narrow_width w e n = rw (ne_eqb w 4 n) at e

@@ -1,5 +1,5 @@
 -- Inside of private functions' contracts. A reader need not believe these: laws tie them to steps.
-use Rattle.std.specs.Prelude.{ℕ, zero, suc, ◌+◌, ◌≤◌, List, ◌++◌, length, take, drop, ◌≡◌, Bool}
+use Rattle.std.specs.Prelude.{ℕ, zero, suc, ◌+◌, ◌≤◌, List, ◌++◌, length, take, drop, ◌≡◌, Bool, cond, eqb}
 use Rattle.std.proofs.lemmas.List.Edits.{sets}
 use Rattle.lbp16.specs.declared.pointer.Pointers.{Pointers}
 use Rattle.lbp16.specs.declared.word.Fields.{Fields}
@@ -11,6 +11,10 @@ use Rattle.packet.specs.Inside.{Passed}
 use Rattle.packet.specs.Judge.{Carried, Verdict, refused, accepted, judge}
 use Rattle.card.specs.declared.run.Span.{Span}
 use Rattle.lbp16.specs.Pointer.{pointers_of, lent_pointers}
+
+-- an element's bytes: 4 or 2
+abbrev pub IsWidth : ℕ → Type 0
+IsWidth w = w ≡ cond (eqb w 4) 4 2
 
 -- n elements of w bytes, d apart from place i on, stand within a list of the given length
 abbrev pub Within : ℕ → ℕ → ℕ → ℕ → ℕ → Type 0

@@ -1,6 +1,7 @@
 // One element of the store, low byte first.
-ghost use Rattle.std.specs.Prelude.{cond, ◌≡◌, ◌+◌, ◌≤◌, ◌<◌, length, take, drop};
+ghost use Rattle.std.specs.Prelude.{◌≡◌, ◌+◌, ◌≤◌, ◌<◌, length, take, drop};
 ghost use Rattle.std.proofs.lemmas.List.Edits.{sets};
+ghost use Rattle.card.specs.Inside.{IsWidth};
 ghost use Rattle.packet.specs.Bytes.{number, bytes_of};
 
 pub(crate) fn fetch2(s: &[u8], at: usize) -> u16
@@ -38,13 +39,25 @@ pub(crate) fn store4(d: &mut [u8], at: usize, value: u32)
 }
 
 // One element of 4 bytes, or of 2, from one slice to another.
-pub(crate) fn move_element(src: &[u8], i: usize, dst: &mut [u8], j: usize, wide: bool)
-    requires { (i + cond wide 4 2 ≤ length src.now) × (j + cond wide 4 2 ≤ length dst.old) }
-    ensures { dst.new ≡ sets dst.old j (take (cond wide 4 2) (drop i src.now)) }
+pub(crate) fn move_element<const W: usize>(src: &[u8], i: usize, dst: &mut [u8], j: usize)
+    requires { IsWidth W × (i + W ≤ length src.now) × (j + W ≤ length dst.old) }
+    ensures { dst.new ≡ sets dst.old j (take W (drop i src.now)) }
 {
-    if wide {
+    if W == 4 {
         store4(dst, j, fetch4(src, i));
     } else {
         store2(dst, j, fetch2(src, i));
+    }
+}
+
+// The same of an element whose bytes are known only when it is met.
+pub(crate) fn move_sized(element: usize, src: &[u8], i: usize, dst: &mut [u8], j: usize)
+    requires { IsWidth element × (i + element ≤ length src.now) × (j + element ≤ length dst.old) }
+    ensures { dst.new ≡ sets dst.old j (take element (drop i src.now)) }
+{
+    if element == 4 {
+        move_element::<4>(src, i, dst, j);
+    } else {
+        move_element::<2>(src, i, dst, j);
     }
 }

@@ -9,7 +9,7 @@ ghost use Rattle.packet.specs.Counts.{elements_moved};
 ghost use Rattle.packet.specs.Reach.{reach_at};
 ghost use Rattle.lbp16.specs.Pointer.{pointers_of};
 ghost use Rattle.card.specs.Run.{cleared, counted, run_packet, ran, run_lent, ran_lent, most_elements};
-ghost use Rattle.card.specs.Inside.{IsAccepted, Ready, Performed, Within, moved, laid, span_at};
+ghost use Rattle.card.specs.Inside.{IsAccepted, IsWidth, Ready, Performed, Within, moved, laid, span_at};
 
 use crate::{block, check, element};
 use lbp16::pointer::Pointers;
@@ -50,17 +50,14 @@ fn span_of(f: Fields, r: Reach) -> Span
 
 // Elements of a read, from where they stand in `src` to the front of the reply's unused tail.
 fn read_span(s: Span, src: &[u8], tail: &mut [u8])
-    requires { (s.step ≤ 4) × (s.element ≤ 4)
-        × Within s.count s.at s.step (cond (eqb s.element 4) 4 2) (length src.now)
-        × Within s.count 0 s.element (cond (eqb s.element 4) 4 2) (length tail.old) }
-    ensures { tail.new
-        ≡ moved s.count (cond (eqb s.element 4) 4 2) src.now s.at s.step tail.old 0 s.element }
+    requires { (s.step ≤ 4) × IsWidth s.element × Within s.count s.at s.step s.element (length src.now)
+        × Within s.count 0 s.element s.element (length tail.old) }
+    ensures { tail.new ≡ moved s.count s.element src.now s.at s.step tail.old 0 s.element }
 {
-    let wide = s.element == 4;
     if s.count == 1 {
-        element::move_element(src, s.at, tail, 0, wide);
+        element::move_sized(s.element, src, s.at, tail, 0);
     } else {
-        block::move_elements(src, s.at, s.step, tail, 0, s.element, s.count, wide);
+        block::move_sized(s.element, src, s.at, s.step, tail, 0, s.element, s.count);
     }
 }
 
@@ -88,12 +85,13 @@ fn write_command(rest: &[u8], pointers: &[u32], f: Fields, r: Reach, store: &mut
     ensures { store.new ≡ store_after (steps_at (pointers_of pointers.now) f rest.now) store.old }
 {
     let s = span_of(f, r);
-    let wide = s.element == 4;
     let header = command::header_bytes(f);
     if s.count == 1 {
-        element::move_element(rest, header, store, s.at, wide);
+        element::move_sized(s.element, rest, header, store, s.at);
     } else {
-        block::move_elements(rest, header, s.element, store, s.at, s.step, s.count, wide);
+        block::move_sized(
+            s.element, rest, header, s.element, store, s.at, s.step, s.count,
+        );
     }
 }
 
