@@ -12,8 +12,8 @@ use cue::records::MOST;
 use packet::bytes;
 use packet::command::LIMIT;
 
-// The numbers are the lent state's, whatever they are, until `bad` has looked at them. `stands`: 0 while bytes are taken, 1 after the list's end, otherwise a fault's number. `collected` of `bytes` are the
-// next record's.
+// `stands`: 0 while bytes are taken, 1 after the list's end, otherwise a fault's number. `collected` of `bytes` are the
+// next record's. All are as the lent state has them, whatever it has, until `bad` has looked at them.
 #[derive(Clone, Copy, Debug, PartialEq, Eq)]
 pub struct Kept {
     pub stands: u32,
