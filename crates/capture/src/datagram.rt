@@ -5,7 +5,7 @@ ghost use Rattle.capture.specs.Datagram.{type_at, ip_at, says_iPv4, header_bytes
 use crate::file;
 
 // What a frame holds. `seen`: a datagram whose ports can be seen; all else counts only then. Its data are so many bytes from `at` on.
-#[derive(Clone, Copy)]
+#[derive(Clone, Copy, Debug, PartialEq, Eq)]
 pub(crate) struct Datagram {
     pub(crate) seen: bool,
     pub(crate) whole: bool,

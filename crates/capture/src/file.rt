@@ -3,7 +3,7 @@ ghost use Rattle.std.specs.Prelude.{◌≡◌, false, ◌+◌, ◌≤◌, ◌<�
 ghost use Rattle.capture.specs.File.{byte_at, pair_at, quad_at, low_quad_at, number_in, is_magic, is_link, file_of, file_listed, frame_bytes};
 
 // Whether the numbers of a capture have the high byte first, and its link type.
-#[derive(Clone, Copy)]
+#[derive(Clone, Copy, Debug, PartialEq, Eq)]
 pub(crate) struct File {
     pub(crate) big: bool,
     pub(crate) link: u32,

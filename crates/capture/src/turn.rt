@@ -11,7 +11,7 @@ use lbp16::Rule;
 const PORT: u32 = 27181;
 
 // The card's address once it is known, whether the last request has no reply yet, and the recording's bytes and packets so far.
-#[derive(Clone, Copy)]
+#[derive(Clone, Copy, Debug, PartialEq, Eq)]
 pub(crate) struct Progress {
     pub(crate) card: Option<u32>,
     pub(crate) waiting: bool,

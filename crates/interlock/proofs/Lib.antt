@@ -1,5 +1,6 @@
 -- Laws of guards, and of what they keep.
 pub mod RangeLaws
+pub mod PairsLaws
 pub mod BlockLaws
 pub mod PlaceLaws
 pub mod GuardedLaws

@@ -8,7 +8,7 @@ use native.Mathlib.Omega.{arith}
 use native.Mathlib.Decide.{dec_le}
 use lib.Dec.{eqb, ltb, leb}
 use lib.ListN.{length, take, drop, get_or}
-use borrow.Author.Tests.{ltb-true, ltb-false, lt-ltb, le-ltb, leb-false, lt-leb, eqb-false, ne_eqb, not-true}
+use borrow.Author.Tests.{ltb-true, ltb-false, lt-ltb, le-ltb, eqb-false, ne_eqb, not-true}
 use Rattle.lbp16.specs.Answer.{Answer}
 use Rattle.lbp16.specs.Space.{store_bytes}
 use Rattle.lbp16.proofs.BoolLaws.{or_false, and_true}
@@ -16,7 +16,6 @@ use Rattle.card.specs.Run.{unlock_cell, count_cell}
 use Rattle.packet.proofs.SliceLaws.{tail-whole}
 use Rattle.cue.specs.Demand3.{Off}
 use Rattle.interlock.specs.Guard.{shares, faulty, most_ranges, sound_from, soundness, touches, IsProtected}
-use Rattle.interlock.specs.Inside.{fault_at}
 
 -- two tests that hold together are the same
 pub same_test : (a b : Bool) → (a ≡ true → b ≡ true) → (b ≡ true → a ≡ true) → a ≡ b
@@ -250,37 +249,7 @@ pub unlock-free : (guard values : List ℕ) → soundness guard ≡ Answer.accep
 unfolding soundness
 unlock-free guard values e = unlock-off 0 guard values e
 
--- The code's loop over the pairs: at the end, at a pair at fault, and past one that is not.
-pub sound-end : (index : ℕ) (guard : List ℕ) → length guard ≡ 0 → Answer.accepted (index ∷ []) ≡ sound_from index guard
-unfolding sound_from
-sound-end index [] e = refl
-sound-end index (first ∷ rest) e = absurd (omega arith)
-
-pub sound-fault : (index : ℕ) (guard : List ℕ) → 0 < length guard → fault_at index guard ≡ true
-    → Answer.refused 70 index ≡ sound_from index guard
-unfolding sound_from fault_at
-sound-fault index [] l e = absurd (omega arith)
-sound-fault index (first ∷ []) l e = refl
-sound-fault index (first ∷ bytes ∷ rest) l e = rw e refl
-
-pub record Past (index : ℕ) (guard : List ℕ) : Type 0 where
-  pub few : index < most_ranges
-  pub two : 2 ≤ length guard
-  pub same : sound_from index guard ≡ sound_from (index + 1) (take (length guard - 2) (drop 2 guard))
-
-pub sound-past : (index : ℕ) (guard : List ℕ) → fault_at index guard ≡ false → Past index guard
-unfolding sound_from fault_at
-sound-past index [] e = let z : ◌≡◌ {A = ℕ} 0 1 = cc in absurd (omega arith)
-sound-past index (first ∷ []) e = let z : ◌≡◌ {A = ℕ} 0 1 = cc in absurd (omega arith)
-sound-past index (first ∷ bytes ∷ rest) e =
-    let (few, fine) = or_false (leb most_ranges index) _ e in
-    record {
-      few = leb-false _ _ few;
-      two = omega arith;
-      same = rw (e, tail-whole 2 (first ∷ bytes ∷ rest)) refl;
-    }
-
--- and over the ranges
+-- The code's loop over the ranges.
 pub touches-end : (guard : List ℕ) (place width : ℕ) → length guard ≤ 1 → false ≡ touches guard place width
 unfolding touches
 touches-end [] place width l = refl
@@ -302,21 +271,3 @@ module _ (guard : List ℕ) (place width : ℕ) (more : 1 < length guard) where
   pub touches-past : shares (get_or guard 0 0) (get_or guard 1 0) place width ≡ false
       → touches guard place width ≡ touches (take (length guard - 2) (drop 2 guard)) place width
   touches-past e = touches-turn guard place width more ∙ rw e refl
-
-pub fault-front : (index : ℕ) (guard : List ℕ) (b : Bool) → 2 ≤ length guard → index < most_ranges
-    → b ≡ faulty (get_or guard 0 0) (get_or guard 1 0) → b ≡ fault_at index guard
-unfolding fault_at
-fault-front index [] b l few e = absurd (omega arith)
-fault-front index (first ∷ []) b l few e = absurd (omega arith)
-fault-front index (first ∷ bytes ∷ rest) b l few e = rw (lt-leb _ _ few) e
-
--- a whole pair, and not one too many
-pub two-left : (n index : ℕ) → (ltb n 2 || leb most_ranges index) ≡ false → (2 ≤ n) × (index < most_ranges)
-two-left n index e = let (two, few) = or_false (ltb n 2) _ e in (ltb-false _ _ two, leb-false _ _ few)
-
-pub fault-known : (index : ℕ) (guard : List ℕ) → (ltb (length guard) 2 || leb most_ranges index) ≡ true
-    → true ≡ fault_at index guard
-unfolding fault_at
-fault-known index [] e = refl
-fault-known index (first ∷ []) e = refl
-fault-known index (first ∷ bytes ∷ rest) e = rw (rw (le-ltb (length (first ∷ bytes ∷ rest)) 2 (omega arith)) at e) refl

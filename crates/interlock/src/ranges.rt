@@ -2,7 +2,6 @@
 ghost use Rattle.std.specs.Prelude.{◌≡◌, ◌+◌, ◌^◌, ◌≤◌};
 ghost use Rattle.packet.specs.Verdict.{verdict_listed};
 ghost use Rattle.interlock.specs.Guard.{shares, faulty, soundness, touches};
-ghost use Rattle.interlock.specs.Inside.{fault_at};
 
 use card::check;
 use lbp16::Rule;
@@ -41,30 +40,21 @@ fn faulty(first: u32, bytes: u32) -> bool
         | shares(first, bytes, COUNT, 2)
 }
 
-// Whether the pair at the front is at fault; half a pair is.
-fn at_fault(rest: &[u32], index: usize) -> bool
-    ensures { result ≡ fault_at index rest.now }
-{
-    if (rest.len() < 2) | (MOST <= index) {
-        return true;
-    }
-    faulty(rest[0], rest[1])
-}
-
-// The number of ranges, or 70 and the index of the earliest pair at fault.
+// The number of ranges, or 70 and the index of the earliest pair at fault; half a pair is.
 pub(crate) fn soundness(guard: &[u32]) -> Verdict
     ensures { verdict_listed result ≡ soundness guard.now }
 {
-    let mut rest = guard;
-    let mut index: usize = 0;
-    while 0 < rest.len() {
-        if at_fault(rest, index) {
+    let (pairs, half) = guard.as_chunks::<2>();
+    for (index, &[first, bytes]) in pairs.iter().enumerate() {
+        if (MOST <= index) | faulty(first, bytes) {
             return Err(Rule::UnsoundGuard.at(index as u64));
         }
-        rest = &rest[2..];
-        index += 1;
     }
-    Ok(index as u64)
+    let ranges = pairs.len();
+    if half.len() != 0 {
+        return Err(Rule::UnsoundGuard.at(ranges as u64));
+    }
+    Ok(ranges as u64)
 }
 
 // Whether some range has one of the `width` bytes from `place` on.
@@ -72,12 +62,10 @@ pub(crate) fn touches(guard: &[u32], place: u64, width: u64) -> bool
     requires { place + width ≤ 2 ^ 40 }
     ensures { result ≡ touches guard.now place width }
 {
-    let mut rest = guard;
-    while 1 < rest.len() {
-        if shares(rest[0], rest[1], place, width) {
+    for &[first, bytes] in guard.as_chunks::<2>().0 {
+        if shares(first, bytes, place, width) {
             return true;
         }
-        rest = &rest[2..];
     }
     false
 }

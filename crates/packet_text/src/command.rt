@@ -81,14 +81,7 @@ fn described(out: &mut [u8], at: usize, n: usize, r: Reason) -> usize
 fn last_place(place: u64, n: usize) -> u64
     ensures { result ≡ last_place place n }
 {
-    if n == 0 {
-        return place;
-    }
-    let more = n as u64 - 1;
-    if 18446744073709551615 - more < place {
-        return 18446744073709551615;
-    }
-    place + more
+    place.saturating_add((n as u64).saturating_sub(1))
 }
 
 fn span(out: &mut [u8], at: usize, r: Reason, last: u64) -> usize

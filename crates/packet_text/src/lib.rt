@@ -40,7 +40,7 @@ pub fn put_refused(out: &mut [u8], at: usize, r: Reason) -> usize
 }
 
 // The bytes written, and the pointers that the packet leaves.
-#[derive(Clone, Copy)]
+#[derive(Clone, Copy, Debug, PartialEq, Eq)]
 pub struct Shown {
     pub bytes: usize,
     pub pointers: Pointers,

@@ -12,6 +12,7 @@ fn drafted(list: &[u8], out: &mut [u8]) -> usize
 {
     let mut rest = list;
     let mut p = Draft::empty();
+    // The record's bytes are put too, as many as its kind has.
     while rest.len() != 0 {
         let r = records::record_at(rest);
         let n = records::record_bytes(r.write);

@@ -27,8 +27,9 @@ fn put2(out: &mut [u8], at: usize, value: u16, end: usize)
     if end <= next {
         return;
     }
-    out[at] = (value % 256) as u8;
-    out[next] = (value / 256) as u8;
+    let [low, high] = value.to_le_bytes();
+    out[at] = low;
+    out[next] = high;
 }
 
 // The command's word; where one of its numbers is out of range another, which the checker will not take.

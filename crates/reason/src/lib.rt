@@ -17,7 +17,7 @@ use packet::{command, judge};
 
 // `address` is the one that the command uses, given or from a pointer; index, fields and address are 0 where no command is at
 // fault. A reason may be made of any number, also of one that no rule has, as `packet_text` says it in words.
-#[derive(Clone, Copy)]
+#[derive(Clone, Copy, Debug, PartialEq, Eq)]
 pub struct Reason {
     pub number: u32,
     pub place: u64,

@@ -15,7 +15,7 @@ pub struct Reader<'a> {
 }
 
 // A command's fields, all 0 where its word is cut off, and the address that it uses.
-#[derive(Clone, Copy)]
+#[derive(Clone, Copy, Debug, PartialEq, Eq)]
 pub struct Header {
     pub fields: Fields,
     pub address: u32,

@@ -2,34 +2,37 @@ use mathlib.Core.Path.{refl, sym, ◌∙◌}
 use native.Mathlib.Omega.{arith}
 use Rattle.packet.specs.Verdict.{verdict_listed}
 use Rattle.interlock.specs.Guard.{soundness}
-use Rattle.interlock.proofs.RangeLaws.{Past, sound-end, sound-fault, sound-past}
+use Rattle.interlock.proofs.PairsLaws.{pair-fault, pair-fine, all-fine, half-fault}
 use Rattle.interlock.proofs.ranges.soundness.Goals as goal
 
--- past a pair that is not at fault
-
-pub loop-rest-init : goal.loop-rest-init
+pub loop-index-init : goal.loop-index-init
 unfolding soundness
-loop-rest-init c = (refl, omega arith)
+loop-index-init c = refl
 
-pub returns-then-at_fault : goal.returns-then-at_fault
+pub returns-then-index-faulty : goal.returns-then-index-faulty
 unfolding verdict_listed
-returns-then-at_fault c = rw c.at.ensures
-    (sound-fault _ _ c.loop-rest-test.true (sym c.at_fault.ensures ∙ c.if-at_fault.true)
-    ∙ sym c.loop-rest.invariant.0)
+returns-then-index-faulty c =
+    let p = c.as_chunks.ensures in
+    rw c.at.ensures (pair-fault _ _ p.front p.front_len _ c.loop-index-test.true _ (rw c.faulty.ensures at c.if-index-faulty.true)
+    ∙ sym c.loop-index.invariant)
 
-pub slice_bounds-rest-count : goal.slice_bounds-rest-count
-slice_bounds-rest-count c = let at_past : Past c.loop-rest.index c.loop-rest.rest.now = sound-past _ _ (sym c.at_fault.ensures ∙ c.if-at_fault.false) in
-    at_past.two
+pub loop-index-preserved : goal.loop-index-preserved
+loop-index-preserved c =
+    let p = c.as_chunks.ensures in
+    c.loop-index.invariant
+    ∙ pair-fine _ _ p.front p.front_len _ c.loop-index-test.true _ (rw c.faulty.ensures at c.if-index-faulty.false)
 
-pub slice_bounds-rest-start : goal.slice_bounds-rest-start
-slice_bounds-rest-start c = let at_past : Past c.loop-rest.index c.loop-rest.rest.now = sound-past _ _ (sym c.at_fault.ensures ∙ c.if-at_fault.false) in
-    at_past.two
-
-pub loop-rest-preserved : goal.loop-rest-preserved
-loop-rest-preserved c = let at_past : Past c.loop-rest.index c.loop-rest.rest.now = sound-past _ _ (sym c.at_fault.ensures ∙ c.if-at_fault.false) in
-    let few = at_past.few in
-    (c.loop-rest.invariant.0 ∙ at_past.same, omega arith)
+pub returns-then-half-ne0 : goal.returns-then-half-ne0
+unfolding verdict_listed
+returns-then-half-ne0 c =
+    let p = c.as_chunks.ensures in
+    let some = c.if-half-ne0.true in
+    rw c.at-then-half-ne0.ensures (half-fault _ _ p.front p.front_len _ (let t = c.loop-index-test.false in omega (arith, c.loop-index.auto.index-end))
+    (λ z. some (p.back_len ∙ z)) ∙ sym c.loop-index.invariant)
 
 pub returns : goal.returns
 unfolding verdict_listed
-returns c = sound-end _ _ (let none = c.loop-rest-test.false in omega arith) ∙ sym c.loop-rest.invariant.0
+returns c =
+    let p = c.as_chunks.ensures in
+    all-fine _ _ p.front p.front_len _ (let t = c.loop-index-test.false in omega (arith, c.loop-index.auto.index-end))
+    (sym p.back_len ∙ c.if-half-ne0.false) ∙ sym c.loop-index.invariant
