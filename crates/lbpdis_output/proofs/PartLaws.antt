@@ -20,6 +20,7 @@ use Rattle.packet_text.specs.Packet.{packet_text, most_text, PacketLeft, packet_
 use Rattle.lbpdis_output.specs.Said.{packet_line, fault_line, cut_line, unmarked_line, end_line, part_text, passed_by, pointers_by}
 use Rattle.lbpdis_output.specs.Said.{PartLeft, part_left, part_by, part_said}
 use Rattle.lbpdis_output.specs.Inside.{part_put}
+use Rattle.std.specs.Prelude.{Option, None, Some, IfSome}
 
 line-size : (i n : ℕ) → i < 2 ^ 64 → n < 2 ^ 64 → length (packet_line i n) ≤ 56
 unfolding packet_line ascii
@@ -81,10 +82,10 @@ shows p packet number n q before after e l b a =
 pub framed : (i n : ℕ) (rest : List ℕ) (p : Pointers) (room mid after : List ℕ) (at next : ℕ) (q : Pointers)
     → filled at mid ≡ put_at (packet_line i n) 0 room → filled next after ≡ put_at (packet_text p (bytes_in_frame n rest)) at mid
     → q ≡ pointers_left (checked_packet p (bytes_in_frame n rest)) p
-    → part_left (filled next after) (4 + n) q ≡ part_put (Front.frame n) i rest p room
+    → part_left (filled next after) (Some (4 + n)) q ≡ part_put (Front.frame n) i rest p room
 unfolding part_put part_text passed_by pointers_by
 framed i n rest p room mid after at next q e f g =
-    rw g (ap (λ s. part_left s (4 + n) (pointers_left (checked_packet p (bytes_in_frame n rest)) p)) (put_then _ _ _ _ e f))
+    rw g (ap (λ s. part_left s (Some (4 + n)) (pointers_left (checked_packet p (bytes_in_frame n rest)) p)) (put_then _ _ _ _ e f))
 
 pub framed-fits : (i n : ℕ) (rest : List ℕ) (p : Pointers) → i < 2 ^ 64 → n < 2 ^ 64
     → length (packet_text p (bytes_in_frame n rest)) ≤ most_text → length (part_text (Front.frame n) i rest p) ≤ 69760
@@ -92,9 +93,9 @@ unfolding part_text
 framed-fits i n rest p a b t = let z = line-size i n a b in simp length-append (omega arith)
 
 -- What the code answers of a part: all of it, no more of the input than there is, and no more bytes than the room has.
-abbrev pub Told : ℕ → List ℕ → Pointers → List ℕ → List ℕ → ℕ → ℕ → Pointers → Type 0
+abbrev pub Told : ℕ → List ℕ → Pointers → List ℕ → List ℕ → ℕ → Option ℕ → Pointers → Type 0
 Told i rest p room after bytes passed q =
-    (part_left (filled bytes after) passed q ≡ part_said i rest p room) × ((passed ≤ length rest) × (bytes ≤ 69760))
+    (part_left (filled bytes after) passed q ≡ part_said i rest p room) × ((IfSome passed (λ n. n ≤ length rest)) × (bytes ≤ 69760))
 
 within-room : (text room after : List ℕ) (k : ℕ) → filled k after ≡ put_at text 0 room → length room ≡ 69760 → k ≤ 69760
 unfolding put_at
@@ -103,27 +104,27 @@ within-room text room after k e l =
     omega arith
 
 -- Where no packet stands nothing is passed.
-pub ends : (front : Front) (i : ℕ) (rest : List ℕ) (p : Pointers) (room after : List ℕ) (bytes passed : ℕ) (q : Pointers) (k : ℕ)
-    → front_of rest ≡ front → passed_by front ≡ 0 → pointers_by front rest p ≡ p
+pub ends : (front : Front) (i : ℕ) (rest : List ℕ) (p : Pointers) (room after : List ℕ) (bytes : ℕ) (passed : Option ℕ) (q : Pointers) (k : ℕ)
+    → front_of rest ≡ front → passed_by front ≡ None → pointers_by front rest p ≡ p
     → length (part_text front i rest p) ≤ 125 → length room ≡ 69760
     → filled k after ≡ put_at (part_text front i rest p) 0 room
-    → (bytes ≡ k) × (passed ≡ 0) × (q ≡ p) → Told i rest p room after bytes passed q
+    → (bytes ≡ k) × (passed ≡ None) × (q ≡ p) → Told i rest p room after bytes passed q
 unfolding part_put
 ends front i rest p room after bytes passed q k f none same small l e (b, z, y) = (
   part-is front i rest p room _ f
-      (rw (b, z, y, none, same) (ap (λ s. part_left s 0 p) e))
+      (rw (b, z, y, none, same) (ap (λ s. part_left s None p) e))
       (omega arith),
-  (omega arith, rw b (within-room _ _ _ _ e l)),
+  (rw z tt, rw b (within-room _ _ _ _ e l)),
 )
 
-pub goes_on_lem : (n i : ℕ) (rest : List ℕ) (p : Pointers) (room after : List ℕ) (bytes passed : ℕ) (q : Pointers)
+pub goes_on_lem : (n i : ℕ) (rest : List ℕ) (p : Pointers) (room after : List ℕ) (bytes : ℕ) (passed : Option ℕ) (q : Pointers)
     → front_of rest ≡ Front.frame n → length room ≡ 69760
     → part_left (filled bytes after) passed q ≡ part_put (Front.frame n) i rest p room
     → length (part_text (Front.frame n) i rest p) ≤ 69760 → Told i rest p room after bytes passed q
 unfolding part_put passed_by
 goes_on_lem n i rest p room after bytes passed q f l e t =
     let w = (whole-frame rest n (sym f)).within in
-    let a : passed ≡ 4 + n = ap (λ (x : PartLeft). x.passed) e in (
+    let a : passed ≡ Some (4 + n) = ap (λ (x : PartLeft). x.passed) e in (
       part-is (Front.frame n) i rest p room _ f e (omega arith),
-      (omega arith, within-room _ _ _ _ (ap (λ (x : PartLeft). x.said) e) l),
+      (rw a w, within-room _ _ _ _ (ap (λ (x : PartLeft). x.said) e) l),
     )
