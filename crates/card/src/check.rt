@@ -3,6 +3,7 @@ ghost use Rattle.std.specs.Prelude.{◌≡◌};
 ghost use Rattle.packet.specs.Verdict.{answer_to, verdict_listed};
 ghost use Rattle.card.specs.Run.{bad_state, checked, checked_lent};
 
+use lbp16::Rule;
 use lbp16::pointer::Pointers;
 use packet::judge::Verdict;
 use packet::{command, judge};
@@ -22,13 +23,13 @@ pub fn check_lent(packet: &[u8], store: &[u8], lent: &[u32]) -> Verdict
     ensures { verdict_listed result ≡ answer_to (checked_lent packet.now store.now lent.now) }
 {
     if lent.len() != 8 {
-        return judge::refused(1, 0);
+        return Err(Rule::State.at(0));
     }
     if bad_state(store, Pointers::from_lent(lent)) {
-        return judge::refused(1, 0);
+        return Err(Rule::State.at(0));
     }
     if command::LIMIT < packet.len() {
-        return judge::refused(2, 0);
+        return Err(Rule::PacketTooLong.at(0));
     }
     judge::judge_lent(packet, lent)
 }

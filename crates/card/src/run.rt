@@ -12,12 +12,12 @@ ghost use Rattle.card.specs.Run.{cleared, counted, run_packet, ran, run_lent, ra
 ghost use Rattle.card.specs.Inside.{IsAccepted, Ready, Performed, Within, moved, laid, span_at};
 
 use crate::{block, check, element};
-use lbp16::pointer;
 use lbp16::pointer::Pointers;
 use lbp16::word::Fields;
+use lbp16::{Rule, pointer};
 use packet::command::{Reach, Which};
 use packet::judge::Verdict;
-use packet::{command, info, judge, refusal};
+use packet::{command, info, refusal};
 
 // A command's elements in the store or in the info area: the first one's place, from one to the next, their bytes, and
 // how many.
@@ -114,7 +114,7 @@ fn do_command(
     ensures reply_after { reply.new
         ≡ laid filled (values_read (steps_at (pointers_of pointers.now) f rest.now) store.old) reply.old }
 {
-    let which = refusal::which_of(0, f);
+    let which = refusal::which_of::<()>(Ok(()), f);
     match which {
         Which::Read => {
             read_command(rest, pointers, f, r, store, &mut reply[filled..]);
@@ -188,19 +188,13 @@ pub struct RanLent {
     pub elements: u64,
 }
 
-// The answer where nothing is done. The enum is made anew, so that only its fields are copied.
+// The answer where nothing is done.
 fn not_run(answer: Verdict) -> RanLent
     ensures { (result.answer ≡ answer) × (result.elements ≡ 0) }
 {
-    match answer {
-        Verdict::Accepted(length) => RanLent {
-            answer: Verdict::Accepted(length),
-            elements: 0,
-        },
-        Verdict::Refused(refusal) => RanLent {
-            answer: Verdict::Refused(refusal),
-            elements: 0,
-        },
+    RanLent {
+        answer,
+        elements: 0,
     }
 }
 
@@ -213,17 +207,17 @@ pub fn run_lent(packet: &[u8], store: &mut [u8], lent: &mut [u32], reply: &mut [
     ensures bounded { result.elements ≤ most_elements }
 {
     if reply.len() != command::LIMIT {
-        return not_run(judge::refused(1, 0));
+        return not_run(Err(Rule::State.at(0)));
     }
     let answer = check::check_lent(packet, store, lent);
-    let Verdict::Accepted(length) = answer else {
+    let Ok(length) = answer else {
         return not_run(answer);
     };
     let elements = perform(packet, store, lent, reply);
     clear_unlock(store);
     count_packet(store);
     RanLent {
-        answer: Verdict::Accepted(length),
+        answer: Ok(length),
         elements,
     }
 }

@@ -4,11 +4,12 @@ use mathlib.Core.Path.{◌≡◌, refl, sym, ◌∙◌}
 use mathlib.Core.List.{List, [], ◌∷◌}
 use native.Mathlib.Omega.{arith}
 use lib.ListN.{length}
+use Rattle.std.specs.Prelude.{Ok, Err}
 use borrow.Author.Tests.{lt-ltb, le-ltb}
 use Rattle.lbp16.specs.Answer.{Answer}
 use Rattle.cue.specs.Records.{Listed, refused, records, records_of}
 use Rattle.cue.specs.Compile.{Compiled, compiled_to, compiled, compile_listed, needed, packed, output, bytes_of_output}
-use Rattle.cue.specs.declared.CompileAnswer.{CompileAnswer}
+use Rattle.cue.specs.declared.Packed.{Packed}
 use Rattle.lbp16.specs.declared.Refusal.{Refusal}
 use Rattle.cue.specs.Inside.{onward, Planned, planned, room_after, Ready}
 use Rattle.cue.specs.Summary.{none}
@@ -67,23 +68,23 @@ module _ (list room : List ℕ) (b n : ℕ) where
   unfolding compiled
   accepted-is e h = accepted-to (records_of list) e h
 
--- the same, as the code comes to it: `a` is the first pass's answer
-module _ (list room : List ℕ) (a : CompileAnswer) (e : compile_listed a ≡ needed (records_of list)) where
-  pub turned-away : (r : Refusal) → a ≡ CompileAnswer.Refused r → Both (compile_listed a) room (compiled list room)
+-- the same, as the code comes to it from the first pass's answer
+pub turned-away : (list room : List ℕ) (r : Refusal) → compile_listed (Err r) ≡ needed (records_of list)
+    → Both (compile_listed (Err r)) room (compiled list room)
+unfolding compile_listed
+turned-away list room r e = refused-is list room _ _ e
+
+module _ (list room : List ℕ) (p : Packed) (e : compile_listed (Ok p) ≡ needed (records_of list)) where
+  counted : Answer.accepted (p.bytes ∷ p.packets ∷ []) ≡ needed (records_of list)
   unfolding compile_listed
-  turned-away r d = rw d (refused-is list room _ _ (rw d at e))
+  counted = e
 
-  module _ (b n : ℕ) (d : a ≡ CompileAnswer.Compiled b n) where
-    counted : Answer.accepted (b ∷ n ∷ []) ≡ needed (records_of list)
-    unfolding compile_listed
-    counted = rw d at e
+  pub too_small : length room < p.bytes → Both (Answer.refused 26 p.bytes) room (compiled list room)
+  too_small h = short-is list room p.bytes p.packets counted h
 
-    pub too_small : length room < b → Both (Answer.refused 26 b) room (compiled list room)
-    too_small h = short-is list room b n counted h
+  pub may_write : p.bytes ≤ length room → Ready list room
+  may_write h = ready list room p.bytes p.packets counted h
 
-    pub may_write : b ≤ length room → Ready list room
-    may_write h = ready list room b n counted h
-
-    pub all-written : (after : List ℕ) → b ≤ length room → after ≡ room_after (planned none (records_of list)) room
-        → Both (Answer.accepted (b ∷ n ∷ [])) after (compiled list room)
-    all-written after h w = rw w (accepted-is list room b n counted h)
+  pub all-written : (after : List ℕ) → p.bytes ≤ length room → after ≡ room_after (planned none (records_of list)) room
+      → Both (Answer.accepted (p.bytes ∷ p.packets ∷ [])) after (compiled list room)
+  all-written after h w = rw w (accepted-is list room p.bytes p.packets counted h)

@@ -20,3 +20,4 @@ pub mod RoomLaws
 pub mod EmitLaws
 pub mod AnswerLaws
 pub mod UntrustedLaws
+pub mod CutLaws

@@ -18,6 +18,9 @@ use Rattle.packet.specs.Command.{pick_kind}
 use Rattle.packet.proofs.StepLaws.{pick-plain, row_plain}
 use Rattle.packet.proofs.RuleLaws.{none-holds}
 use Rattle.packet.proofs.UnlockLaws.{status-number}
+use Rattle.std.specs.Prelude.{Result, Ok, Err}
+use Rattle.lbp16.specs.Answer.{ruled}
+use Rattle.lbp16.specs.declared.Rule.{Rule}
 use Rattle.cue.specs.Records.{record_step, record_space, record_kind, record_bytes, record_refusals, reserved, bad_element, upper_half}
 use Rattle.cue.specs.Records.{mark_at, read_mark, write_mark, bytes_of_value, most_records, record_at, brief}
 use Rattle.cue.proofs.RecordLaws.{whole, step-bytes}
@@ -208,3 +211,8 @@ front-there index rest e = go (is_write (record_step rest).kind) (passing index 
     go : (b : Bool) → cond b 10 6 ≤ length rest → 6 ≤ length rest
     go true h = omega arith
     go false h = h
+
+-- what refuses a record is a rule
+pub none-refuses : (r : Result (Unit {0}) Rule) → ((rule : Rule) → r ≡ Err rule → ⊥) → ruled r ≡ 0
+none-refuses (Ok u) h = refl
+none-refuses (Err rule) h = absurd (h rule refl)

@@ -1,27 +1,30 @@
 -- Laws of what the second pass writes.
-use Prim.Native.Nat.{ℕ, ◌+◌, ◌-◌, ◌/◌, ◌%◌, ◌≤◌, ◌<◌}
-use mathlib.Core.Path.{◌≡◌, refl, ◌∙◌}
+use Prim.Native.Nat.{ℕ, ◌+◌, ◌-◌, ◌≤◌}
+use mathlib.Core.Path.{◌≡◌, refl, sym, ◌∙◌}
 use mathlib.Core.List.{List, [], ◌∷◌, ◌++◌}
 use mathlib.Core.Bool.{true, false}
 use native.Mathlib.Omega.{arith}
-use lib.ListN.{length, take, drop, set, length-take, length-drop}
-use lib.Seq.{sets}
+use lib.ListN.{length, take, drop, length-take, length-drop}
+use Rattle.std.specs.Prelude.{Result, Ok, Err}
+use Rattle.std.specs.Result.{result_unwrap_or}
+use lib.Seq.{sets, sets-eq, take_all}
+use borrow.Rule.Slice.PartMut.{put_mid}
+use Rattle.std.proofs.lemmas.Slice.{put_mid-paste}
 use borrow.Author.Tests.{le-ltb}
 use Rattle.lbp16.specs.Space.{space_of, row}
-use Rattle.lbp16.specs.Answer.{Answer, refusal}
+use Rattle.lbp16.specs.Answer.{Answer}
 use Rattle.lbp16.specs.Word.{word_of, out_of_range, written, listed}
-use Rattle.lbp16.specs.declared.word.Written.{Written}
-use Rattle.lbp16.specs.declared.word.Written.TheVariants.{Word, Refused}
 use Rattle.lbp16.specs.declared.Refusal.{Refusal}
 use Rattle.lbp16.proofs.SpaceLaws.{size_le}
-use Rattle.card.proofs.ElementLaws.{stored_bytes}
 use Rattle.packet.specs.Bytes.{bytes_of}
 use Rattle.lbp16.proofs.ListLaws.{sets_append}
 use Rattle.cue.specs.Summary.{last_fields, framed_at, unlocked_at, headed_at, wrote, bytes_of_unlock}
 use Rattle.cue.specs.declared.packer.Packer.{Packer}
 
-pub put2_is : (l : List ℕ) (at v : ℕ) → v < 65536 → set (set l at (v % 256)) (at + 1) (v / 256) ≡ sets l at (bytes_of 2 v)
-put2_is l at v h = let q : v / 256 % 256 ≡ v / 256 = omega arith in rw q at (stored_bytes 1 l at v)
+-- a part of a room written at once
+pub part_put : (l : List ℕ) (at n : ℕ) {ys vs : List ℕ} → ys ≡ vs → n ≡ length vs → at + n ≤ length l → put_mid at n l ys ≡ sets l at vs
+part_put l at n {ys} {vs} e k h =
+    put_mid-paste at n l ys vs n e refl k ∙ rw (take_all n vs (omega arith), k) (sym (sets-eq vs l at (omega arith)))
 
 pub put4_is : (l : List ℕ) (at a b : ℕ) → sets (sets l at (bytes_of 2 a)) (at + 2) (bytes_of 2 b) ≡ sets l at (bytes_of 2 a ++ bytes_of 2 b)
 unfolding bytes_of
@@ -39,8 +42,9 @@ unfolding written out_of_range last_fields
 last_written q h k =
     rw (le-ltb 7 q.space h, le-ltb 3 (row (space_of q.space)).size (size_le _), le-ltb 127 q.count k) refl
 
-module _ (q : Packer) (s : ℕ) (r : Written) (h : q.space ≤ 7) (k : q.count ≤ 127) (a : s ≡ (row (space_of q.space)).size)
-    (e : listed r ≡ written (record {
+-- so what the code gives for it is no 0
+pub word-is : (q : Packer) (s : ℕ) (r : Result ℕ Refusal) → q.space ≤ 7 → q.count ≤ 127 → s ≡ (row (space_of q.space)).size
+    → listed r ≡ written (record {
       write = q.write;
       address = true;
       info = false;
@@ -48,21 +52,14 @@ module _ (q : Packer) (s : ℕ) (r : Written) (h : q.space ≤ 7) (k : q.count �
       size = s;
       increment = true;
       count = q.count;
-    })) where
-  word-answer : listed r ≡ Answer.accepted (word_of (last_fields q) ∷ [])
-  unfolding last_fields
-  word-answer = rw a at e ∙ last_written q h k
-
-  pub word-is : (w : ℕ) → r ≡ Word w → w ≡ word_of (last_fields q)
-  unfolding listed
-  word-is w d = let z : Answer.accepted (w ∷ []) ≡ Answer.accepted (word_of (last_fields q) ∷ []) = rw d at word-answer in cc
-
-  pub word_not : (f : Refusal) → r ≡ Refused f → 0 ≡ word_of (last_fields q)
-  unfolding listed
-  word_not f d =
-      let z : refusal f ≡ Answer.accepted (word_of (last_fields q) ∷ []) = rw d at word-answer in
-      let y : ◌≡◌ {A = ℕ} 0 1 = cc in
-      absurd (omega arith)
+    })
+    → result_unwrap_or r 0 ≡ word_of (last_fields q)
+unfolding listed last_fields
+word-is q s r h k a e = go r (rw a at e ∙ last_written q h k)
+  where
+    go : (r : Result ℕ Refusal) → listed r ≡ Answer.accepted (word_of (last_fields q) ∷ []) → result_unwrap_or r 0 ≡ word_of (last_fields q)
+    go (Ok w) e = cc
+    go (Err f) e = let y : ◌≡◌ {A = ℕ} 0 1 = cc in absurd (omega arith)
 
 -- the parts of a record's writing, one behind the other
 pub wrote-is : (q : Packer) (n : ℕ) (rest room : List ℕ) → 6 + n ≤ length rest

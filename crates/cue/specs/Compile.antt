@@ -1,11 +1,12 @@
 -- Compiling a cue list into lent output room.
-use Rattle.std.specs.Prelude.{ℕ, List, [], ◌∷◌, ◌++◌, map, cond, length, drop, ltb}
+use Rattle.std.specs.Prelude.{ℕ, List, [], ◌∷◌, ◌++◌, map, cond, length, drop, ltb, Result, Ok, Err}
 use Rattle.lbp16.specs.Answer.{Answer, refusal}
+use Rattle.lbp16.specs.declared.Refusal.{Refusal}
 use Rattle.packet.specs.Step.{Step}
 use Rattle.cue.specs.Records.{Listed, refused, records, records_of}
 use Rattle.cue.specs.Packing.{Command, packets, bytes_of_packet}
 use Rattle.cue.specs.Output.{output_of}
-use Rattle.cue.specs.declared.CompileAnswer.{CompileAnswer}
+use Rattle.cue.specs.declared.Packed.{Packed}
 
 -- the output of packets that are commands
 unfoldable pub bytes_of_output : List (List Command) → List ℕ
@@ -41,10 +42,10 @@ unfoldable pub compiled : List ℕ → List ℕ → Compiled
 compiled list room = compiled_to (records_of list) room
 
 -- an answer of the code as the papers list it
-unfoldable pub compile_listed : CompileAnswer → Answer
-compile_listed (CompileAnswer.Compiled bytes count) = Answer.accepted (bytes ∷ count ∷ [])
-compile_listed (CompileAnswer.Refused r) = refusal r
+unfoldable pub compile_listed : Result Packed Refusal → Answer
+compile_listed (Ok p) = Answer.accepted (p.bytes ∷ p.packets ∷ [])
+compile_listed (Err r) = refusal r
 
 -- what a compilation of the code answers and leaves
-unfoldable pub left : CompileAnswer → List ℕ → Compiled
+unfoldable pub left : Result Packed Refusal → List ℕ → Compiled
 left a room = record { answer = compile_listed a; room = room }

@@ -99,3 +99,14 @@ records_from (suc fuel) index (b ∷ bs) =
 
 unfoldable pub records_of : List ℕ → Listed
 records_of list = records_from (length list) 0 list
+
+-- What a list's bytes name, taken apart by the marks alone; a good list's records. Of as many bytes as `fuel` at most.
+unfoldable pub cut_from : ℕ → List ℕ → List Record
+cut_from zero rest = []
+cut_from (suc fuel) [] = []
+cut_from (suc fuel) (b ∷ bs) =
+    let rest = b ∷ bs in
+    record_at rest ∷ cut_from fuel (drop (record_bytes (record_kind rest)) rest)
+
+unfoldable pub cut_up : List ℕ → List Record
+cut_up list = cut_from (length list) list

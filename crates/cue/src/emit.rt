@@ -10,7 +10,7 @@ ghost use Rattle.cue.specs.Summary.{Progress, last_fields, framed_at, unlocked_a
 use crate::frame::MARK;
 use crate::packer::Packer;
 use crate::{packer, records};
-use lbp16::word::{Fields, Written};
+use lbp16::word::Fields;
 use lbp16::{space, word};
 
 // Two bytes, low byte first.
@@ -18,9 +18,7 @@ fn put2(out: &mut [u8], at: usize, value: u16)
     requires { at + 2 ≤ length out.old }
     ensures { out.new ≡ sets out.old at (bytes_of 2 value) }
 {
-    out[at] = (value % 256) as u8;
-    let next = at + 1;
-    out[next] = (value / 256) as u8;
+    out[at..at + 2].copy_from_slice(&value.to_le_bytes());
 }
 
 fn put4(out: &mut [u8], at: usize, low: u16, high: u16)
@@ -45,10 +43,7 @@ fn word_of(q: Packer) -> u16
         increment: true,
         count: q.count,
     };
-    match word::word_of(fields) {
-        Written::Word(w) => w,
-        Written::Refused(_) => 0,
-    }
+    word::word_of(fields).unwrap_or(0)
 }
 
 fn put_frame(out: &mut [u8], q: Packer)
@@ -82,11 +77,7 @@ fn put_element(out: &mut [u8], at: usize, rest: &[u8], n: usize)
     requires { (at + n ≤ length out.old) × (6 + n ≤ length rest.now) }
     ensures { out.new ≡ sets out.old at (take n (drop 6 rest.now)) }
 {
-    let mut i: usize = 0;
-    while i < n {
-        out[at + i] = rest[6 + i];
-        i += 1;
-    }
+    out[at..at + n].copy_from_slice(&rest[6..6 + n]);
 }
 
 // One record, of which the packer is already told; `n`: the bytes of its element.

@@ -12,7 +12,7 @@ pub const MARK: u16 = 0x424C;
 pub const ROOM: usize = LIMIT + 4;
 
 // What stands at the front of bytes.
-#[derive(Clone, Copy)]
+#[derive(Clone, Copy, Debug, PartialEq, Eq)]
 pub enum Frame {
     End,
     Cut,

@@ -2,7 +2,7 @@
 // only the second writes, so that a refused list leaves the room as it is.
 #![tactic(auto)]
 
-use lbp16::Refusal;
+use lbp16::{Refusal, Rule};
 
 mod emit;
 pub mod frame;
@@ -16,12 +16,15 @@ ghost use Rattle.cue.specs.Demand3.{Demand3};
 ghost use Rattle.lbp16.specs.Answer.{Answer};
 ghost use Rattle.cue.specs.Compile.{compiled, compile_listed, left};
 
-// The output's bytes and how many packets it holds, or why the list was refused.
-#[derive(Clone, Copy)]
-pub enum CompileAnswer {
-    Compiled { bytes: usize, packets: usize },
-    Refused(Refusal),
+// The output's bytes and how many packets it holds.
+#[derive(Clone, Copy, Debug, PartialEq, Eq)]
+pub struct Packed {
+    pub bytes: usize,
+    pub packets: usize,
 }
+
+// What a list is packed into, or why it was refused.
+pub type CompileAnswer = Result<Packed, Refusal>;
 
 // Refused with 26, and the bytes needed as its place, where the list is good and the room too small.
 pub fn compile(list: &[u8], out: &mut [u8]) -> CompileAnswer
@@ -29,16 +32,10 @@ pub fn compile(list: &[u8], out: &mut [u8]) -> CompileAnswer
     ensures demand3 { (bytes count : ℕ) → compile_listed result ≡ Answer.accepted (bytes ∷ count ∷ [])
         → Demand3 list.now out.new bytes count }
 {
-    let answer = plan::plan(list);
-    let CompileAnswer::Compiled { bytes, packets } = answer else {
-        return answer;
-    };
-    if out.len() < bytes {
-        return CompileAnswer::Refused(Refusal {
-            number: 26,
-            place: bytes as u64,
-        });
+    let packed = plan::plan(list)?;
+    if out.len() < packed.bytes {
+        return Err(Rule::OutputRoom.at(packed.bytes as u64));
     }
     emit::emit(list, out);
-    CompileAnswer::Compiled { bytes, packets }
+    Ok(packed)
 }

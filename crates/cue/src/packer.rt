@@ -22,7 +22,7 @@ const CLOSED: bool = false;
 // The last command's kind, space, address and count; the packet's bytes, its reply's, and whether the unlock is open in
 // it; `unlock`: the last record put an unlock command before its own. `frame`, `word` and `end` are places in the
 // output: of the packet's mark, of the last command's word, and past the packet. `packets` counts this one too.
-#[derive(Clone, Copy)]
+#[derive(Clone, Copy, Debug, PartialEq, Eq)]
 pub struct Packer {
     pub write: bool,
     pub space: u8,
@@ -94,18 +94,12 @@ fn joined(p: Packer, bytes: usize, answer: usize) -> Packer
     ensures { result ≡ joined_with p bytes answer }
 {
     Packer {
-        write: p.write,
-        space: p.space,
-        address: p.address,
         count: p.count + 1,
         packet: p.packet + bytes,
         reply: p.reply + answer,
-        unlocked: p.unlocked,
         unlock: false,
-        frame: p.frame,
-        word: p.word,
         end: p.end + bytes,
-        packets: p.packets,
+        ..p
     }
 }
 
@@ -124,10 +118,9 @@ fn started(p: Packer, r: Record, bytes: usize, answer: usize, need: bool) -> Pac
         reply: p.reply + answer,
         unlocked: p.unlocked | need,
         unlock: need,
-        frame: p.frame,
         word: p.end + unlock,
         end: p.end + unlock + 4 + bytes,
-        packets: p.packets,
+        ..p
     }
 }
 
@@ -137,18 +130,14 @@ fn closed(p: Packer) -> Packer
     ensures { result ≡ closed_by p }
 {
     Packer {
-        write: p.write,
-        space: p.space,
-        address: p.address,
-        count: p.count,
         packet: 0,
         reply: 0,
         unlocked: CLOSED,
         unlock: false,
         frame: p.end,
-        word: p.word,
         end: p.end + 4,
         packets: p.packets + 1,
+        ..p
     }
 }
 

@@ -4,8 +4,8 @@ ghost use Rattle.cue.specs.Records.{records_of};
 ghost use Rattle.cue.specs.Compile.{compile_listed, needed};
 
 use crate::packer::Packer;
-use crate::{CompileAnswer, packer, records};
-use lbp16::{Refusal, space};
+use crate::{CompileAnswer, Packed, packer, records};
+use lbp16::space;
 
 // The bytes and packets that the list needs, or the refusal of its earliest bad record.
 pub fn plan(list: &[u8]) -> CompileAnswer
@@ -15,12 +15,8 @@ pub fn plan(list: &[u8]) -> CompileAnswer
     let mut index: usize = 0;
     let mut packer = Packer::empty();
     while rest.len() != 0 {
-        let number = records::record_refusal(rest, index);
-        if number != 0 {
-            return CompileAnswer::Refused(Refusal {
-                number,
-                place: index as u64,
-            });
+        if let Err(rule) = records::record_refusal(rest, index) {
+            return Err(rule.at(index as u64));
         }
         let r = records::whole_record(rest);
         packer = packer::turned(packer, r, space::row_of(r.space));
@@ -28,8 +24,8 @@ pub fn plan(list: &[u8]) -> CompileAnswer
         rest = &rest[n..];
         index += 1;
     }
-    CompileAnswer::Compiled {
+    Ok(Packed {
         bytes: packer.end,
         packets: packer.packets,
-    }
+    })
 }

@@ -1,13 +1,16 @@
 // A cue list's records. Every function here gets the list's bytes from that record on.
-ghost use Rattle.std.specs.Prelude.{◌≡◌, not, true, false, ℕ, ◌<◌, ◌≤◌, length, get_or, eqb};
+ghost use Rattle.std.specs.Prelude.{◌≡◌, not, true, false, ℕ, ◌<◌, ◌≤◌, length, drop, get_or, eqb};
+ghost use Rattle.lbp16.specs.Answer.{ruled};
 ghost use Rattle.lbp16.specs.Space.{is_absent};
 ghost use Rattle.packet.specs.Command.{pick_kind};
 ghost use Rattle.packet.specs.Rules.{first};
 ghost use Rattle.cue.specs.Records.{record_step, record_space, record_bytes, bad_element, upper_half, record_refusals, most_records};
 ghost use Rattle.cue.specs.Records.{record_at};
+ghost use Rattle.std.specs.Iterator.{YieldsFirst, item_count};
+ghost use Rattle.cue.specs.Records.{cut_up};
 
-use lbp16::space;
-use packet::{bytes, rule};
+use lbp16::{Rule, space};
+use packet::bytes;
 
 // The most records that a list may have.
 pub const MOST: usize = 100000;
@@ -17,7 +20,7 @@ pub const READ_MARK: u16 = 0x4452;
 pub const WRITE_MARK: u16 = 0x5257;
 
 // What a record names, a write's value apart.
-#[derive(Clone, Copy)]
+#[derive(Clone, Copy, Debug, PartialEq, Eq)]
 pub struct Record {
     pub write: bool,
     pub space: u8,
@@ -28,10 +31,7 @@ pub struct Record {
 fn byte_at(s: &[u8], at: usize) -> u8
     ensures { result ≡ get_or s.now at 0 }
 {
-    if s.len() <= at {
-        return 0;
-    }
-    s[at]
+    s.get(at).copied().unwrap_or(0)
 }
 
 pub fn record_at(rest: &[u8]) -> Record
@@ -80,23 +80,28 @@ fn too_wide(rest: &[u8]) -> bool
     (byte_at(rest, 2) != 0) & (bytes::pair_at(rest, 8) != 0)
 }
 
-// The lowest number of refusals 21 to 24 whose condition holds, 0 if none does.
-fn lowest_refusal(rest: &[u8], index: usize) -> u32
-    ensures { result ≡ first (record_refusals index rest.now) }
+// The lowest of refusals 21 to 24 whose condition holds.
+fn lowest_refusal(rest: &[u8], index: usize) -> Result<(), Rule>
+    ensures { ruled result ≡ first (record_refusals index rest.now) }
 {
     if index == MOST {
-        return 21;
+        return Err(Rule::TooManyRecords);
     }
     if rest.len() < 6 {
-        return 22;
+        return Err(Rule::RecordCut);
     }
     let mark = bytes::pair_at(rest, 0);
     let write = mark == WRITE_MARK;
     if ((mark != READ_MARK) & !write) | (rest.len() < record_bytes(write)) {
-        return 22;
+        return Err(Rule::RecordCut);
     }
-    let r = rule::first_of((byte_at(rest, 3) != 0) | (write & too_wide(rest)), 24, 0);
-    rule::first_of(bad_element(rest), 23, r)
+    if bad_element(rest) {
+        return Err(Rule::BadElement);
+    }
+    if (byte_at(rest, 3) != 0) | (write & too_wide(rest)) {
+        return Err(Rule::SpareBits);
+    }
+    Ok(())
 }
 
 // Whether this is surely a good record: of a register, with as many bytes as a write has. Most records are, and need no
@@ -115,12 +120,40 @@ fn plain_register(rest: &[u8]) -> bool
         & (address % 4 == 0)
 }
 
-// The number that the table gives, found without it for a plain register.
-pub fn record_refusal(rest: &[u8], index: usize) -> u32
-    ensures { result ≡ first (record_refusals index rest.now) }
+// What the table says, found without it for a plain register.
+pub fn record_refusal(rest: &[u8], index: usize) -> Result<(), Rule>
+    ensures { ruled result ≡ first (record_refusals index rest.now) }
 {
     if plain_register(rest) & (index != MOST) {
-        return 0;
+        return Ok(());
     }
     lowest_refusal(rest, index)
+}
+
+// The bytes behind the first n, none where there are not so many.
+fn past(rest: &[u8], n: usize) -> &[u8]
+    ensures { result.now ≡ drop n rest.now }
+{
+    rest.get(n..).unwrap_or(&[])
+}
+
+// A list's records one after the other, each ending where its mark says or at the list's end.
+#[derive(Clone, Copy)]
+pub struct Records<'a>(pub &'a [u8]);
+
+impl<'a> Iterator for Records<'a> {
+    type Item = Record;
+
+    ghost next_gives = { YieldsFirst (λ s. cut_up s.0.now) };
+
+    ghost remaining = { item_count (λ s. cut_up s.0.now) };
+
+    fn next(&mut self) -> Option<Record> {
+        if self.0.is_empty() {
+            return None;
+        }
+        let r = record_at(self.0);
+        self.0 = past(self.0, record_bytes(r.write));
+        Some(r)
+    }
 }

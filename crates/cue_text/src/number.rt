@@ -1,5 +1,6 @@
 // Words as numbers.
-ghost use Rattle.std.specs.Prelude.{◌≡◌, min, ◌≤◌, drop};
+ghost use Rattle.std.specs.Prelude.{◌≡◌, min, ◌≤◌, ◌<◌, drop, MatchOption};
+ghost use Rattle.text.specs.Find.{hex_value};
 ghost use Rattle.cue_text.specs.Numbers.{value, digits_value, is_hex, number_of, space_of, address_of, value_of};
 ghost use Rattle.cue_text.specs.Inside.{most_held, held_at, given, kept_to};
 
@@ -21,6 +22,17 @@ fn held(n: u64) -> u64
     if n < MOST_HELD { n } else { MOST_HELD }
 }
 
+// A digit's value where it is one of the base's.
+fn digit_of(c: u8, base: u64) -> Option<u64>
+    requires { base ≤ 16 }
+    ensures { MatchOption result (base ≤ hex_value c) (λ d. (d ≡ hex_value c) × (d < base)) }
+{
+    match find::hex_value(c) {
+        Some(d) if (d as u64) < base => Some(d as u64),
+        _ => None,
+    }
+}
+
 // The digits from `from` on.
 fn digits(word: &[u8], from: usize, base: u64) -> Number
     requires { (1 ≤ base) × (base ≤ 16) }
@@ -29,13 +41,12 @@ fn digits(word: &[u8], from: usize, base: u64) -> Number
     let mut n: u64 = 0;
     let mut i = from;
     while i < word.len() {
-        let d = find::hex_value(word[i]) as u64;
-        if base <= d {
+        let Some(d) = digit_of(word[i], base) else {
             return Number {
                 good: false,
                 value: 0,
             };
-        }
+        };
         n = held(base * n + d);
         i += 1;
     }

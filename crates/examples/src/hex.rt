@@ -45,9 +45,8 @@ fn with_digit(d: Data, v: usize, address: u16) -> Data {
 
 // A digit's value; 16 and 17 are L and H.
 fn value_of(c: u8) -> usize {
-    let v = find::hex_value(c);
-    if v < 16 {
-        return v;
+    if let Some(v) = find::hex_value(c) {
+        return v as usize;
     }
     match c {
         b'L' => 16,

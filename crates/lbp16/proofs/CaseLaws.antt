@@ -1,10 +1,11 @@
--- A match on a space's number, arm by arm: what is said of the space.
+-- A match on a space, and on its number: what is said of the space.
 use Prim.Native.Nat.{ℕ}
 use mathlib.Core.Path.{◌≡◌, refl}
 use mathlib.Core.Bool.{Bool, true, false, cond}
 use lib.Dec.{eqb}
 use borrow.Author.Tests.{eqb-true, eqb-false, ne_eqb}
-use Rattle.lbp16.specs.Space.{Space, registers, eeprom, status, information, absent, space_of}
+use Rattle.lbp16.specs.Space.{Space, registers, eeprom, status, information, absent, space_of, space_named}
+use Rattle.lbp16.specs.declared.space.Space.{Space as SpaceName}
 
 module _ {A : Type 0} (f : Space → A) (n : ℕ) where
   pub at-registers : n ≡ 0 → f registers ≡ f (space_of n)
@@ -26,6 +27,10 @@ module _ {A : Type 0} (f : Space → A) (n : ℕ) where
   pub at_absent : (n ≡ 0 → ⊥) → (n ≡ 2 → ⊥) → (n ≡ 6 → ⊥) → (n ≡ 7 → ⊥) → f absent ≡ f (space_of n)
   unfolding space_of
   at_absent a b c d = rw (ne_eqb _ _ a, ne_eqb _ _ b, ne_eqb _ _ c, ne_eqb _ _ d) refl
+
+-- the space of a number, once its name is known
+pub space_is : {s t : SpaceName} (n : ℕ) (e : space_named s ≡ space_of n) → s ≡ t → space_named t ≡ space_of n
+space_is n e h = rw h at e
 
 -- what holds of the four spaces, and of a number that names none, holds of every number's space
 pub space-cases : (n : ℕ) (P : ℕ → Space → Type 0) → P 0 registers → P 2 eeprom → P 6 status → P 7 information

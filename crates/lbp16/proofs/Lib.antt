@@ -1,4 +1,5 @@
 -- Laws of the definitions in specs/.
+pub mod RuleLaws
 pub mod BoolLaws
 pub mod ListLaws
 pub mod WordLaws

@@ -1,6 +1,8 @@
 -- The spaces of the card store. Spaces 1, 3, 4 and 5 are absent.
 use Rattle.std.specs.Prelude.{ℕ, Bool, true, false, cond, eqb}
 use Rattle.lbp16.specs.declared.space.Row.{Row}
+use Rattle.lbp16.specs.declared.space.Space.{Space as SpaceName}
+use Rattle.lbp16.specs.declared.space.Space.TheVariants.{Registers, Eeprom, Status, Information, Absent}
 
 pub data Space : Type 0 where
   registers eeprom status information absent : Space
@@ -9,6 +11,14 @@ unfoldable pub space_of : ℕ → Space
 space_of n =
     cond (eqb n 0) registers
     (cond (eqb n 2) eeprom (cond (eqb n 6) status (cond (eqb n 7) information absent)))
+
+-- the code's name for a space
+abbrev pub space_named : SpaceName → Space
+space_named Registers = registers
+space_named Eeprom = eeprom
+space_named Status = status
+space_named Information = information
+space_named Absent = absent
 
 -- a space's number in a command word; one of the absent spaces' for those
 unfoldable pub space_number : Space → ℕ

@@ -1,9 +1,8 @@
 -- The command word, low bit first: count 7 bits, increment, size 2 bits, space 3 bits, info, address, write.
-use Rattle.std.specs.Prelude.{ℕ, ◌+◌, ◌*◌, ◌/◌, ◌%◌, [], ◌∷◌, Bool, true, false, ◌||◌, cond, eqb, ltb}
+use Rattle.std.specs.Prelude.{ℕ, ◌+◌, ◌*◌, ◌/◌, ◌%◌, [], ◌∷◌, Bool, true, false, ◌||◌, cond, eqb, ltb, Result, Ok, Err}
 use Rattle.lbp16.specs.Answer.{Answer, accepted, refused, refusal}
 use Rattle.lbp16.specs.declared.word.Fields.{Fields}
-use Rattle.lbp16.specs.declared.word.Written.{Written}
-use Rattle.lbp16.specs.declared.word.Written.TheVariants.{Word, Refused}
+use Rattle.lbp16.specs.declared.Refusal.{Refusal}
 
 unfoldable pub fields_of : ℕ → Fields
 fields_of w =
@@ -36,6 +35,6 @@ out_of_range f = ltb 7 f.space || ltb 3 f.size || ltb 127 f.count
 unfoldable pub written : Fields → Answer
 written f = cond (out_of_range f) (refused 13 0) (accepted (word_of f ∷ []))
 
-unfoldable pub listed : Written → Answer
-listed (Word w) = accepted (w ∷ [])
-listed (Refused r) = refusal r
+unfoldable pub listed : Result ℕ Refusal → Answer
+listed (Ok w) = accepted (w ∷ [])
+listed (Err r) = refusal r

@@ -4,10 +4,10 @@ ghost use Rattle.lbp16.specs.Space.{space_of};
 ghost use Rattle.lbp16.specs.Pointer.{advanced, fresh_spaces, fresh, of_space, with_space, pointer_of, with_pointer, above_size};
 ghost use Rattle.lbp16.specs.Pointer.{spaces_at, pointers_of, lent_pointers, space_slot, slot_of};
 
-use crate::space;
+use crate::space::Space;
 
 // Wider than the sixteen bits of an address, since it may stand past the end of a space.
-#[derive(Clone, Copy)]
+#[derive(Clone, Copy, Debug, PartialEq, Eq)]
 pub struct Pointer {
     pub at: u32,
 }
@@ -44,7 +44,7 @@ impl Pointer {
 }
 
 // One pointer for each space.
-#[derive(Clone, Copy)]
+#[derive(Clone, Copy, Debug, PartialEq, Eq)]
 pub struct SpacePointers {
     pub registers: Pointer,
     pub eeprom: Pointer,
@@ -81,12 +81,12 @@ impl SpacePointers {
     pub fn of(self, space: u8) -> Pointer
         ensures { result.at ≡ of_space self (space_of space) }
     {
-        match space {
-            0 => self.registers,
-            2 => self.eeprom,
-            6 => self.status,
-            7 => self.information,
-            _ => Pointer::new(0),
+        match Space::from(space) {
+            Space::Registers => self.registers,
+            Space::Eeprom => self.eeprom,
+            Space::Status => self.status,
+            Space::Information => self.information,
+            Space::Absent => Pointer::new(0),
         }
     }
 
@@ -95,19 +95,19 @@ impl SpacePointers {
         ensures { result ≡ with_space self (space_of space) p.at }
     {
         let mut next = self;
-        match space {
-            0 => next.registers = p,
-            2 => next.eeprom = p,
-            6 => next.status = p,
-            7 => next.information = p,
-            _ => {}
+        match Space::from(space) {
+            Space::Registers => next.registers = p,
+            Space::Eeprom => next.eeprom = p,
+            Space::Status => next.status = p,
+            Space::Information => next.information = p,
+            Space::Absent => {}
         }
         next
     }
 }
 
 // Those of the spaces, and those of their info areas.
-#[derive(Clone, Copy)]
+#[derive(Clone, Copy, Debug, PartialEq, Eq)]
 pub struct Pointers {
     pub plain: SpacePointers,
     pub info: SpacePointers,
@@ -195,12 +195,12 @@ impl Pointers {
 fn space_slot(space: u8) -> usize
     ensures { (result ≡ space_slot (space_of space)) × (result ≤ 8) }
 {
-    match space {
-        0 => 0,
-        2 => 1,
-        6 => 2,
-        7 => 3,
-        _ => 8,
+    match Space::from(space) {
+        Space::Registers => 0,
+        Space::Eeprom => 1,
+        Space::Status => 2,
+        Space::Information => 3,
+        Space::Absent => 8,
     }
 }
 
@@ -216,7 +216,7 @@ pub fn slot_of(info: bool, space: u8) -> usize
 pub fn at_slot(lent: &[u32], slot: usize) -> u32
     ensures { result ≡ get_or lent.now slot 0 }
 {
-    if slot < lent.len() { lent[slot] } else { 0 }
+    lent.get(slot).copied().unwrap_or(0)
 }
 
 // The pointer at such a slot; 0 at that of a space that the card lacks.

@@ -2,10 +2,10 @@
 ghost use Rattle.std.specs.Prelude.{◌≡◌, ◌*◌, ◌≤◌};
 ghost use Rattle.lbp16.specs.Word.{bit, fields_of, out_of_range, written, listed};
 
-use crate::Refusal;
+use crate::{Refusal, Rule};
 
 // The size code 0, 1, 2, 3 stands for elements of 1, 2, 4, 8 bytes.
-#[derive(Clone, Copy)]
+#[derive(Clone, Copy, Debug, PartialEq, Eq)]
 pub struct Fields {
     pub write: bool,
     pub address: bool,
@@ -14,12 +14,6 @@ pub struct Fields {
     pub size: u8,
     pub increment: bool,
     pub count: u8,
-}
-
-#[derive(Clone, Copy)]
-pub enum Written {
-    Word(u16),
-    Refused(Refusal),
 }
 
 // Every word has fields.
@@ -40,7 +34,7 @@ pub fn fields_of(word: u16) -> Fields
 fn weighed(flag: bool, weight: u16) -> u16
     ensures { (result ≡ bit flag * weight) × (result ≤ weight) }
 {
-    if flag { weight } else { 0 }
+    u16::from(flag) * weight
 }
 
 fn out_of_range(f: Fields) -> bool
@@ -50,14 +44,11 @@ fn out_of_range(f: Fields) -> bool
 }
 
 // Refused with 13 where a field is out of range.
-pub fn word_of(f: Fields) -> Written
+pub fn word_of(f: Fields) -> Result<u16, Refusal>
     ensures { listed result ≡ written f }
 {
     if out_of_range(f) {
-        return Written::Refused(Refusal {
-            number: 13,
-            place: 0,
-        });
+        return Err(Rule::FieldRange.at(0));
     }
     let write = weighed(f.write, 32768);
     let address = weighed(f.address, 16384);
@@ -66,5 +57,5 @@ pub fn word_of(f: Fields) -> Written
     let space = f.space as u16;
     let size = f.size as u16;
     let count = f.count as u16;
-    Written::Word(write + address + info + space * 1024 + size * 256 + increment + count)
+    Ok(write + address + info + space * 1024 + size * 256 + increment + count)
 }

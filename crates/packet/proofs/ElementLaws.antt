@@ -9,7 +9,9 @@ use lib.Dec.{eqb, ltb, eqb-suc-zero}
 use borrow.Author.Tests.{ltb-true, lt-ltb}
 use Rattle.lbp16.specs.Space.{Space, space_of}
 use Rattle.lbp16.specs.Word.{bit}
-use Rattle.lbp16.specs.Answer.{Answer}
+use Rattle.lbp16.specs.Answer.{Answer, rule_number}
+use Rattle.lbp16.specs.declared.Rule.{Rule}
+use Rattle.lbp16.proofs.RuleLaws.{rule_number_range}
 use Rattle.lbp16.specs.declared.word.Fields.{Fields}
 use Rattle.lbp16.specs.declared.pointer.Pointers.{Pointers}
 use Rattle.packet.specs.Step.{Kind, read, write, infoRead, is_info, is_write, row_by, carried, answered}
@@ -139,10 +141,13 @@ barred_quick p f rest = go f.count
     go (suc n) = barred-first _ _ n _ _ _ ∙ rw (eqb-suc-zero n, write-kind f) refl
 
 -- which of read, write or refusal, as the code lists it
-pub which-refused : (n place : ℕ) (k : Kind) → (n ≡ 0 → ⊥) → which_listed (Refused n) place ≡ which_of n place k
+pub which-refused : (r : Rule) (place : ℕ) (k : Kind) → which_listed (Refused r) place ≡ which_of (rule_number r) place k
 unfolding which_listed which_of
-which-refused zero place k h = absurd (h refl)
-which-refused (suc n) place k h = refl
+which-refused r place k = some (rule_number r) (rule_number_range r).0
+  where
+    some : (n : ℕ) → 1 ≤ n → Answer.refused n place ≡ which_of n place k
+    some zero h = absurd (omega arith)
+    some (suc n) h = refl
 
 -- where no rule holds it is found to be what its write bit says
 pub which-write : (f : Fields) (place : ℕ) → f.write ≡ true → which_listed Write place ≡ which_of 0 place (kind_of f)
@@ -179,6 +184,6 @@ module _ (f : Fields) (w : Which) (e : (place : ℕ) → which_listed w place �
   unfolding which_listed
   is-write h = bit-set _ ((which-passed _ _ _ _ (rw h at (e 0))).1 ∙ ap bit (write-kind f))
 
-  pub never-refused : (n : ℕ) → w ≡ Refused n → ⊥
+  pub never-refused : (r : Rule) → w ≡ Refused r → ⊥
   unfolding which_listed which_of
-  never-refused n h = let q = rw h at (e 0) in let z : ◌≡◌ {A = ℕ} 0 1 = cc in omega arith
+  never-refused r h = let q = rw h at (e 0) in let z : ◌≡◌ {A = ℕ} 0 1 = cc in omega arith

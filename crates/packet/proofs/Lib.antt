@@ -12,6 +12,7 @@ pub mod ProgressLaws
 pub mod ReachLaws
 pub mod TableLaws
 pub mod JudgeLaws
+pub mod VerdictLaws
 pub mod LoopLaws
 pub mod RefusalLaws
 pub mod InfoLaws

@@ -6,7 +6,8 @@ use mathlib.Core.Bool.{Bool, false, cond, and-false}
 use native.Mathlib.Omega.{arith}
 use native.Mathlib.Nat.{le_refl}
 use lib.ListN.{length, take, drop, set, length-take, length-drop, length-set}
-use Rattle.lbp16.specs.Answer.{Answer}
+use Rattle.lbp16.specs.Answer.{Answer, rule_number}
+use Rattle.lbp16.specs.declared.Rule.{Rule}
 use Rattle.lbp16.specs.Space.{space_of}
 use Rattle.lbp16.specs.Word.{bit}
 use Rattle.lbp16.specs.Pointer.{pointers_of, lent_pointers}
@@ -246,12 +247,12 @@ module _ {lent packet pointers : List ℕ} {open? : Bool} {reply : ℕ} {rest : 
     which-found = ap (λ (y : Finding). y.which) q.found
 
     -- A refusal is the packet's, at the place that is found.
-    pub checking_refused : (n : ℕ) → j.found.which ≡ Refused n
-        → Answer.refused n j.found.place ≡ answer_to (judge (pointers_of lent) packet)
+    pub checking_refused : (r : Rule) → j.found.which ≡ Refused r
+        → Answer.refused (rule_number r) j.found.place ≡ answer_to (judge (pointers_of lent) packet)
     unfolding which_listed number
-    checking_refused n w =
-        let e = which-number n _ _ _ _ (sym (ap (λ (x : Which). which_listed x j.found.place) w) ∙ which-found) in
-        rw e.2 (at-refused rest s.here some n e.0 (λ z. e.1 (sym e.0 ∙ z)))
+    checking_refused r w =
+        let e = which-number (rule_number r) _ _ _ _ (sym (ap (λ (x : Which). which_listed x j.found.place) w) ∙ which-found) in
+        rw e.2 (at-refused rest s.here some (rule_number r) e.0 (λ z. e.1 (sym e.0 ∙ z)))
 
     -- A read or a write, by its write bit.
     module _ (b : ℕ) (is : which_listed j.found.which j.found.place ≡ Answer.accepted (b ∷ [])) where

@@ -2,7 +2,7 @@
 use Rattle.std.specs.Prelude.{ℕ, zero, suc, ◌+◌, ◌*◌, List, [], ◌∷◌, Bool, false, not, ◌||◌, ◌&&◌, cond, length, take, drop, eqb, ltb}
 use Rattle.lbp16.specs.Space.{Space, space_of, is_absent}
 use Rattle.lbp16.specs.Word.{bit, fields_of}
-use Rattle.lbp16.specs.Answer.{Answer}
+use Rattle.lbp16.specs.Answer.{Answer, rule_number}
 use Rattle.lbp16.specs.Pointer.{pointer_of, with_pointer}
 use Rattle.lbp16.specs.Info.{area_words}
 use Rattle.lbp16.specs.declared.space.Row.{Row}
@@ -121,7 +121,7 @@ found p open? reply place rest =
 unfoldable pub which_listed : Which → ℕ → Answer
 which_listed Read place = Answer.accepted (0 ∷ [])
 which_listed Write place = Answer.accepted (1 ∷ [])
-which_listed (Refused n) place = Answer.refused n place
+which_listed (Refused r) place = Answer.refused (rule_number r) place
 
 unfoldable pub found_listed : Found → Finding
 found_listed x = record { fields = x.fields; place = x.place; which = which_listed x.which x.place }

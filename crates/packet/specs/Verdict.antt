@@ -1,11 +1,10 @@
 -- The verdict as the papers list it.
-use Rattle.std.specs.Prelude.{[], ◌∷◌}
+use Rattle.std.specs.Prelude.{ℕ, [], ◌∷◌, Result, Ok, Err}
 use Rattle.lbp16.specs.Answer.{Answer, refusal}
 use Rattle.packet.specs.Step.{reply_bytes}
 use Rattle.packet.specs.Judge.{refused, accepted}
 use Rattle.packet.specs.Judge
-use Rattle.packet.specs.declared.judge.Verdict.{Verdict}
-use Rattle.packet.specs.declared.judge.Verdict.TheVariants.{Accepted, Refused}
+use Rattle.lbp16.specs.declared.Refusal.{Refusal}
 
 -- the reply length, or the refusal
 unfoldable pub answer_to : Judge.Verdict → Answer
@@ -13,6 +12,6 @@ answer_to (refused n place) = Answer.refused n place
 answer_to (accepted c) = Answer.accepted (reply_bytes c.steps ∷ [])
 
 -- the check's answer: its number and values, for each case
-unfoldable pub verdict_listed : Verdict → Answer
-verdict_listed (Accepted n) = Answer.accepted (n ∷ [])
-verdict_listed (Refused r) = refusal r
+unfoldable pub verdict_listed : Result ℕ Refusal → Answer
+verdict_listed (Ok n) = Answer.accepted (n ∷ [])
+verdict_listed (Err r) = refusal r

@@ -12,20 +12,20 @@ use crate::bytes;
 use lbp16::pointer::{Pointer, Pointers};
 use lbp16::space::Row;
 use lbp16::word::Fields;
-use lbp16::{pointer, space, word};
+use lbp16::{Rule, pointer, space, word};
 
 // The most bytes that a packet or its reply may have: 1,500 less 28 of IP and UDP headers.
 pub const LIMIT: usize = 1472;
 
-#[derive(Clone, Copy)]
+#[derive(Clone, Copy, Debug, PartialEq, Eq)]
 pub enum Which {
     Read,
     Write,
-    Refused(u32),
+    Refused(Rule),
 }
 
 // The fields (all 0 where the word is cut off), the command's offset, and which of read, write or refusal it is.
-#[derive(Clone, Copy)]
+#[derive(Clone, Copy, Debug, PartialEq, Eq)]
 pub struct Found {
     pub fields: Fields,
     pub place: usize,
@@ -34,7 +34,7 @@ pub struct Found {
 
 // How far a command reaches: the slot of its pointer among the eight, the address used, where its first element stands in the
 // store or the info area, an element's bytes, those of the whole command and of its reply, and where it leaves the pointer.
-#[derive(Clone, Copy)]
+#[derive(Clone, Copy, Debug, PartialEq, Eq)]
 pub struct Reach {
     pub slot: usize,
     pub used: u32,
@@ -46,7 +46,7 @@ pub struct Reach {
 }
 
 // A command's fields and its reach.
-#[derive(Clone, Copy)]
+#[derive(Clone, Copy, Debug, PartialEq, Eq)]
 pub struct Command {
     pub fields: Fields,
     pub reach: Reach,

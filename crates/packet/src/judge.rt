@@ -1,21 +1,17 @@
 // The check of a whole packet, command by command.
 ghost use Rattle.std.specs.Prelude.{◌≡◌, cond, eqb, length};
-ghost use Rattle.lbp16.specs.Answer.{Answer};
+ghost use Rattle.lbp16.specs.Answer.{Answer, rule_number};
 ghost use Rattle.lbp16.specs.Pointer.{pointers_of};
 ghost use Rattle.packet.specs.Judge.{judge, refused};
 ghost use Rattle.packet.specs.Verdict.{answer_to, verdict_listed};
 
 use crate::command::Which;
 use crate::{command, refusal};
-use lbp16::Refusal;
 use lbp16::pointer::Pointers;
+use lbp16::{Refusal, Rule};
 
 // The reply length, or the refusal.
-#[derive(Clone, Copy)]
-pub enum Verdict {
-    Accepted(u64),
-    Refused(Refusal),
-}
+pub type Verdict = Result<u64, Refusal>;
 
 fn copied(lent: &[u32]) -> [u32; 8]
     requires { length lent.now ≡ 8 }
@@ -27,14 +23,10 @@ fn copied(lent: &[u32]) -> [u32; 8]
 }
 
 // A refusal, as a verdict.
-pub fn refused(number: u32, place: usize) -> Verdict
-    ensures { verdict_listed result ≡ Answer.refused number place }
+fn refused(rule: Rule, place: usize) -> Verdict
+    ensures { verdict_listed result ≡ Answer.refused (rule_number rule) place }
 {
-    let refusal = Refusal {
-        number,
-        place: place as u64,
-    };
-    Verdict::Refused(refusal)
+    Err(rule.at(place as u64))
 }
 
 // The reply length, or the refusal of the earliest command that is refused, on pointers that are lent as a list. Another count of
@@ -44,7 +36,7 @@ pub fn judge_lent(packet: &[u8], lent: &[u32]) -> Verdict
         ≡ answer_to (cond (eqb (length lent.now) 8) (judge (pointers_of lent.now) packet.now) (refused 1 0)) }
 {
     if lent.len() != 8 {
-        return refused(1, 0);
+        return refused(Rule::State, 0);
     }
     let mut pointers = copied(lent);
     let mut unlocked = false;
@@ -61,7 +53,7 @@ pub fn judge_lent(packet: &[u8], lent: &[u32]) -> Verdict
                 Which::Read => {}
                 // Space 0 has no unlock cell.
                 Which::Write => {}
-                Which::Refused(number) => return refused(number, found.place),
+                Which::Refused(rule) => return refused(rule, found.place),
             }
             c.reach
         } else {
@@ -73,7 +65,7 @@ pub fn judge_lent(packet: &[u8], lent: &[u32]) -> Verdict
                 Which::Write => {
                     unlocked = command::unlocked_next(rest, unlocked, found.fields, c.reach.used);
                 }
-                Which::Refused(number) => return refused(number, found.place),
+                Which::Refused(rule) => return refused(rule, found.place),
             }
             c.reach
         };
@@ -83,7 +75,7 @@ pub fn judge_lent(packet: &[u8], lent: &[u32]) -> Verdict
         let k = reach.bytes;
         rest = &rest[k..];
     }
-    Verdict::Accepted(reply as u64)
+    Ok(reply as u64)
 }
 
 // The same, on pointers by value.

@@ -1,5 +1,6 @@
 // Refusals 3 to 12: what is found at one command of a packet. Every function here gets the packet's bytes from that command on.
 ghost use Rattle.std.specs.Prelude.{Bool, not, ◌&&◌, cond, List, ◌≡◌, ℕ, ◌*◌, ◌+◌, ◌-◌, ◌%◌, ◌≤◌, length, eqb, ltb};
+ghost use Rattle.lbp16.specs.Answer.{ruled};
 ghost use Rattle.lbp16.specs.Word.{fields_of};
 ghost use Rattle.lbp16.specs.Pointer.{pointers_of};
 ghost use Rattle.lbp16.specs.declared.pointer.Pointers.{Pointers};
@@ -13,17 +14,10 @@ use crate::command::{Found, LIMIT, Reach, Which};
 use crate::{bytes, command};
 use lbp16::space::Row;
 use lbp16::word::Fields;
-use lbp16::{pointer, space, word};
-
-// A command's number, 0 if no rule refuses it, and then its reach.
-#[derive(Clone, Copy)]
-pub(crate) struct Ruling {
-    pub(crate) number: u32,
-    pub(crate) reach: Reach,
-}
+use lbp16::{Rule, pointer, space, word};
 
 // What is found at a command, and its reach if it is not refused.
-#[derive(Clone, Copy)]
+#[derive(Clone, Copy, Debug, PartialEq, Eq)]
 pub(crate) struct Judged {
     pub(crate) found: Found,
     pub(crate) reach: Reach,
@@ -90,60 +84,67 @@ fn passes_limit(reply: usize, more: usize) -> bool
     LIMIT - reply < more
 }
 
-// The lowest number of refusals 3 to 12 whose condition holds, 0 if none does, of a plain command to space 0 with its size code
-// and its whole header: 3, 4, 5, 6, 9 and 10 are never its.
-fn register_number(rest: &[u8], f: Fields, row: Row, r: Reach, reply: usize) -> u32
+// The first of rules 3 to 12 that refuses a plain command to space 0 with its size code and its whole header: 3, 4, 5, 6, 9 and 10
+// are never its.
+fn register_rule(rest: &[u8], f: Fields, row: Row, r: Reach, reply: usize) -> Result<(), Rule>
     requires { (row ≡ row_of f) × (reply ≤ limit) × ForRegisters f × (header_bytes f ≤ length rest.now) }
-    ensures { (p : Pointers) (unlocked : Bool) → r ≡ reach_at p f rest.now → result ≡ first (refusals p unlocked reply f rest.now) }
+    ensures { (p : Pointers) (unlocked : Bool) → r ≡ reach_at p f rest.now → ruled result ≡ first (refusals p unlocked reply f rest.now) }
 {
     if f.count == 0 {
-        return 7;
+        return Err(Rule::NoElement);
     }
     if out_of_place(f, row, r.used) {
-        return 8;
+        return Err(Rule::OutOfPlace);
     }
     if rest.len() < r.bytes {
-        return 11;
+        return Err(Rule::DataCut);
     }
     if passes_limit(reply, r.answered) {
-        return 12;
+        return Err(Rule::ReplyTooLong);
     }
-    0
+    Ok(())
 }
 
 // The same of any other command with its whole header.
-fn area_number(rest: &[u8], f: Fields, row: Row, r: Reach, unlocked: bool, reply: usize) -> u32
+fn area_rule(
+    rest: &[u8],
+    f: Fields,
+    row: Row,
+    r: Reach,
+    unlocked: bool,
+    reply: usize,
+) -> Result<(), Rule>
     requires { (row ≡ row_of f) × (reply ≤ limit) × (header_bytes f ≤ length rest.now) }
-    ensures { (p : Pointers) → r ≡ reach_at p f rest.now → result ≡ first (refusals p unlocked reply f rest.now) }
+    ensures { (p : Pointers) → r ≡ reach_at p f rest.now → ruled result ≡ first (refusals p unlocked reply f rest.now) }
 {
     if f.info & f.write {
-        return 4;
+        return Err(Rule::InfoWrite);
     }
     if space::is_absent(f.space) {
-        return 5;
+        return Err(Rule::AbsentSpace);
     }
     if f.size != row.size {
-        return 6;
+        return Err(Rule::ElementSize);
     }
     if f.count == 0 {
-        return 7;
+        return Err(Rule::NoElement);
     }
     if out_of_place(f, row, r.used) {
-        return 8;
+        return Err(Rule::OutOfPlace);
     }
     if read_only(f, row, r.used) {
-        return 9;
+        return Err(Rule::ReadOnly);
     }
     if f.write & row.locked & !unlocked {
-        return 10;
+        return Err(Rule::Locked);
     }
     if rest.len() < r.bytes {
-        return 11;
+        return Err(Rule::DataCut);
     }
     if passes_limit(reply, r.answered) {
-        return 12;
+        return Err(Rule::ReplyTooLong);
     }
-    0
+    Ok(())
 }
 
 // The address used by a command whose header is whole.
@@ -158,36 +159,35 @@ fn address_in(rest: &[u8], f: Fields, pointer: u32) -> u32
     }
 }
 
-// Refusal 3.
-fn cut_off() -> Ruling
-    ensures { result.number ≡ 3 }
-{
-    Ruling {
-        number: 3,
-        reach: Reach {
-            slot: 0,
-            used: 0,
-            at: 0,
-            element: 0,
-            bytes: 0,
-            answered: 0,
-            next: 0,
-        },
-    }
-}
+// The reach that stands beside a refusal.
+const NOWHERE: Reach = Reach {
+    slot: 0,
+    used: 0,
+    at: 0,
+    element: 0,
+    bytes: 0,
+    answered: 0,
+    next: 0,
+};
 
-fn register_ruling(rest: &[u8], f: Fields, pointers: &[u32], reply: usize) -> Ruling
+fn register_ruling(rest: &[u8], f: Fields, pointers: &[u32], reply: usize) -> Result<Reach, Rule>
     requires { (reply ≤ limit) × ForRegisters f × (header_bytes f ≤ length rest.now) }
     ensures { (unlocked : Bool) → Ruled (pointers_of pointers.now) unlocked reply f rest.now result }
 {
     let row = space::row_of(0);
     let used = address_in(rest, f, pointer::pointer_in(pointers, 0));
     let reach = command::reach_by(f, row, 0, used);
-    let number = register_number(rest, f, row, reach, reply);
-    Ruling { number, reach }
+    register_rule(rest, f, row, reach, reply)?;
+    Ok(reach)
 }
 
-fn area_ruling(rest: &[u8], f: Fields, pointers: &[u32], unlocked: bool, reply: usize) -> Ruling
+fn area_ruling(
+    rest: &[u8],
+    f: Fields,
+    pointers: &[u32],
+    unlocked: bool,
+    reply: usize,
+) -> Result<Reach, Rule>
     requires { (reply ≤ limit) × (header_bytes f ≤ length rest.now) }
     ensures { Ruled (pointers_of pointers.now) unlocked reply f rest.now result }
 {
@@ -195,31 +195,31 @@ fn area_ruling(rest: &[u8], f: Fields, pointers: &[u32], unlocked: bool, reply: 
     let slot = pointer::slot_of(command::is_info(f), f.space);
     let used = address_in(rest, f, pointer::pointer_in(pointers, slot));
     let reach = command::reach_by(f, row, slot, used);
-    let number = area_number(rest, f, row, reach, unlocked, reply);
-    Ruling { number, reach }
+    area_rule(rest, f, row, reach, unlocked, reply)?;
+    Ok(reach)
 }
 
-// Which of read, write or refusal a command is whose refusal's number, 0 for none, is this.
-pub fn which_of(number: u32, f: Fields) -> Which
-    ensures { (place : ℕ) → which_listed result place ≡ which_of number place (kind_of f) }
+// Which of read, write or refusal a command is, by what the rules say of it.
+pub fn which_of<T: Copy>(ruling: Result<T, Rule>, f: Fields) -> Which
+    ensures { (place : ℕ) → which_listed result place ≡ which_of (ruled ruling) place (kind_of f) }
 {
-    if number != 0 {
-        return Which::Refused(number);
+    if let Err(rule) = ruling {
+        return Which::Refused(rule);
     }
     if f.write { Which::Write } else { Which::Read }
 }
 
 // What is found at a command, by what is ruled of it.
-fn judged_by(f: Fields, place: usize, ruling: Ruling) -> Judged
+fn judged_by(f: Fields, place: usize, ruling: Result<Reach, Rule>) -> Judged
     ensures { (p : Pointers) (unlocked : Bool) (reply : ℕ) (rest : List ℕ) → f ≡ fields_at rest
         → Ruled p unlocked reply f rest ruling → JudgedAt p unlocked reply place rest result }
 {
     let found = Found {
         fields: f,
         place,
-        which: which_of(ruling.number, f),
+        which: which_of(ruling, f),
     };
-    let reach = ruling.reach;
+    let reach = ruling.unwrap_or(NOWHERE);
     Judged { found, reach }
 }
 
@@ -237,7 +237,7 @@ pub(crate) fn register_at(
 {
     let f = word::fields_of(word);
     if rest.len() < command::header_bytes(f) {
-        return judged_by(f, place, cut_off());
+        return judged_by(f, place, Err(Rule::HeaderCut));
     }
     judged_by(f, place, register_ruling(rest, f, pointers, reply))
 }
@@ -256,7 +256,7 @@ pub(crate) fn area_at(
 {
     let f = word::fields_of(word);
     if rest.len() < command::header_bytes(f) {
-        return judged_by(f, place, cut_off());
+        return judged_by(f, place, Err(Rule::HeaderCut));
     }
     judged_by(f, place, area_ruling(rest, f, pointers, unlocked, reply))
 }

@@ -1,9 +1,9 @@
 // The refusal table's rules, taken from the highest number down.
-ghost use Rattle.std.specs.Prelude.{cond, ◌≡◌};
+ghost use Rattle.std.specs.Prelude.{cond, ◌≡◌, Err};
 
-// The number where the test holds, otherwise that of the rules after it.
-pub fn first_of(test: bool, number: u32, later: u32) -> u32
-    ensures { result ≡ cond test number later }
+// Refused by the rule where the test holds, otherwise what the rules after it say.
+pub fn first_of<E: Copy>(test: bool, rule: E, later: Result<(), E>) -> Result<(), E>
+    ensures { result ≡ cond test (Err rule) later }
 {
-    if test { number } else { later }
+    if test { Err(rule) } else { later }
 }

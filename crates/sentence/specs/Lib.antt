@@ -1,3 +1,2 @@
 pub mod Sentence
 pub mod Whole
-pub mod Inside

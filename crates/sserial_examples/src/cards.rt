@@ -17,10 +17,10 @@ struct Place {
     passed: bool,
 }
 
-fn with_value(m: Memory, v: usize) -> Memory {
+fn with_value(m: Memory, v: u8) -> Memory {
     let n = m.digits % 1024;
     let mut bytes = m.bytes;
-    bytes[n / 2] = bytes[n / 2] % 16 * 16 + (v % 16) as u8;
+    bytes[n / 2] = bytes[n / 2] % 16 * 16 + v % 16;
     Memory {
         bytes,
         digits: n + 1,
@@ -29,11 +29,10 @@ fn with_value(m: Memory, v: usize) -> Memory {
 
 // A digit more, where it is one.
 fn with_digit(m: Memory, c: u8) -> Memory {
-    let v = find::hex_value(c);
-    if v < 16 {
-        return with_value(m, v);
+    match find::hex_value(c) {
+        Some(v) => with_value(m, v),
+        None => m,
     }
-    m
 }
 
 // A line that ends where it begins is empty, and ends the card.

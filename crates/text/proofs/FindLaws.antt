@@ -14,7 +14,7 @@ use Rattle.std.specs.Option.{unwrap_or}
 use Rattle.std.specs.List.{position, position_or_len}
 use Rattle.std.proofs.lemmas.List.Recursion.{is_position_or_len}
 use Rattle.text.specs.Number.{ascii}
-use Rattle.text.specs.Find.{bytes_before, string_at, capital, hex_value, same_bytes}
+use Rattle.text.specs.Find.{bytes_before, capital, hex_value, same_bytes}
 
 pub before-within : (b : ℕ) (s : List ℕ) → bytes_before b s ≤ length s
 unfolding bytes_before
@@ -38,7 +38,7 @@ before-found b s e = rw (e, ← before-is b s) (go (dec_lt (bytes_before b s) (l
     go (yes h) = rw (lt-ltb _ _ h) refl
     go (no h) = let w = before-within b s in rw (le-ltb (bytes_before b s) (length s) (omega arith)) (omega arith)
 
--- a string as its ends are computed
+-- what stands from a place on, as the place is held within the memory
 module _ (memory : List ℕ) (place from : ℕ) where
   pub rest-is : from ≡ min place (length memory) → take (length memory - from) (drop from memory) ≡ drop place memory
   rest-is e = take_all (length memory - from) (drop from memory) (rw length-drop (omega arith)) ∙ go (dec_le place (length memory))
@@ -49,11 +49,6 @@ module _ (memory : List ℕ) (place from : ℕ) where
           let a : length memory ≤ from = omega arith in
           let b : length memory ≤ place = omega arith in
           drop_of_length-le memory a ∙ sym (drop_of_length-le memory b)
-
-  pub string_is : {n : ℕ} → from ≡ min place (length memory) → n ≡ bytes_before 0 (take (length memory - from) (drop from memory))
-      → take n (take (length memory - from) (drop from memory)) ≡ string_at memory place
-  unfolding string_at
-  string_is e f = rw (f, rest-is e) refl
 
 -- as many bytes as stand before one can be taken
 pub string_count : (b : ℕ) (s : List ℕ) {n : ℕ} → n ≡ bytes_before b s → n ≡ length (take n s)
@@ -89,10 +84,12 @@ hex_ranged c h = eqb-true (hex_value c) (ranged c) (below_holds (λ c. eqb (hex_
 
 -- The test is the equality of the texts.
 pub same_self : (a : List ℕ) → same_bytes a a ≡ true
+unfolding same_bytes
 same_self [] = refl
 same_self (x ∷ a) = rw (eq-eqb x x refl) (same_self a)
 
 pub same-is : (a b : List ℕ) → same_bytes a b ≡ true → a ≡ b
+unfolding same_bytes
 same-is [] [] e = refl
 same-is [] (y ∷ b) e = let z : ◌≡◌ {A = ℕ} 0 1 = cc in absurd (omega arith)
 same-is (x ∷ a) [] e = let z : ◌≡◌ {A = ℕ} 0 1 = cc in absurd (omega arith)

@@ -21,5 +21,5 @@ unfoldable pub hex_value : ℕ → ℕ
 hex_value c = bytes_before (capital c) (ascii "0123456789ABCDEF")
 
 -- whether two texts are the same
-abbrev pub same_bytes : List ℕ → List ℕ → Bool
+unfoldable pub same_bytes : List ℕ → List ℕ → Bool
 same_bytes a b = pointwise eqb a b

@@ -1,8 +1,6 @@
 // Texts taken apart.
-ghost use Rattle.std.specs.Prelude.{◌≡◌, ◌==◌, ◌<◌, position, MatchOption};
+ghost use Rattle.std.specs.Prelude.{◌≡◌, ◌==◌, ◌<◌, drop, position, MatchOption};
 ghost use Rattle.text.specs.Find.{bytes_before, string_at, hex_value, same_bytes};
-
-use crate::least;
 
 // The first b's place.
 fn first_of(s: &[u8], b: u8) -> Option<usize>
@@ -18,14 +16,20 @@ pub fn bytes_before(s: &[u8], b: u8) -> usize
     first_of(s, b).unwrap_or(s.len())
 }
 
+// What stands from a place on, past the end nothing.
+pub fn rest(s: &[u8], from: usize) -> &[u8]
+    ensures { result.now ≡ drop from s.now }
+{
+    s.get(from..).unwrap_or(&[])
+}
+
 // The string at a place of a memory, up to its NUL.
 pub fn string(memory: &[u8], place: usize) -> &[u8]
     ensures { result.now ≡ string_at memory.now place }
 {
-    let from = least(place, memory.len());
-    let rest = &memory[from..];
-    let n = bytes_before(rest, 0);
-    &rest[..n]
+    let text = rest(memory, place);
+    let n = bytes_before(text, 0);
+    &text[..n]
 }
 
 // The value of a hexadecimal digit of either case.
@@ -42,6 +46,7 @@ pub fn hex_value(c: u8) -> Option<u8>
 }
 
 // Whether two texts are the same.
+#[tactic(auto, unfolding(crate::specs::Find::same_bytes))]
 pub fn same(a: &[u8], b: &[u8]) -> bool
     ensures { result ≡ same_bytes a.now b.now }
 {

@@ -27,7 +27,7 @@ fn last_code(n: u64) -> u8
     48 + (n % 10) as u8
 }
 
-// The digits are found from the last on. No number of 64 bits has more than 20.
+// The digits are found from the last on, and how many there are is known only with the first. No number of 64 bits has more than 20.
 pub fn decimal(out: &mut [u8], at: usize, n: u64) -> usize
     ensures { filled result out.new ≡ put_at (decimal n) at out.old }
 {

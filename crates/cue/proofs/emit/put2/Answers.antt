@@ -1,10 +1,8 @@
-use native.Mathlib.Omega.{arith}
-use lib.ListN.{length-set}
-use Rattle.cue.proofs.WriteLaws.{put2_is}
+use Rattle.std.proofs.Common.{arith, ◌∙◌}
+use Rattle.packet.specs.Bytes.{bytes_of}
+use Rattle.cue.proofs.WriteLaws.{part_put}
 use Rattle.cue.proofs.emit.put2.Goals as goal
 
-pub bounds-out-next : goal.bounds-out-next
-bounds-out-next c = rw length-set (omega arith)
-
 pub returns : goal.returns
-returns c = put2_is _ _ _ (omega arith)
+unfolding bytes_of
+returns c = part_put _ _ _ (c.copy_from_slice.ensures.after ∙ c.to_le_bytes.ensures) (omega arith) (omega arith)

@@ -1,25 +1,25 @@
-use borrow.Author.Rules.{rules}
+use mathlib.Core.Path.{ap}
 use native.Mathlib.Omega.{arith}
 use Rattle.lbp16.specs.Pointer.{space_slot}
-use Rattle.lbp16.proofs.CaseLaws.{at-registers, at_eeprom, at-status, at_information, at_absent}
+use Rattle.lbp16.proofs.CaseLaws.{space_is}
 use Rattle.lbp16.proofs.pointer.space_slot.Goals as goal
 
-pub returns-in-0 : goal.returns-in-0
+pub returns-in-Registers : goal.returns-in-Registers
 unfolding space_slot
-returns-in-0 c = (at-registers space_slot _ c.in-0.is, omega arith)
+returns-in-Registers c = (ap space_slot (space_is _ c.from.ensures c.in-Registers.is), omega arith)
 
-pub returns-in-2 : goal.returns-in-2
+pub returns-in-Eeprom : goal.returns-in-Eeprom
 unfolding space_slot
-returns-in-2 c = (at_eeprom space_slot _ c.in-2.is, omega arith)
+returns-in-Eeprom c = (ap space_slot (space_is _ c.from.ensures c.in-Eeprom.is), omega arith)
 
-pub returns-in-6 : goal.returns-in-6
+pub returns-in-Status : goal.returns-in-Status
 unfolding space_slot
-returns-in-6 c = (at-status space_slot _ c.in-6.is, omega arith)
+returns-in-Status c = (ap space_slot (space_is _ c.from.ensures c.in-Status.is), omega arith)
 
-pub returns-in-7 : goal.returns-in-7
+pub returns-in-Information : goal.returns-in-Information
 unfolding space_slot
-returns-in-7 c = (at_information space_slot _ c.in-7.is, omega arith)
+returns-in-Information c = (ap space_slot (space_is _ c.from.ensures c.in-Information.is), omega arith)
 
-pub returns-in_default : goal.returns-in_default
+pub returns-in-Absent : goal.returns-in-Absent
 unfolding space_slot
-returns-in_default c = (at_absent space_slot _ (search rules) (search rules) (search rules) (search rules), omega arith)
+returns-in-Absent c = (ap space_slot (space_is _ c.from.ensures c.in-Absent.is), omega arith)

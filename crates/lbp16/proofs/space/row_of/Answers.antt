@@ -1,25 +1,24 @@
-use borrow.Author.Rules.{rules}
-use mathlib.Core.Path.{◌∙◌}
+use mathlib.Core.Path.{◌∙◌, ap}
 use Rattle.lbp16.specs.Space.{row}
-use Rattle.lbp16.proofs.CaseLaws.{at-registers, at_eeprom, at-status, at_information, at_absent}
+use Rattle.lbp16.proofs.CaseLaws.{space_is}
 use Rattle.lbp16.proofs.space.row_of.Goals as goal
 
-pub returns-in-0 : goal.returns-in-0
+pub returns-in-Registers : goal.returns-in-Registers
 unfolding row
-returns-in-0 c = c.line.ensures ∙ at-registers row _ c.in-0.is
+returns-in-Registers c = c.line.ensures ∙ ap row (space_is _ c.from.ensures c.in-Registers.is)
 
-pub returns-in-2 : goal.returns-in-2
+pub returns-in-Eeprom : goal.returns-in-Eeprom
 unfolding row
-returns-in-2 c = c.line-in-2.ensures ∙ at_eeprom row _ c.in-2.is
+returns-in-Eeprom c = c.line-in-Eeprom.ensures ∙ ap row (space_is _ c.from.ensures c.in-Eeprom.is)
 
-pub returns-in-6 : goal.returns-in-6
+pub returns-in-Status : goal.returns-in-Status
 unfolding row
-returns-in-6 c = c.line-in-6.ensures ∙ at-status row _ c.in-6.is
+returns-in-Status c = c.line-in-Status.ensures ∙ ap row (space_is _ c.from.ensures c.in-Status.is)
 
-pub returns-in-7 : goal.returns-in-7
+pub returns-in-Information : goal.returns-in-Information
 unfolding row
-returns-in-7 c = c.line-in-7.ensures ∙ at_information row _ c.in-7.is
+returns-in-Information c = c.line-in-Information.ensures ∙ ap row (space_is _ c.from.ensures c.in-Information.is)
 
-pub returns-in_default : goal.returns-in_default
+pub returns-in-Absent : goal.returns-in-Absent
 unfolding row
-returns-in_default c = c.line-in_default.ensures ∙ at_absent row _ (search rules) (search rules) (search rules) (search rules)
+returns-in-Absent c = c.line-in-Absent.ensures ∙ ap row (space_is _ c.from.ensures c.in-Absent.is)

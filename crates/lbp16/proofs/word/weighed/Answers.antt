@@ -1,13 +1,16 @@
-use Rattle.lbp16.specs.Word.{bit}
-use mathlib.Core.Path.{refl}
+use Prim.Native.Nat.{ℕ, ◌*◌, ◌≤◌}
+use mathlib.Core.Bool.{Bool, true, false}
+use mathlib.Core.Path.{◌≡◌, refl}
+use mir.Val.{bool_byte}
 use native.Mathlib.Nat.{one-mul, zero-mul, le_refl}
 use native.Mathlib.Omega.{arith}
+use Rattle.lbp16.specs.Word.{bit}
 use Rattle.lbp16.proofs.word.weighed.Goals as goal
 
-pub returns-then-flag : goal.returns-then-flag
+by : (b : Bool) (w : ℕ) → (bool_byte b * w ≡ bit b * w) × (bool_byte b * w ≤ w)
 unfolding bit
-returns-then-flag c = rw c.if-flag.true (rw one-mul (refl, le_refl _))
+by true w = rw one-mul (refl, le_refl _)
+by false w = rw zero-mul (refl, omega arith)
 
-pub returns-else-flag : goal.returns-else-flag
-unfolding bit
-returns-else-flag c = rw c.if-flag.false (rw zero-mul (refl, omega arith))
+pub returns : goal.returns
+returns c = rw c.from.ensures (by _ _)

@@ -12,7 +12,7 @@ use Rattle.lbp16.proofs.word.word_of.Goals as goal
 
 pub returns-then-out_of_range : goal.returns-then-out_of_range
 unfolding written listed
-returns-then-out_of_range c = rw (sym c.out_of_range.ensures ∙ c.if-out_of_range.true) refl
+returns-then-out_of_range c = rw (c.at.ensures, sym c.out_of_range.ensures ∙ c.if-out_of_range.true) refl
 
 kept : (c : goal.After-struct_known-3-1) → out_of_range c.args.f ≡ false
 kept c =

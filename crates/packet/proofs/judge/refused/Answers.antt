@@ -4,4 +4,4 @@ use Rattle.packet.proofs.judge.refused.Goals as goal
 
 pub returns : goal.returns
 unfolding verdict_listed
-returns c = refl
+returns c = rw c.at.ensures refl

@@ -14,9 +14,6 @@ loop-b-preserved c = let l = c.loop-b.invariant in
     let w = put-within _ _ _ c.byte-next.ensures in
     (bytes-put _ _ _ _ c.loop-b-test.true c.byte-next.ensures ∙ l.0, w.1 ∙ l.1, w.0)
 
-pub shape_of-out : goal.shape_of-out
-shape_of-out c = c.loop-b.invariant.1
-
 pub returns : goal.returns
 unfolding bytes_of_hex
 returns c = let l = c.loop-b.invariant in

@@ -8,16 +8,10 @@ use Rattle.text.proofs.number.hex.Goals as goal
 pub loop-k-init : goal.loop-k-init
 loop-k-init c = (rw c.least-next.ensures (put-least _ _ _), refl, omega (arith, c.least-next.ensures))
 
-pub digit-next-requires : goal.digit-next-requires
-digit-next-requires c = omega (arith, c.digit_at.ensures)
-
 pub loop-k-preserved : goal.loop-k-preserved
 loop-k-preserved c = let l = c.loop-k.invariant in
     let w = put-within _ _ _ c.digit-next.ensures in
     (hex_put _ _ _ _ c.loop-k-test.true c.digit_at.ensures c.digit-next.ensures ∙ l.0, w.1 ∙ l.1, w.0)
-
-pub shape_of-out : goal.shape_of-out
-shape_of-out c = c.loop-k.invariant.1
 
 pub returns : goal.returns
 unfolding hexadecimal

@@ -1,26 +1,24 @@
-use borrow.Author.Rules.{rules}
-use mathlib.Core.Path.{◌∙◌}
+use mathlib.Core.Path.{◌∙◌, ap}
 use Rattle.lbp16.specs.Pointer.{of_space}
-use Rattle.lbp16.proofs.CaseLaws.{at-registers, at_eeprom, at-status, at_information, at_absent}
+use Rattle.lbp16.proofs.CaseLaws.{space_is}
 use Rattle.lbp16.proofs.pointer.SpacePointers.of.Goals as goal
 
-pub returns-in-0 : goal.returns-in-0
+pub returns-in-Registers : goal.returns-in-Registers
 unfolding of_space
-returns-in-0 c = at-registers (of_space c.args.self) _ c.in-0.is
+returns-in-Registers c = ap (of_space c.args.self) (space_is _ c.from.ensures c.in-Registers.is)
 
-pub returns-in-2 : goal.returns-in-2
+pub returns-in-Eeprom : goal.returns-in-Eeprom
 unfolding of_space
-returns-in-2 c = at_eeprom (of_space c.args.self) _ c.in-2.is
+returns-in-Eeprom c = ap (of_space c.args.self) (space_is _ c.from.ensures c.in-Eeprom.is)
 
-pub returns-in-6 : goal.returns-in-6
+pub returns-in-Status : goal.returns-in-Status
 unfolding of_space
-returns-in-6 c = at-status (of_space c.args.self) _ c.in-6.is
+returns-in-Status c = ap (of_space c.args.self) (space_is _ c.from.ensures c.in-Status.is)
 
-pub returns-in-7 : goal.returns-in-7
+pub returns-in-Information : goal.returns-in-Information
 unfolding of_space
-returns-in-7 c = at_information (of_space c.args.self) _ c.in-7.is
+returns-in-Information c = ap (of_space c.args.self) (space_is _ c.from.ensures c.in-Information.is)
 
-pub returns-in_default : goal.returns-in_default
+pub returns-in-Absent : goal.returns-in-Absent
 unfolding of_space
-returns-in_default c = c.new.ensures
-    ∙ at_absent (of_space c.args.self) _ (search rules) (search rules) (search rules) (search rules)
+returns-in-Absent c = c.new.ensures ∙ ap (of_space c.args.self) (space_is _ c.from.ensures c.in-Absent.is)

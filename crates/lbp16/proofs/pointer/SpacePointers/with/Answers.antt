@@ -1,29 +1,24 @@
-use borrow.Author.Rules.{rules}
+use mathlib.Core.Path.{ap}
 use Rattle.lbp16.specs.Pointer.{with_space}
-use Rattle.lbp16.proofs.CaseLaws.{at-registers, at_eeprom, at-status, at_information, at_absent}
+use Rattle.lbp16.proofs.CaseLaws.{space_is}
 use Rattle.lbp16.proofs.pointer.SpacePointers.with.Goals as goal
 
-pub returns-in-0 : goal.returns-in-0
+pub returns-in-Registers : goal.returns-in-Registers
 unfolding with_space
-returns-in-0 c = at-registers (λ s. with_space c.args.self s c.args.p.at) _ c.in-0.is
+returns-in-Registers c = ap (λ s. with_space c.args.self s c.args.p.at) (space_is _ c.from.ensures c.in-Registers.is)
 
-pub returns-in-2 : goal.returns-in-2
+pub returns-in-Eeprom : goal.returns-in-Eeprom
 unfolding with_space
-returns-in-2 c = at_eeprom (λ s. with_space c.args.self s c.args.p.at) _ c.in-2.is
+returns-in-Eeprom c = ap (λ s. with_space c.args.self s c.args.p.at) (space_is _ c.from.ensures c.in-Eeprom.is)
 
-pub returns-in-6 : goal.returns-in-6
+pub returns-in-Status : goal.returns-in-Status
 unfolding with_space
-returns-in-6 c = at-status (λ s. with_space c.args.self s c.args.p.at) _ c.in-6.is
+returns-in-Status c = ap (λ s. with_space c.args.self s c.args.p.at) (space_is _ c.from.ensures c.in-Status.is)
 
-pub returns-in-7 : goal.returns-in-7
+pub returns-in-Information : goal.returns-in-Information
 unfolding with_space
-returns-in-7 c = at_information (λ s. with_space c.args.self s c.args.p.at) _ c.in-7.is
+returns-in-Information c = ap (λ s. with_space c.args.self s c.args.p.at) (space_is _ c.from.ensures c.in-Information.is)
 
-pub returns-in_default : goal.returns-in_default
+pub returns-in-Absent : goal.returns-in-Absent
 unfolding with_space
-returns-in_default c = at_absent
-    (λ s. with_space c.args.self s c.args.p.at) _
-    (search rules)
-    (search rules)
-    (search rules)
-    (search rules)
+returns-in-Absent c = ap (λ s. with_space c.args.self s c.args.p.at) (space_is _ c.from.ensures c.in-Absent.is)

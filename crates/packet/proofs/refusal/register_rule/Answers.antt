@@ -1,5 +1,5 @@
 use Rattle.packet.proofs.TableLaws.{register-7, register-8, register-11, register-12, register-none}
-use Rattle.packet.proofs.refusal.register_number.Goals as goal
+use Rattle.packet.proofs.refusal.register_rule.Goals as goal
 
 pub returns-then-f-eq0 : goal.returns-then-f-eq0
 returns-then-f-eq0 c p o e = register-7 p o _ _ _ _ c.requires.3 e c.requires.2 c.if-f-eq0.true

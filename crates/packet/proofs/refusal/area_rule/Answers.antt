@@ -1,5 +1,5 @@
 use Rattle.packet.proofs.TableLaws.{area-4, area-5, area-6, area-7, area-8, area-9, area-10, area-11, area-12, area-none}
-use Rattle.packet.proofs.refusal.area_number.Goals as goal
+use Rattle.packet.proofs.refusal.area_rule.Goals as goal
 
 pub returns-then-f : goal.returns-then-f
 returns-then-f c p e = area-4 p _ _ _ _ _ c.requires.2 e _ c.requires.0 c.if-f.true

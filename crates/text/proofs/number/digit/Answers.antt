@@ -1,4 +1,0 @@
-use Rattle.text.proofs.number.digit.Goals as goal
-
-pub returns : goal.returns
-returns c = rw c.code.ensures at c.put.ensures
