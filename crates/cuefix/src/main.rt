@@ -135,8 +135,8 @@ fn serve<R: Read, W: Write, E: Write>(
 ) -> io::Result<()> {
     let taken = take(request, from, bytes);
     match taken {
-        Taken::Failed => input::cannot_read(beside),
-        Taken::Bytes(n) => answer(to, beside, request, input::front(bytes, n), room, log, line),
+        Err(_) => input::cannot_read(beside),
+        Ok(n) => answer(to, beside, request, input::front(bytes, n), room, log, line),
     }
 }
 

@@ -35,8 +35,8 @@ fn serve<R: Read, W: Write, E: Write>(
     while at < MOST {
         let taken = input::some(from, part);
         match taken {
-            Taken::Failed => return input::cannot_read(beside),
-            Taken::Bytes(n) => {
+            Err(_) => return input::cannot_read(beside),
+            Ok(n) => {
                 let more = feed(to, state, input::front(part, n), room)?;
                 if n == 0 {
                     return Ok(());

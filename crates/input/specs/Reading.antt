@@ -1,34 +1,34 @@
--- What a read gives.
-use Rattle.std.specs.Prelude.{ℕ, ◌+◌, ◌≡◌, ◌<◌, ◌≤◌, List, length, take, drop, ⊤}
-use Rattle.std.specs.Io.KnownBytes.{Consumes, IsAtEnd, Keeps}
+-- What a read gives: so many bytes came, none at the end; or it failed.
+use Rattle.std.specs.Prelude.{ℕ, ◌+◌, ◌≡◌, ◌≢◌, ◌<◌, ◌≤◌, List, length, take, drop, Result, Ok, IfOk}
+use Rattle.std.specs.Io.KnownBytes.{Consumes, IsAtEnd, Keeps, ReadConsumes}
 use Rattle.std.specs.declared.option.Option.{Option}
-use Rattle.input.specs.declared.Taken.{Taken}
 
 -- the bytes that came stand in the room, behind the first `from`
-abbrev pub Behind : ℕ → Taken → List ℕ → Type 0
-Behind from (Taken.Bytes n) room = from + n ≤ length room
-Behind from Taken.Failed room = ⊤
+abbrev pub Behind : {E : Type 0} → ℕ → Result ℕ E → List ℕ → Type 0
+Behind from r room = IfOk r (λ n. from + n ≤ length room)
 
 -- or at its front
-abbrev pub Within : Taken → List ℕ → Type 0
-Within (Taken.Bytes n) room = n ≤ length room
-Within Taken.Failed room = ⊤
+abbrev pub Within : {E : Type 0} → Result ℕ E → List ℕ → Type 0
+Within r room = IfOk r (λ n. n ≤ length room)
 
 -- where the reader's bytes are known: those that came were next, and are gone from it, none only at its end or without room; a
 -- read that failed took none
-abbrev pub TookSome : Option (List ℕ) → Option (List ℕ) → Taken → List ℕ → Type 0
-TookSome old new (Taken.Bytes n) room = Consumes old new (take n room) × (n ≡ 0 → 0 < length room → IsAtEnd new)
-TookSome old new Taken.Failed room = Keeps old new
+abbrev pub TookSome : {E : Type 0} → Option (List ℕ) → Option (List ℕ) → Result ℕ E → List ℕ → Type 0
+TookSome old new r room = ReadConsumes old new r room
 
 -- nothing was read
-abbrev pub TookNone : Option (List ℕ) → Option (List ℕ) → Taken → Type 0
-TookNone old new t = (t ≡ Taken.Bytes 0) × Keeps old new
+abbrev pub TookNone : {E : Type 0} → Option (List ℕ) → Option (List ℕ) → Result ℕ E → Type 0
+TookNone old new r = (r ≡ Ok 0) × Keeps old new
 
 -- the same behind bytes that were there before
-abbrev pub TookBehind : Option (List ℕ) → Option (List ℕ) → ℕ → Taken → List ℕ → Type 0
-TookBehind old new from t room = TookSome old new t (drop from room)
+abbrev pub TookBehind : {E : Type 0} → Option (List ℕ) → Option (List ℕ) → ℕ → Result ℕ E → List ℕ → Type 0
+TookBehind old new from r room = TookSome old new r (drop from room)
 
 -- the same of all: fewer than the room has only at the end
-abbrev pub TookAll : Option (List ℕ) → Option (List ℕ) → Taken → List ℕ → Type 0
-TookAll old new (Taken.Bytes n) room = Consumes old new (take n room) × (n < length room → IsAtEnd new)
-TookAll old new Taken.Failed room = ⊤
+abbrev pub TookAll : {E : Type 0} → Option (List ℕ) → Option (List ℕ) → Result ℕ E → List ℕ → Type 0
+TookAll old new r room = IfOk r (λ n. Consumes old new (take n room) × (n < length room → IsAtEnd new))
+
+-- so many bytes came, all that there are: none where the program was given words
+abbrev pub Came : ℕ → Option (List ℕ) → Option (List ℕ) → ℕ → List ℕ → Type 0
+Came words old new n room =
+    (n ≤ length room) × (words ≡ 1 → Consumes old new (take n room) × (n < length room → IsAtEnd new)) × (words ≢ 1 → (n ≡ 0) × Keeps old new)

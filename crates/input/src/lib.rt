@@ -1,13 +1,14 @@
 // What programs read and write, over any reader and writer: a read that fails, or that a signal interrupts, is not the end.
 #![tactic(auto)]
 
-ghost use Rattle.std.specs.Prelude.{◌≤◌, ◌≡◌, ◌≢◌, length, take};
+ghost use Rattle.std.specs.Prelude.{ℕ, ◌≤◌, ◌≡◌, ◌≢◌, ◌⊎◌, length, take};
+ghost use Rattle.std.specs.Fn.{FnOnceReturnsAt};
 ghost use Rattle.std.specs.Str.{IsUtf8};
 ghost use Rattle.std.specs.declared.option.Option.TheVariants.{None};
 ghost use Rattle.text.specs.Number.{ascii};
 ghost use Rattle.std.specs.Io.{WritesAtMost};
 ghost use Rattle.std.specs.Io.KnownBytes.{WriteAppends};
-ghost use Rattle.input.specs.Reading.{Within, Behind, TookNone, TookSome, TookBehind, TookAll};
+ghost use Rattle.input.specs.Reading.{Within, Behind, TookNone, TookSome, TookBehind, TookAll, Came};
 ghost use Rattle.input.specs.Writing.{WroteAll};
 
 use std::env::{Env, FillError};
@@ -16,35 +17,28 @@ use std::io::{ErrorKind, Read, Write};
 use std::rt::Files;
 use std::{io, str};
 
-// So many bytes came, none at the end; or a read failed.
-#[derive(Clone, Copy)]
-pub enum Taken {
-    Bytes(usize),
-    Failed,
-}
-
 // More reads than are interrupted one after the other.
 const TRIES: u64 = 1000000;
 
 // What one read gives, at the front of the room: as soon as there is something, and at most as much as the room has.
-pub fn some<R: Read>(from: &mut R, room: &mut [u8]) -> Taken
+pub fn some<R: Read>(from: &mut R, room: &mut [u8]) -> io::Result<usize>
     ensures within { Within result room.new }
     ensures bytes { TookSome (R.remaining from.old) (R.remaining from.new) result room.new }
 {
     for _ in 0..TRIES {
         match from.read(room) {
-            Ok(n) => return Taken::Bytes(n),
+            Ok(came) => return Ok(came),
             Err(e) => {
                 if e.kind() != ErrorKind::Interrupted {
-                    return Taken::Failed;
+                    return Err(e);
                 }
             }
         }
     }
-    Taken::Failed
+    Err(io::Error::from(ErrorKind::Interrupted))
 }
 
-fn behind<R: Read>(reader: &mut R, room: &mut [u8], from: usize) -> Taken
+fn behind<R: Read>(reader: &mut R, room: &mut [u8], from: usize) -> io::Result<usize>
     requires { from ≤ length room.old }
     ensures behind { Behind from result room.new }
     ensures front { take from room.new ≡ take from room.old }
@@ -54,34 +48,30 @@ fn behind<R: Read>(reader: &mut R, room: &mut [u8], from: usize) -> Taken
 }
 
 // All that comes, until the end or until the room is full.
-pub fn all<R: Read>(from: &mut R, room: &mut [u8]) -> Taken
+pub fn all<R: Read>(from: &mut R, room: &mut [u8]) -> io::Result<usize>
     ensures within { Within result room.new }
     ensures bytes { TookAll (R.remaining from.old) (R.remaining from.new) result room.new }
 {
     let mut n: usize = 0;
+    // How far a turn goes is known only once it has read.
     while n < room.len() {
-        let taken = behind(from, room, n);
-        match taken {
-            Taken::Failed => return Taken::Failed,
-            Taken::Bytes(k) => {
-                if k == 0 {
-                    return Taken::Bytes(n);
-                }
-                n += k;
-            }
+        match behind(from, room, n) {
+            Ok(0) => return Ok(n),
+            Ok(k) => n += k,
+            Err(e) => return Err(e),
         }
     }
-    Taken::Bytes(n)
+    Ok(n)
 }
 
 // Input of a program that takes no words: how it is used is said without a look there.
-pub fn asked<R: Read>(words: usize, from: &mut R, room: &mut [u8]) -> Taken
+pub fn asked<R: Read>(words: usize, from: &mut R, room: &mut [u8]) -> io::Result<usize>
     ensures within { Within result room.new }
     ensures bytes { words ≡ 1 → TookAll (R.remaining from.old) (R.remaining from.new) result room.new }
     ensures none { words ≢ 1 → TookNone (R.remaining from.old) (R.remaining from.new) result }
 {
     if words != 1 {
-        return Taken::Bytes(0);
+        return Ok(0);
     }
     all(from, room)
 }
@@ -90,13 +80,10 @@ pub fn asked<R: Read>(words: usize, from: &mut R, room: &mut [u8]) -> Taken
 pub fn front(bytes: &[u8], n: usize) -> &[u8]
     ensures { result.now ≡ take n bytes.now }
 {
-    if n < bytes.len() {
-        return &bytes[..n];
-    }
-    bytes
+    bytes.get(..n).unwrap_or(bytes)
 }
 
-// What one write takes.
+// What one write takes. The loop is that of `some`: what an interrupted try leaves is said of a reader there and of a writer here.
 fn written<W: Write>(to: &mut W, bytes: &[u8]) -> io::Result<usize>
     ensures bound { WritesAtMost result bytes.now }
     ensures bytes { WriteAppends (W.contents to.old) (W.contents to.new) result bytes.now }
@@ -119,6 +106,7 @@ fn write_all<W: Write>(to: &mut W, bytes: &[u8]) -> io::Result<()>
     ensures { WroteAll (W.contents to.old) (W.contents to.new) result bytes.now }
 {
     let mut done: usize = 0;
+    // How far a turn goes is known only once it has written.
     while done < bytes.len() {
         match written(to, &bytes[done..]) {
             Ok(0) => return Err(io::Error::from(ErrorKind::WriteZero)),
@@ -141,6 +129,25 @@ pub fn cannot_read<W: Write>(to: &mut W) -> io::Result<()>
     ensures { WroteAll (W.contents to.old) (W.contents to.new) result (ascii "cannot read\n") }
 {
     write_all(to, b"cannot read\n")
+}
+
+// Reads what comes, and has it answered; where nothing can be read, that is said.
+pub fn served<R: Read, W: Write, F: FnOnce(&[u8]) -> io::Result<()>>(
+    words: usize,
+    from: &mut R,
+    room: &mut [u8],
+    beside: &mut W,
+    answer: F,
+) -> io::Result<()>
+    requires { F.IsAlwaysCallable answer }
+    ensures { ((n : ℕ) × Came words (R.remaining from.old) (R.remaining from.new) n room.new
+        × FnOnceReturnsAt F.FnOnce answer (take n room.new) result)
+        ⊎ (words ≡ 1) × WroteAll (W.contents beside.old) (W.contents beside.new) result (ascii "cannot read\n") }
+{
+    let Ok(n) = asked(words, from, room) else {
+        return cannot_read(beside);
+    };
+    answer(front(room, n))
 }
 
 // How many words the program was started with, its name among them, counted up to `most`.

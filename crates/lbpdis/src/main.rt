@@ -1,11 +1,10 @@
 // Packets behind "LB" from standard input, each in words on standard output.
 #![tactic(auto)]
 
-use input::Taken;
 use lbp16::pointer::Pointers;
 use lbpdis_output::ROOM;
 use std::io;
-use std::io::{Read, Write};
+use std::io::Write;
 
 // The most bytes that the input may have.
 const MOST: usize = 3000000;
@@ -33,32 +32,20 @@ fn report<W: Write>(to: &mut W, bytes: &[u8], room: &mut [u8; ROOM]) -> io::Resu
     show(to, bytes, room)
 }
 
-// One byte more is read than the input may have, so that a longer one is noticed.
-fn serve<R: Read, W: Write, E: Write>(
-    beside: &mut E,
-    from: &mut R,
-    to: &mut W,
-    bytes: &mut [u8; 3000001],
-    room: &mut [u8; ROOM],
-) -> io::Result<()> {
-    let taken = input::all(from, bytes);
-    match taken {
-        Taken::Failed => input::cannot_read(beside),
-        Taken::Bytes(n) => report(to, input::front(bytes, n), room),
-    }
-}
-
 fn main(rt: HostRuntime) -> io::Result<()> {
-    if input::words(&rt, 2) != 1 {
+    let words = input::words(&rt, 2);
+    if words != 1 {
         return rt.print(
             "usage: lbpdis < OUTPUT\nThe packets of an output, each behind \"LB\" and its length, in words.\n",
         );
     }
-    serve(
-        &mut rt.stderr(),
+    // Room for one byte more than the input may have, so that a longer one is noticed.
+    let mut bytes = [0; MOST + 1];
+    input::served(
+        words,
         &mut rt.stdin(),
-        &mut rt.stdout(),
-        &mut [0; 3000001],
-        &mut [0; ROOM],
+        &mut bytes,
+        &mut rt.stderr(),
+        |bytes| { report(&mut rt.stdout(), bytes, &mut [0; ROOM]) },
     )
 }

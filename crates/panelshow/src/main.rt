@@ -6,14 +6,13 @@ mod fault;
 mod line;
 
 use fault::pair;
-use input::Taken;
 use lbp16::Refusal;
 use sserial::count::TableAnswer;
 use sserial::field::FieldAnswer;
 use sserial::table::{Direction, Field};
 use sserial::{call, count, field};
 use std::io;
-use std::io::{Read, Write};
+use std::io::Write;
 
 fn quad(low: u16, high: u16) -> u32 {
     low as u32 + 65536 * high as u32
@@ -173,30 +172,18 @@ fn usage(rt: &impl Print) -> io::Result<()> {
     )
 }
 
-fn serve<R: Read, W: Write, E: Write>(
-    beside: &mut E,
-    from: &mut R,
-    to: &mut W,
-    card: &mut [u8; 65550],
-    line: &mut [u8; 131200],
-) -> io::Result<()> {
-    let taken = input::all(from, card);
-    match taken {
-        Taken::Failed => input::cannot_read(beside),
-        Taken::Bytes(n) => show(to, line, input::front(card, n)),
-    }
-}
-
 // A line has room for a name and a unit that are the whole memory.
 fn main(rt: HostRuntime) -> io::Result<()> {
-    if input::words(&rt, 2) != 1 {
+    let words = input::words(&rt, 2);
+    if words != 1 {
         return usage(&rt);
     }
-    serve(
-        &mut rt.stderr(),
+    let mut card = [0; 65550];
+    input::served(
+        words,
         &mut rt.stdin(),
-        &mut rt.stdout(),
-        &mut [0; 65550],
-        &mut [0; 131200],
+        &mut card,
+        &mut rt.stderr(),
+        |card| { show(&mut rt.stdout(), &mut [0; 131200], card) },
     )
 }

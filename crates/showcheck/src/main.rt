@@ -3,7 +3,6 @@
 #![tactic(auto)]
 
 use card::check::STORE_BYTES;
-use input::Taken;
 use showcheck_output::given;
 use showcheck_output::given::{Fault, Given};
 use std::env::Env;
@@ -23,9 +22,9 @@ fn say<W: Write>(
 }
 
 // Nothing is read where nothing is done with it.
-fn take<R: Read>(given: Result<Given, Fault>, from: &mut R, room: &mut [u8]) -> Taken {
+fn take<R: Read>(given: Result<Given, Fault>, from: &mut R, room: &mut [u8]) -> io::Result<usize> {
     if given::most_read(given) == 0 {
-        return Taken::Bytes(0);
+        return Ok(0);
     }
     input::all(from, room)
 }
@@ -35,9 +34,9 @@ fn take_file<F: Read>(
     given: Result<Given, Fault>,
     opened: &mut Option<F>,
     room: &mut [u8],
-) -> Taken {
+) -> io::Result<usize> {
     match opened {
-        None => Taken::Bytes(0),
+        None => Ok(0),
         Some(f) => take(given, f, room),
     }
 }
@@ -54,8 +53,8 @@ fn hear<R: Read, W: Write, E: Write>(
 ) -> io::Result<()> {
     let taken = take(given, from, show);
     match taken {
-        Taken::Bytes(n) => say(to, given, file, pointers, input::front(show, n), room),
-        Taken::Failed => input::cannot_read(beside),
+        Ok(n) => say(to, given, file, pointers, input::front(show, n), room),
+        Err(_) => input::cannot_read(beside),
     }
 }
 
@@ -72,7 +71,7 @@ fn with_store<R: Read, W: Write, F: Read, E: Write>(
     let mut pointers = [0u8; 33];
     let taken = take_file(given, other, &mut pointers);
     match taken {
-        Taken::Bytes(n) => hear(
+        Ok(n) => hear(
             beside,
             from,
             to,
@@ -82,7 +81,7 @@ fn with_store<R: Read, W: Write, F: Read, E: Write>(
             show,
             room,
         ),
-        Taken::Failed => input::cannot_read(beside),
+        Err(_) => input::cannot_read(beside),
     }
 }
 
@@ -100,7 +99,7 @@ fn serve<R: Read, W: Write, F: Read, E: Write>(
     let mut file = [0u8; STORE_BYTES + 1];
     let taken = take_file(given, opened, &mut file);
     match taken {
-        Taken::Bytes(n) => with_store(
+        Ok(n) => with_store(
             beside,
             from,
             to,
@@ -110,7 +109,7 @@ fn serve<R: Read, W: Write, F: Read, E: Write>(
             show,
             room,
         ),
-        Taken::Failed => input::cannot_read(beside),
+        Err(_) => input::cannot_read(beside),
     }
 }
 

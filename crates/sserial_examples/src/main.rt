@@ -5,11 +5,10 @@
 mod cards;
 mod line;
 
-use input::Taken;
 use sserial::call;
 use sserial::table::Direction;
 use std::io;
-use std::io::{Read, Write};
+use std::io::Write;
 
 fn channels(out: &mut [u8], at: usize, registers: [u32; 24]) -> usize {
     let next = line::channel(out, at, 1, &registers[3..6]);
@@ -151,31 +150,19 @@ fn play<W: Write>(to: &mut W, cards: &[u8], out: &mut [u8; 8192]) -> io::Result<
     input::put(to, out, n)
 }
 
-fn serve<R: Read, W: Write, E: Write>(
-    beside: &mut E,
-    from: &mut R,
-    to: &mut W,
-    cards: &mut [u8; 8192],
-    out: &mut [u8; 8192],
-) -> io::Result<()> {
-    let taken = input::all(from, cards);
-    match taken {
-        Taken::Bytes(n) => play(to, input::front(cards, n), out),
-        Taken::Failed => input::cannot_read(beside),
-    }
-}
-
 fn main(rt: HostRuntime) -> io::Result<()> {
-    if input::words(&rt, 2) != 1 {
+    let words = input::words(&rt, 2);
+    if words != 1 {
         return rt.print(
             "usage: sserial_examples < CARDS\nWorked examples of daughter card fields; CARDS are card memories as hexadecimal digits.\n",
         );
     }
-    serve(
-        &mut rt.stderr(),
+    let mut cards = [0; 8192];
+    input::served(
+        words,
         &mut rt.stdin(),
-        &mut rt.stdout(),
-        &mut [0; 8192],
-        &mut [0; 8192],
+        &mut cards,
+        &mut rt.stderr(),
+        |cards| { play(&mut rt.stdout(), cards, &mut [0; 8192]) },
     )
 }

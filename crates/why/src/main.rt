@@ -2,7 +2,6 @@
 // from the pointers in the file named.
 #![tactic(auto)]
 
-use input::Taken;
 use std::env::Env;
 use std::io;
 use std::io::{Read, Write};
@@ -15,11 +14,8 @@ fn take<R: Read>(
     found: bool,
     from: &mut R,
     bytes: &mut [u8],
-) -> Taken {
-    let most = words::most_read(asked, found);
-    if bytes.len() < most {
-        return Taken::Failed;
-    }
+) -> io::Result<usize> {
+    let most = words::most_read(asked, found).min(bytes.len());
     input::all(from, &mut bytes[..most])
 }
 
@@ -48,15 +44,15 @@ fn serve<R: Read, W: Write, E: Write>(
 ) -> io::Result<()> {
     let taken = take(asked, found, from, bytes);
     match taken {
-        Taken::Failed => input::cannot_read(beside),
-        Taken::Bytes(n) => answer(to, asked, found, file, input::front(bytes, n), room),
+        Err(_) => input::cannot_read(beside),
+        Ok(n) => answer(to, asked, found, file, input::front(bytes, n), room),
     }
 }
 
 // A file that cannot be opened has nothing to read.
-fn read_file<F: Read>(opened: &mut Option<F>, file: &mut [u8]) -> Taken {
+fn read_file<F: Read>(opened: &mut Option<F>, file: &mut [u8]) -> io::Result<usize> {
     match opened {
-        None => Taken::Bytes(0),
+        None => Ok(0),
         Some(f) => input::all(f, file),
     }
 }
@@ -104,8 +100,8 @@ fn start<R: Read, W: Write, F: Read + Drop, E: Write>(
     let found = opened.is_some();
     let had = read_file(&mut opened, file);
     match had {
-        Taken::Failed => input::cannot_read(beside),
-        Taken::Bytes(k) => judge(beside, from, to, asked, found, input::front(file, k)),
+        Err(_) => input::cannot_read(beside),
+        Ok(k) => judge(beside, from, to, asked, found, input::front(file, k)),
     }
 }
 

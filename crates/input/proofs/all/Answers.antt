@@ -8,5 +8,5 @@ loop-n-init g c = (search rules, Consumes-nil _)
 
 pub loop-n-preserved : goal.loop-n-preserved
 loop-n-preserved g c =
-    let read = c.in-Bytes.ensures in
-    (read.behind, more-came _ _ _ c.loop-n.n c.in-Bytes.k _ _ read.front c.loop-n.invariant.1 read.bytes.0)
+    let read = c.in-Ok.ensures in
+    (read.behind, more-came _ _ _ c.loop-n.n c.in-Ok.k _ _ read.front c.loop-n.invariant.1 read.bytes.0)
