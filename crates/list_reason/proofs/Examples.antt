@@ -10,7 +10,7 @@ use Rattle.packet.specs.Rules
 use Rattle.cue.specs.Records
 use Rattle.list_reason.specs.ListReason
 use Rattle.list_reason.specs.ListReason.{list_why, walked}
-use Rattle.list_reason.specs.declared.ListWhy.{ListWhy}
+use Rattle.list_reason.specs.ListReason.{ListWhy}
 
 -- opens every definition that the examples compute with
 all : Bool

@@ -13,8 +13,11 @@ use Rattle.cue.specs.Records.{Listed, refused, records, records_of, record_refus
 use Rattle.cue.proofs.RecordLaws.{list_bytes, list-bytes}
 use Rattle.cue.proofs.PackingLaws.{record_bytes_le}
 use Rattle.list_reason.specs.ListReason.{causes_of, offset_of, walked, walked_by, list_why, why_by, FrontGood}
-use Rattle.list_reason.specs.declared.Reached.{Reached}
-use Rattle.list_reason.specs.declared.ListWhy.{ListWhy}
+use Rattle.list_reason.specs.ListReason.{Reached}
+use Rattle.list_reason.specs.ListReason.{ListWhy}
+use Rattle.std.specs.Prelude.{Result, Ok, Err}
+use Rattle.list_reason.specs.Listing.{reached_listed}
+use Rattle.list_reason.specs.declared.Stopped.{Stopped}
 use Rattle.list_reason.proofs.CauseLaws.{some_cause}
 use Rattle.list_reason.proofs.FrontLaws.{before}
 
@@ -95,6 +98,10 @@ module _ (list : List ℕ) where
       same (records xs) = refl
 
 -- as the code comes to it
+pub none-stops : (bytes : ℕ) (r : Result ℕ Stopped) → ((s : Stopped) → r ≡ Err s → ⊥) → (reached_listed bytes r).number ≡ 0
+none-stops bytes (Ok n) h = refl
+none-stops bytes (Err s) h = absurd (h s refl)
+
 module _ (list : List ℕ) (w : Reached) (e : w ≡ walked list) where
   pub walk-good : w.number ≡ 0 → record { number = 0; place = 0; offset = 0; cause = 0 } ≡ list_why list
   unfolding walked walked_by list_why why_by

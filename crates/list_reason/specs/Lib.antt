@@ -1,1 +1,2 @@
 pub mod ListReason
+pub mod Listing

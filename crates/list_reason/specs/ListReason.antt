@@ -5,8 +5,6 @@ use Rattle.packet.specs.Step.{Step, is_write, is_status}
 use Rattle.packet.specs.Rules.{Rule, first, misaligned, past_end, barred}
 use Rattle.packet.specs.Command.{pick_kind}
 use Rattle.cue.specs.Records.{Listed, refused, records, records_of, record_step, record_kind, record_bytes, mark_at, read_mark, write_mark, upper_half}
-use Rattle.list_reason.specs.declared.Reached.{Reached}
-use Rattle.list_reason.specs.declared.ListWhy.{ListWhy}
 
 -- Causes of 22: the mark is unknown; the record is cut. Of a single byte no mark can be told.
 unfoldable pub mark_causes : List ℕ → List Rule
@@ -49,6 +47,11 @@ offset_of zero list = 0
 offset_of (suc index) list = let n = record_bytes (record_kind list) in n + offset_of index (drop n list)
 
 -- How far a list is good: the records and bytes before the one that is refused, with the number; or all, with 0.
+pub record Reached : Type 0 where
+  pub number : ℕ
+  pub records : ℕ
+  pub bytes : ℕ
+
 unfoldable pub walked_by : List ℕ → Listed → Reached
 walked_by list (refused n index) = record { number = n; records = index; bytes = offset_of index list }
 walked_by list (records xs) = record { number = 0; records = length xs; bytes = length list }
@@ -57,6 +60,12 @@ unfoldable pub walked : List ℕ → Reached
 walked list = walked_by list (records_of list)
 
 -- What is wrong: the compiler's number and place, the offset of the record's first byte, and the cause. All 0 where nothing is.
+pub record ListWhy : Type 0 where
+  pub number : ℕ
+  pub place : ℕ
+  pub offset : ℕ
+  pub cause : ℕ
+
 unfoldable pub why_by : List ℕ → Listed → ListWhy
 why_by list (refused n index) =
     let at = offset_of index list in
