@@ -1,19 +1,13 @@
 // Numbers in bytes, low byte first.
-ghost use Rattle.std.specs.Prelude.{◌≡◌, ◌+◌, ◌≤◌, ◌<◌, length, take, drop};
+ghost use Rattle.std.specs.Prelude.{◌≡◌, ◌+◌, ◌≤◌, length, take, drop};
 ghost use Rattle.packet.specs.Bytes.{number};
-
-fn wide(b: u8) -> u16
-    ensures { (result ≡ b) × (result < 256) }
-{
-    b as u16
-}
 
 // The number in the two bytes from `at` on, low byte first.
 pub(crate) fn pair(s: &[u8], at: usize) -> u16
     requires { at + 2 ≤ length s.now }
     ensures { result ≡ number (take 2 (drop at s.now)) }
 {
-    wide(s[at]) + 256 * wide(s[at + 1])
+    u16::from_le_bytes([s[at], s[at + 1]])
 }
 
 // The same, of any bytes; a byte that is not there counts as 0.
@@ -23,10 +17,10 @@ pub fn pair_at(s: &[u8], at: usize) -> u16
     if s.len() <= at {
         return 0;
     }
-    let low = wide(s[at]);
     let next = at + 1;
     if s.len() <= next {
-        return low;
+        s[at] as u16
+    } else {
+        u16::from_le_bytes([s[at], s[next]])
     }
-    low + 256 * wide(s[next])
 }

@@ -155,15 +155,12 @@ fn unlock_after(open: bool, count: u8, used: u32, stride: u32, data: &[u8]) -> b
     requires { stride ≤ 4 }
     ensures { result ≡ unlocked «open» (elements Kind.write status count used stride «data».now) }
 {
-    let n = count as usize;
     let step = stride as usize;
     let mut now_open = open;
     let mut address = used as usize;
-    let mut i: usize = 0;
-    while i < n {
+    for i in 0..count as usize {
         now_open = unlock_by_write(now_open, address, data, i * 2);
         address += step;
-        i += 1;
     }
     now_open
 }

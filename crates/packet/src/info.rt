@@ -8,24 +8,12 @@ ghost use Rattle.packet.specs.Command.{bytes_of_area};
 fn area(cookie: u16, sizes: u16, ranges: u16, pointer: u32) -> [u8; 16]
     ensures { result ≡ pairs_of (cookie ∷ sizes ∷ ranges ∷ pointer % 65536 ∷ 0 ∷ 0 ∷ 0 ∷ 0 ∷ []) }
 {
-    let shown = pointer % 65536;
+    let c = cookie.to_le_bytes();
+    let s = sizes.to_le_bytes();
+    let r = ranges.to_le_bytes();
+    let p = pointer.to_le_bytes();
     [
-        (cookie % 256) as u8,
-        (cookie / 256 % 256) as u8,
-        (sizes % 256) as u8,
-        (sizes / 256 % 256) as u8,
-        (ranges % 256) as u8,
-        (ranges / 256 % 256) as u8,
-        (shown % 256) as u8,
-        (shown / 256 % 256) as u8,
-        0,
-        0,
-        0,
-        0,
-        0,
-        0,
-        0,
-        0,
+        c[0], c[1], s[0], s[1], r[0], r[1], p[0], p[1], 0, 0, 0, 0, 0, 0, 0, 0,
     ]
 }
 

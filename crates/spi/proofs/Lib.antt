@@ -1,6 +1,5 @@
 -- Laws of the definitions in specs/.
 pub mod CellStepLaws
-pub mod ClearLaws
 pub mod SpiLaws
 pub mod ShortBurstLaws
 pub mod Examples

@@ -10,11 +10,11 @@ use lib.Dec.{eqb, ltb}
 use borrow.Author.Tests.{eqb-true, eqb-false, eq-eqb, ne_eqb, ltb-false, le-ltb, not-false}
 use Rattle.lbp16.proofs.BoolLaws.{or_false}
 use Rattle.lbp16.proofs.WordLaws.{bit_le, bit-read, bit-written}
-use Rattle.lbp16.specs.Answer.{Answer}
+use Rattle.lbp16.specs.Answer.{Answer, refusal, rule_number}
 use Rattle.lbp16.specs.Space.{registers, row, store_bytes}
 use Rattle.lbp16.specs.Word.{bit}
 use Rattle.packet.specs.Step.{Kind, read, write, infoRead, is_info, is_write, store_after, values_read}
-use Rattle.packet.specs.Rules.{Rule, first, any_step, misaligned, past_end}
+use Rattle.packet.specs.Rules.{Rule as TableRow, first, any_step, misaligned, past_end}
 use Rattle.packet.specs.Command.{elements}
 use Rattle.packet.proofs.RuleLaws.{none-holds, first-of_none, FirstHolds, first_holds, Lowest, first-lowest}
 use Rattle.packet.proofs.ElementLaws.{past-span}
@@ -22,12 +22,17 @@ use Rattle.packet.proofs.StepLaws.{pick-plain, row_plain}
 use Rattle.packet.proofs.StoreLaws.{length-after}
 use Rattle.packet.proofs.CountLaws.{length-elements}
 use Rattle.packet.specs.Verdict.{verdict_listed}
-use Rattle.packet.specs.declared.judge.Verdict.{Verdict}
+use Rattle.lbp16.specs.declared.Refusal.{Refusal}
+use Rattle.lbp16.specs.declared.Rule.{Rule}
+use Rattle.lbp16.proofs.RuleLaws.{rule_number_range}
+use Rattle.std.specs.Prelude.{Result, Err}
+use Rattle.std.specs.Option.{unwrap_or}
+use Rattle.std.specs.List.{slice_get}
 use Rattle.card.specs.Cells.{cells_within, cells, cells_read, filled, cells_written}
 use Rattle.card.proofs.CellLaws.{all-within, read_by, written-by}
 use Rattle.card.proofs.StepBlockLaws.{reads_keep}
 use Rattle.spi.specs.declared.Header.{Header}
-use Rattle.spi.specs.Spi.{read_command, write_command, header_of, header_word, other_command, answer_of, header_written}
+use Rattle.spi.specs.Spi.{read_command, write_command, header_of, header_word, other_command, answer_of, header_written, header_listed}
 use Rattle.spi.specs.Spi.{first_word, bytes_of_words, words_of_bytes, burst_kind, burst_steps, came, burst_refusals, burst_words}
 use Rattle.spi.specs.Spi.{Burst, burst_outcome, run_burst, burst_left, most_in_burst}
 use Rattle.spi.proofs.CellStepLaws.{Cells, steps-within, cells-fewer, within-store, reads-cells, writes_fill, filled-outside}
@@ -62,7 +67,7 @@ unfolding header_word header_of
 word-of_header w = rw (bit-written (w / 2048 % 2) (omega arith)) (omega arith)
 
 -- the rules that a header is written by
-abbrev pub header_rules : Header → List Rule
+abbrev pub header_rules : Header → List TableRow
 header_rules h =
     record { number = 32; holds = other_command h }
     ∷ record { number = 33; holds = eqb h.count 0 || ltb 127 h.count }
@@ -106,16 +111,24 @@ command_le h r = go r.command
     go (inl e) = omega arith
     go (inr e) = omega arith
 
--- A header refused, and a header written, as the code answers them.
-pub header-number : (h : Header) (n m : ℕ) (other : Bool) → n ≡ cond other 32 m → other ≡ other_command h
-    → m ≡ cond (eqb h.count 0 || ltb 127 h.count) 33 0 → n ≡ first (header_rules h)
+pub command_fits : (h : Header) → false ≡ other_command h → (eqb h.count 0 || ltb 127 h.count) ≡ false → h.command ≤ 11
 unfolding first
-header-number h n m other e f g = rw (e, f, g)
+command_fits h e f = command_le h (writable h (rw (← e, f) refl))
+
+-- A header refused, and a header written, as the code answers them.
+pub header-number : (h : Header) → first (header_rules h) ≡ cond (other_command h) 32 (cond (eqb h.count 0 || ltb 127 h.count) 33 0)
+unfolding first
+header-number h = refl
 
 pub header_refused : (h : Header) (n : ℕ) → n ≡ first (header_rules h) → (n ≡ 0 → ⊥) → header_written h ≡ Answer.refused n 0
 unfolding header_written
 header_refused h zero e k = absurd (k refl)
 header_refused h (suc n) e k = rw (← e)
+
+pub header_refused_by : (h : Header) (r : Rule) (x : Refusal) → x ≡ record { rule = r; place = 0 }
+    → rule_number r ≡ first (header_rules h) → header_listed (Err x) ≡ header_written h
+unfolding header_listed
+header_refused_by h r x e q = ap refusal e ∙ sym (header_refused h (rule_number r) q (λ z. omega (arith, rule_number_range r)))
 
 pub header-accepted : (h : Header) → first (header_rules h) ≡ 0 → header_written h ≡ Answer.accepted (header_word h ∷ [])
 unfolding header_written
@@ -135,15 +148,10 @@ written-reads_back h w a e = go (first (header_rules h)) refl e
         rw (← same) (header-of_word h (record { address = a; command = omega arith; count = omega arith }))
     go (suc n) q e = let z : ◌≡◌ {A = ℕ} 0 1 = cc in absurd (omega arith)
 
-pub word_none : (words : List ℕ) → length words ≡ 0 → first_word words ≡ 0
+pub first_or_none : (words : List ℕ) → unwrap_or (slice_get words 0) 0 ≡ first_word words
 unfolding first_word
-word_none [] h = refl
-word_none (w ∷ ws) h = absurd (omega arith)
-
-pub word_first : (words : List ℕ) → (length words ≡ 0 → ⊥) → first_word words ≡ get_or words 0 0
-unfolding first_word
-word_first [] h = absurd (h refl)
-word_first (w ∷ ws) h = refl
+first_or_none [] = refl
+first_or_none (w ∷ ws) = refl
 
 -- a burst has no info reads
 pub burst-plain : (h : Header) → is_info (burst_kind h) ≡ false
@@ -222,6 +230,10 @@ pub record Ready (words store room : List ℕ) (h : Header) (stride : ℕ) : Typ
   pub header : h ≡ header_in words
   pub apart : stride ≡ cond h.increment 4 0
   pub near : stride ≤ 4
+
+pub readied : {words store room : List ℕ} {h : Header} {word stride : ℕ} → first (burst_refusals words store room) ≡ 0
+    → h ≡ header_of word → word ≡ first_word words → (stride ≡ cond h.increment 4 0) × (stride ≤ 4) → Ready words store room h stride
+readied p e f s = record { passed = p; header = e ∙ ap header_of f; apart = s.0; near = s.1 }
 
 module _ (words store room : List ℕ) (h : Header) (stride : ℕ) (ready : Ready words store room h stride) where
   ready-sound : Sound words store room
@@ -354,12 +366,12 @@ few-came zero words store room s n e = let q : came words ≡ n = cc in omega (a
 few-came (suc k) words store room s n e = let z : ◌≡◌ {A = ℕ} 0 1 = cc in absurd (omega arith)
 
 -- P holds of each rule's number
-abbrev AllNumbers : (ℕ → Type 0) → List Rule → Type 0
+abbrev AllNumbers : (ℕ → Type 0) → List TableRow → Type 0
 AllNumbers P [] = Unit
 AllNumbers P (r ∷ rs) = P r.number × AllNumbers P rs
 
 -- so it holds of the first's
-first-among : (P : ℕ → Type 0) {n : ℕ} {rs : List Rule} → FirstHolds n rs → AllNumbers P rs → P n
+first-among : (P : ℕ → Type 0) {n : ℕ} {rs : List TableRow} → FirstHolds n rs → AllNumbers P rs → P n
 first-among P (FirstHolds.here e t) a = rw e at a.0
 first-among P (FirstHolds.later f more) a = first-among P more a.1
 
@@ -440,7 +452,7 @@ module _ (words store room : List ℕ) where
   burst-at_most = few-came (first (burst_refusals words store room)) words store room (sound words store room)
 
   -- as the code answers and leaves it
-  pub burst-bounded : (a : Verdict) (store' room'' : List ℕ) (b : Answer) → verdict_listed a ≡ b
+  pub burst-bounded : (a : Result ℕ Refusal) (store' room'' : List ℕ) (b : Answer) → verdict_listed a ≡ b
       → run_burst words store room ≡ record { answer = b; store = store'; room = room'' }
       → (burst_left a store' room'' ≡ run_burst words store room)
       × ((n : ℕ) → verdict_listed a ≡ Answer.accepted (n ∷ []) → n ≤ most_in_burst)

@@ -1,6 +1,6 @@
 -- One SPI burst on space 0 of the store. A header, high bit first: 16 bits of address, 4 of command, increment, 7 of
 -- count, 4 unused.
-use Rattle.std.specs.Prelude.{ℕ, zero, suc, ◌+◌, ◌-◌, ◌*◌, ◌/◌, ◌%◌, List, [], ◌∷◌, ◌++◌, Bool, not, ◌||◌, ◌&&◌, cond, length, take, drop, replicate, eqb, ltb}
+use Rattle.std.specs.Prelude.{ℕ, zero, suc, ◌+◌, ◌-◌, ◌*◌, ◌/◌, ◌%◌, List, [], ◌∷◌, ◌++◌, Bool, not, ◌||◌, ◌&&◌, cond, length, take, drop, replicate, eqb, ltb, Result, Ok, Err}
 use Rattle.lbp16.specs.Answer.{Answer, refusal}
 use Rattle.lbp16.specs.Space.{registers, row, store_bytes}
 use Rattle.lbp16.specs.Word.{bit}
@@ -9,10 +9,8 @@ use Rattle.packet.specs.Step.{Kind, Step, is_write, store_after, values_read}
 use Rattle.packet.specs.Rules.{Rule, first, misaligned, past_end, any_step}
 use Rattle.packet.specs.Command.{elements, pick_kind}
 use Rattle.packet.specs.Verdict.{verdict_listed}
-use Rattle.packet.specs.declared.judge.Verdict.{Verdict}
+use Rattle.lbp16.specs.declared.Refusal.{Refusal}
 use Rattle.spi.specs.declared.Header.{Header}
-use Rattle.spi.specs.declared.HeaderWritten.{HeaderWritten}
-use Rattle.spi.specs.declared.HeaderWritten.TheVariants.{Word, Refused}
 
 abbrev pub read_command : ℕ
 read_command = 0xA
@@ -50,9 +48,9 @@ header_written h =
     ∷ []))
     (header_word h ∷ [])
 
-unfoldable pub header_listed : HeaderWritten → Answer
-header_listed (Word w) = Answer.accepted (w ∷ [])
-header_listed (Refused r) = refusal r
+unfoldable pub header_listed : Result ℕ Refusal → Answer
+header_listed (Ok w) = Answer.accepted (w ∷ [])
+header_listed (Err r) = refusal r
 
 -- the first word, 0 where there is none
 unfoldable pub first_word : List ℕ → ℕ
@@ -117,7 +115,7 @@ unfoldable pub run_burst : List ℕ → List ℕ → List ℕ → Burst
 run_burst words store room = burst_outcome (first (burst_refusals words store room)) words store room
 
 -- what a burst of the code answers and leaves
-unfoldable pub burst_left : Verdict → List ℕ → List ℕ → Burst
+unfoldable pub burst_left : Result ℕ Refusal → List ℕ → List ℕ → Burst
 burst_left a store room = record { answer = verdict_listed a; store = store; room = room }
 
 -- the most elements that a burst can move

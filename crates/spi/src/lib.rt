@@ -2,7 +2,7 @@
 #![tactic(auto)]
 
 ghost use Rattle.std.specs.Prelude.{◌≡◌, ◌||◌, cond, List, [], ◌∷◌, ℕ, ◌*◌, ◌≤◌, length, replicate};
-ghost use Rattle.lbp16.specs.Answer.{Answer};
+ghost use Rattle.lbp16.specs.Answer.{Answer, ruled};
 ghost use Rattle.lbp16.specs.Space.{registers, row};
 ghost use Rattle.lbp16.specs.Word.{bit};
 ghost use Rattle.packet.specs.Rules.{first, misaligned, past_end, any_step};
@@ -13,28 +13,21 @@ ghost use Rattle.spi.specs.Spi.{burst_refusals, run_burst, burst_left, most_in_b
 
 use card::cells;
 use card::check::STORE_BYTES;
-use lbp16::Refusal;
 use lbp16::pointer::Pointer;
+use lbp16::{Refusal, Rule};
 use packet::judge::Verdict;
-use packet::{judge, rule};
 
 const READ: u8 = 0xA;
 
 pub const WRITE: u8 = 0xB;
 
 // The fields of a header word, high bits first; the four lowest bits are unused.
-#[derive(Clone, Copy)]
+#[derive(Clone, Copy, Debug, PartialEq, Eq)]
 pub struct Header {
     pub address: u16,
     pub command: u8,
     pub increment: bool,
     pub count: u8,
-}
-
-#[derive(Clone, Copy)]
-pub enum HeaderWritten {
-    Word(u32),
-    Refused(Refusal),
 }
 
 // Every word has a header; its unused bits are ignored.
@@ -58,29 +51,30 @@ fn other_command(h: Header) -> bool
 fn increment_bit(h: Header) -> u32
     ensures { (result ≡ bit h.increment * 2048) × (result ≤ 2048) }
 {
-    if h.increment { 2048 } else { 0 }
+    u32::from(h.increment) * 2048
 }
 
 // Refused with 32 for another command, with 33 for a count outside 1 to 127.
-pub fn header_word(h: Header) -> HeaderWritten
+pub fn header_word(h: Header) -> Result<u32, Refusal>
     ensures { header_listed result ≡ header_written h }
 {
-    let number = rule::first_of((h.count == 0) | (127 < h.count), 33, 0);
-    let number = rule::first_of(other_command(h), 32, number);
-    if number != 0 {
-        return HeaderWritten::Refused(Refusal { number, place: 0 });
+    if other_command(h) {
+        return Err(Rule::SpiCommand.at(0));
+    }
+    if (h.count == 0) | (127 < h.count) {
+        return Err(Rule::SpiCount.at(0));
     }
     let address = h.address as u32;
     let command = h.command as u32;
     let count = h.count as u32;
-    HeaderWritten::Word(address * 65536 + command * 4096 + increment_bit(h) + count * 16)
+    Ok(address * 65536 + command * 4096 + increment_bit(h) + count * 16)
 }
 
 // 0 where no word was sent.
 fn first_word(words: &[u32]) -> u32
     ensures { result ≡ first_word words.now }
 {
-    if words.len() == 0 { 0 } else { words[0] }
+    words.first().copied().unwrap_or(0)
 }
 
 // From one cell to the next.
@@ -105,29 +99,32 @@ fn out_of_place(h: Header) -> bool
     (address % 4 != 0) | ((h.count != 0) & (Pointer::REGISTERS < address + span_of(h)))
 }
 
-// The lowest number of refusals 1 and 31 to 35 whose condition holds, 0 if none does.
-pub fn refusal_of(words: &[u32], store: &[u8], answer: &[u32]) -> u32
-    ensures { result ≡ first (burst_refusals words.now store.now answer.now) }
+// The first of rules 1 and 31 to 35 that refuses.
+pub fn refusal_of(words: &[u32], store: &[u8], answer: &[u32]) -> Result<(), Rule>
+    ensures { ruled result ≡ first (burst_refusals words.now store.now answer.now) }
 {
     let h = header_of(first_word(words));
     let sent = words.len();
     let promised = 1 + h.count as usize;
-    let r = rule::first_of(out_of_place(h), 35, 0);
-    let r = rule::first_of(promised < sent, 34, r);
-    let r = rule::first_of(h.count == 0, 33, r);
-    let r = rule::first_of(other_command(h), 32, r);
-    let r = rule::first_of(sent == 0, 31, r);
-    rule::first_of((store.len() != STORE_BYTES) | (answer.len() != sent), 1, r)
-}
-
-fn clear(answer: &mut [u32])
-    ensures { answer.new ≡ replicate (length answer.old) 0 }
-{
-    let mut i: usize = 0;
-    while i < answer.len() {
-        answer[i] = 0;
-        i += 1;
+    if (store.len() != STORE_BYTES) | (answer.len() != sent) {
+        return Err(Rule::State);
     }
+    if sent == 0 {
+        return Err(Rule::NoWord);
+    }
+    if other_command(h) {
+        return Err(Rule::SpiCommand);
+    }
+    if h.count == 0 {
+        return Err(Rule::SpiCount);
+    }
+    if promised < sent {
+        return Err(Rule::TooManyWords);
+    }
+    if out_of_place(h) {
+        return Err(Rule::SpiAddress);
+    }
+    Ok(())
 }
 
 // The words after the header go into the cells from `from` on, and all words of the answer are 0.
@@ -135,7 +132,7 @@ fn write_cells(words: &[u32], store: &mut [u8], from: usize, stride: usize, answ
     ensures store_after { store.new ≡ cells_written words.now from stride store.old }
     ensures answer_after { answer.new ≡ replicate (length answer.old) 0 }
 {
-    clear(answer);
+    answer.fill(0);
     cells::write_each(words, store, from, stride);
 }
 
@@ -145,9 +142,8 @@ pub fn burst(words: &[u32], store: &mut [u8], answer: &mut [u32]) -> Verdict
     ensures left { burst_left result store.new answer.new ≡ run_burst words.now store.old answer.old }
     ensures bounded { (n : ℕ) → verdict_listed result ≡ Answer.accepted (n ∷ []) → n ≤ most_in_burst }
 {
-    let number = refusal_of(words, store, answer);
-    if number != 0 {
-        return judge::refused(number, 0);
+    if let Err(rule) = refusal_of(words, store, answer) {
+        return Err(rule.at(0));
     }
     let h = header_of(first_word(words));
     let from = h.address as usize;
@@ -155,8 +151,8 @@ pub fn burst(words: &[u32], store: &mut [u8], answer: &mut [u32]) -> Verdict
     let came = (words.len() - 1) as u64;
     if h.command == WRITE {
         write_cells(words, store, from, stride, answer);
-        return Verdict::Accepted(came);
+        return Ok(came);
     }
     cells::read_cells(store, from, stride, answer);
-    Verdict::Accepted(came)
+    Ok(came)
 }

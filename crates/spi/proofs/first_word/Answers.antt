@@ -1,9 +1,5 @@
-use mathlib.Core.Path.{sym}
-use Rattle.spi.proofs.SpiLaws.{word_none, word_first}
+use Rattle.spi.proofs.SpiLaws.{first_or_none}
 use Rattle.spi.proofs.first_word.Goals as goal
 
-pub returns-then-words-eq0 : goal.returns-then-words-eq0
-returns-then-words-eq0 c = sym (word_none _ c.if-words-eq0.true)
-
-pub returns-else-words-eq0 : goal.returns-else-words-eq0
-returns-else-words-eq0 c = sym (word_first _ c.if-words-eq0.false)
+pub returns : goal.returns
+returns c = rw (c.unwrap_or.ensures, c.copied.ensures, c.first.ensures.value) (first_or_none c.args.words.now)

@@ -1,4 +1,4 @@
-use Prim.Native.Nat.{◌≤◌, ◌<◌, ◌+◌, ◌-◌, ◌*◌}
+use Prim.Native.Nat.{◌≤◌, ◌+◌, ◌-◌, ◌*◌}
 use mathlib.Core.Path.{◌≡◌}
 use lib.ListN.{drop}
 use Rattle.lbp16.specs.Space.{status}
@@ -7,9 +7,8 @@ use Rattle.packet.specs.Command.{elements}
 use Rattle.packet.proofs.command.unlock_after.Given as goal
 
 abbrev pub invariant-loop-i : goal.invariant-loop-i
-invariant-loop-i l = (l.i ≤ l.n) × (l.n < 256) × (l.step ≤ 4) × (l.address ≤ l.used + l.i * 4)
-    × (unlocked l.open (elements write status l.n l.used l.step l.data)
-    ≡ unlocked l.now_open (elements write status (l.n - l.i) l.address l.step (drop (l.i * 2) l.data)))
-
-abbrev pub decreases-loop-i : goal.decreases-loop-i
-decreases-loop-i l = l.n - l.i
+invariant-loop-i l = record {
+  near : l.address ≤ l.used + l.i * 4;
+  same : unlocked l.open (elements write status l.count l.used l.step l.data)
+      ≡ unlocked l.now_open (elements write status (l.count - l.i) l.address l.step (drop (l.i * 2) l.data));
+}
