@@ -4,8 +4,6 @@ ghost use Rattle.panel.specs.Masks.{reported};
 ghost use Rattle.head.specs.Exports.{given};
 ghost use Rattle.head.specs.PanelExports.{export_start, tally_left, export_reading};
 
-use panel::masks::StartAnswer;
-use panel::reading::ReadingAnswer;
 use panel::{masks, reading};
 
 // Starts exchanges for the channels in `asked`; `mask` is written only if accepted.
@@ -15,11 +13,11 @@ pub extern "C" fn head_panel_start(asked: u8, running: u8, mask: &mut u8) -> u32
 {
     let answer = masks::start(asked, running);
     match answer {
-        StartAnswer::Mask(m) => {
+        Ok(m) => {
             *mask = m;
             0
         }
-        StartAnswer::Refused(r) => r.number,
+        Err(r) => r.rule.number(),
     }
 }
 
@@ -54,10 +52,10 @@ pub extern "C" fn head_panel_reading(
 {
     let answer = reading::reading(kind, width, value, minimum_bits, maximum_bits);
     match answer {
-        ReadingAnswer::Reading(x) => {
+        Ok(x) => {
             *reading_bits = f32::to_bits(x);
             0
         }
-        ReadingAnswer::Refused(r) => r.number,
+        Err(refusal) => refusal.rule.number(),
     }
 }

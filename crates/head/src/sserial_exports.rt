@@ -7,27 +7,26 @@ ghost use Rattle.head.specs.SserialExports.{or_refused, direction_of, field_word
 ghost use Rattle.head.specs.SserialExports.{export_table, call_left, export_field, export_pack, export_unpack};
 
 use crate::numbers::Numbers;
-use sserial::call::CallAnswer;
-use sserial::count::TableAnswer;
-use sserial::field::FieldAnswer;
+use lbp16::Refusal;
+use sserial::count::FieldCounts;
 use sserial::table::{Direction, Field};
 use sserial::{call, count, field};
 
-fn numbers_of(answer: TableAnswer) -> Numbers
+fn numbers_of(answer: Result<FieldCounts, Refusal>) -> Numbers
     ensures { result ≡ numbers_of (table_listed answer) }
 {
     match answer {
-        TableAnswer::Fields { inputs, outputs } => Numbers(0, inputs as u64, outputs as u64),
-        TableAnswer::Refused(r) => Numbers(r.number, r.place, 0),
+        Ok(counts) => Numbers(0, counts.inputs as u64, counts.outputs as u64),
+        Err(r) => Numbers(r.rule.number(), r.place, 0),
     }
 }
 
-fn call_number(answer: CallAnswer) -> u32
+fn call_number(answer: Result<(), Refusal>) -> u32
     ensures { result ≡ number_of (call_listed answer) }
 {
     match answer {
-        CallAnswer::Done => 0,
-        CallAnswer::Refused(r) => r.number,
+        Ok(()) => 0,
+        Err(r) => r.rule.number(),
     }
 }
 
@@ -37,11 +36,8 @@ fn table_or_40(memory: &[u8], table: u16) -> u32
 {
     let answer = count::count_fields(memory, table);
     match answer {
-        TableAnswer::Fields {
-            inputs: _,
-            outputs: _,
-        } => 40,
-        TableAnswer::Refused(r) => r.number,
+        Ok(_) => 40,
+        Err(r) => r.rule.number(),
     }
 }
 
@@ -95,11 +91,11 @@ pub extern "C" fn head_field(memory: &[u8], table: u16, index: u64, field: &mut 
     }
     let answer = field::field(memory, table, index);
     match answer {
-        FieldAnswer::Field(f) => {
+        Ok(f) => {
             put_field(f, field);
             0
         }
-        FieldAnswer::Refused(r) => r.number,
+        Err(r) => r.rule.number(),
     }
 }
 

@@ -1,8 +1,8 @@
 -- Masks of the eight channels, as the channels that they name.
-use Rattle.std.specs.Prelude.{ℕ, ◌/◌, ◌%◌, ◌^◌, List, [], ◌∷◌, Bool, true, false, not, ◌&&◌, cond, length, eqb}
+use Rattle.std.specs.Prelude.{ℕ, ◌/◌, ◌%◌, ◌^◌, List, [], ◌∷◌, Bool, true, false, not, ◌&&◌, cond, length, eqb, Result, Ok, Err}
 use Rattle.lbp16.specs.Answer.{Answer, accepted, refused, refusal}
+use Rattle.lbp16.specs.declared.Refusal.{Refusal}
 use Rattle.panel.specs.declared.masks.Tally.{Tally}
-use Rattle.panel.specs.declared.masks.StartAnswer.{StartAnswer}
 
 unfoldable pub channels : List ℕ
 channels = 0 ∷ 1 ∷ 2 ∷ 3 ∷ 4 ∷ 5 ∷ 6 ∷ 7 ∷ []
@@ -40,9 +40,9 @@ fails asked faults channel = names asked channel && names faults channel
 unfoldable pub started : ℕ → ℕ → Answer
 started asked running = cond (none (those (outside asked running) channels)) (accepted (asked ∷ [])) (refused 43 0)
 
-unfoldable pub start_listed : StartAnswer → Answer
-start_listed (StartAnswer.Mask m) = accepted (m ∷ [])
-start_listed (StartAnswer.Refused r) = refusal r
+unfoldable pub start_listed : Result ℕ Refusal → Answer
+start_listed (Ok m) = accepted (m ∷ [])
+start_listed (Err r) = refusal r
 
 -- how many were asked, how many failed, and the lowest of these
 unfoldable pub tally_of : List ℕ → List ℕ → Tally

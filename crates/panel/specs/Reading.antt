@@ -1,19 +1,23 @@
 -- A field's reading: a float of IEEE 754's binary32, in the toolchain's account of that standard.
-use Rattle.std.specs.Prelude.{ℕ, ◌-◌, ◌^◌, Bool, not, ◌||◌, cond, pos, eqb, ltb, Float}
+use Rattle.std.specs.Prelude.{ℕ, ◌-◌, ◌^◌, Bool, not, ◌||◌, cond, pos, eqb, ltb, Float, Result, Ok, Err}
 use Rattle.std.specs.Float.{binary32}
 use Rattle.std.specs.Float.Ieee.{of_bits, of_int, mul, div, lt}
 use Rattle.std.specs.Float.Ieee.Scale.{finite}
+use Rattle.lbp16.specs.Answer.{rule_number}
+use Rattle.lbp16.specs.declared.Refusal.{Refusal}
 use Rattle.panel.specs.declared.reading.Bounds.{Bounds}
-use Rattle.panel.specs.declared.reading.ReadingAnswer.{ReadingAnswer}
 
 -- A reading, or the refusal's number and place.
 pub data Shown : Type 0 where
   shown : Float → Shown
   refused : ℕ → ℕ → Shown
 
-unfoldable pub reading_listed : ReadingAnswer → Shown
-reading_listed (ReadingAnswer.Reading x) = shown x
-reading_listed (ReadingAnswer.Refused r) = refused r.number r.place
+abbrev pub refused_by : Refusal → Shown
+refused_by r = refused (rule_number r.rule) r.place
+
+unfoldable pub reading_listed : Result Float Refusal → Shown
+reading_listed (Ok x) = shown x
+reading_listed (Err r) = refused_by r
 
 -- the largest value of a width
 abbrev pub full : ℕ → ℕ

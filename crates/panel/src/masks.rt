@@ -2,44 +2,33 @@
 ghost use Rattle.std.specs.Prelude.{◌≡◌};
 ghost use Rattle.panel.specs.Masks.{named, tally_of, start_listed, started, reported};
 
-use lbp16::Refusal;
-
-// The mask asked for, or why it was refused.
-#[derive(Clone, Copy)]
-pub enum StartAnswer {
-    Mask(u8),
-    Refused(Refusal),
-}
+use lbp16::{Refusal, Rule};
 
 // How many channels were asked, how many of those failed, and the lowest of these, 8 if none.
-#[derive(Clone, Copy)]
+#[derive(Clone, Copy, Debug, PartialEq, Eq)]
 pub struct Tally {
     pub asked: u8,
     pub failed: u8,
     pub lowest: u8,
 }
 
-// Starts exchanges for the channels in `asked`. Refused with 43 if one of them is not in `running`, the started mask.
-pub fn start(asked: u8, running: u8) -> StartAnswer
+// Starts exchanges for the channels in `asked`, and answers their mask. Refused with 43 if one of them is not in `running`, the started mask.
+pub fn start(asked: u8, running: u8) -> Result<u8, Refusal>
     ensures { start_listed result ≡ started asked running }
 {
-    let outside = asked & !running;
-    if outside != 0 {
-        return StartAnswer::Refused(Refusal {
-            number: 43,
-            place: 0,
-        });
+    if asked & !running != 0 {
+        return Err(Rule::NotStarted.at(0));
     }
-    StartAnswer::Mask(asked)
+    Ok(asked)
 }
 
 fn tally_of(asked: u8, failed: u8) -> Tally
     ensures { result ≡ tally_of (named asked) (named failed) }
 {
     Tally {
-        asked: u8::count_ones(asked) as u8,
-        failed: u8::count_ones(failed) as u8,
-        lowest: u8::trailing_zeros(failed) as u8,
+        asked: asked.count_ones() as u8,
+        failed: failed.count_ones() as u8,
+        lowest: failed.trailing_zeros() as u8,
     }
 }
 

@@ -4,27 +4,15 @@ ghost use Rattle.std.specs.Float.Ieee.{of_bits};
 ghost use Rattle.std.specs.Float.{binary32};
 ghost use Rattle.std.specs.Float.Ieee.Scale as Scale;
 ghost use Rattle.panel.specs.Reading as Reading;
-ghost use Rattle.panel.specs.Reading.{Shown, reading_listed};
+ghost use Rattle.panel.specs.Reading.{reading_listed};
 
-use lbp16::Refusal;
+use lbp16::{Refusal, Rule};
 
 // The descriptor's minimum and maximum.
-#[derive(Clone, Copy)]
+#[derive(Clone, Copy, Debug)]
 pub struct Bounds {
     pub minimum: f32,
     pub maximum: f32,
-}
-
-#[derive(Clone, Copy)]
-pub enum ReadingAnswer {
-    Reading(f32),
-    Refused(Refusal),
-}
-
-fn refused(number: u32) -> ReadingAnswer
-    ensures { reading_listed result ≡ Shown.refused number 0 }
-{
-    ReadingAnswer::Refused(Refusal { number, place: 0 })
 }
 
 // The largest value of a width.
@@ -67,7 +55,7 @@ fn bounds_of(minimum: u32, maximum: u32) -> Bounds
     }
 }
 
-fn scaled(width: u32, value: u32, bounds: Bounds) -> ReadingAnswer
+fn scaled(width: u32, value: u32, bounds: Bounds) -> Result<f32, Refusal>
     requires { (width ≤ 24) × (value < 2 ^ 24) }
     ensures { reading_listed result ≡ Reading.scaled width value bounds }
 {
@@ -76,25 +64,31 @@ fn scaled(width: u32, value: u32, bounds: Bounds) -> ReadingAnswer
     let most = full(width) as f32;
     let product = raw * maximum;
     if finite(product) {
-        ReadingAnswer::Reading(product / most)
+        Ok(product / most)
     } else {
-        refused(46)
+        Err(Rule::NotFinite.at(0))
     }
 }
 
 // The reading of a field of this data type and width, with the bounds as the bits that the table holds.
-pub fn reading(kind: u32, width: u32, value: u64, minimum: u32, maximum: u32) -> ReadingAnswer
+pub fn reading(
+    kind: u32,
+    width: u32,
+    value: u64,
+    minimum: u32,
+    maximum: u32,
+) -> Result<f32, Refusal>
     ensures { reading_listed result ≡ Reading.reading kind width value minimum maximum }
 {
     if unreadable(kind, width, value) {
-        return refused(44);
+        return Err(Rule::NoReading.at(0));
     }
     if !(finite_bits(minimum) & finite_bits(maximum)) {
-        return refused(45);
+        return Err(Rule::BadBounds.at(0));
     }
     let bounds = bounds_of(minimum, maximum);
     if !(bounds.minimum < bounds.maximum) {
-        return refused(45);
+        return Err(Rule::BadBounds.at(0));
     }
     scaled(width, value as u32, bounds)
 }

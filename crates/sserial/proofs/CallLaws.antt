@@ -8,18 +8,21 @@ use lib.ListN.{length, get_or, take, drop, set, length-take}
 use lib.Seq.{sets, get_or-take, get_or-drop}
 use lib.Dec.{eqb, ltb}
 use borrow.Author.Tests.{ltb-false, le-ltb, eqb-true, eq-eqb, ne_eqb, not-false}
+use Rattle.std.specs.Prelude.{Some, None}
+use Rattle.std.proofs.lemmas.Option.{cond_some, none-some}
 use Rattle.lbp16.specs.Answer.{Answer, accepted, refused}
 use Rattle.lbp16.proofs.BoolLaws.{or_false, and_true}
 use Rattle.sserial.specs.Table.{checked_at, table_at, directed, bits, any_miswide, overfull, stands_in}
 use Rattle.sserial.specs.Layout.{joined, words_of, packed, unpacked, in_range, fitting}
 use Rattle.sserial.specs.Calls.{no_channel, packed_by, Outcome, unpacked_by, called_on, counted}
-use Rattle.sserial.specs.Inside.{Each, AllWide, Packable, fields_in, fields_left, chosen, rows_from, flat}
+use Rattle.sserial.specs.Inside.{Each, AllWide, Packable, fields_met, chosen, rows_from, flat}
 use Rattle.sserial.specs.declared.table.Field.{Field}
 use Rattle.sserial.specs.declared.table.Direction.{Direction}
 use Rattle.sserial.specs.declared.table.Direction.TheVariants.{Inputs, Outputs}
 use Rattle.sserial.proofs.LayoutLaws.{words-length}
 use Rattle.sserial.proofs.BitLaws.{each_below}
 use Rattle.sserial.proofs.ChannelLaws.{channel_set, row_at}
+use Rattle.sserial.proofs.FieldLaws.{laid-met}
 use Rattle.sserial.proofs.CheckedLaws.{Laid, Counts, laid-checked, refused-checked}
 
 -- an outcome from its parts
@@ -50,6 +53,14 @@ fitting-count [] (v ∷ vs) h = let z : ◌≡◌ {A = ℕ} 0 1 = cc in absurd (
 fitting-count (f ∷ fs) [] h = let z : ◌≡◌ {A = ℕ} 0 1 = cc in absurd (omega arith)
 fitting-count (f ∷ fs) (v ∷ vs) h = ap suc (fitting-count fs vs (and_true (in_range f v) (fitting fs vs) h).1)
 
+-- the words where each value fits, and none
+pub some_fit : (t : Bool) (ws words : List ℕ) → cond t (Some ws) None ≡ Some words → (t ≡ true) × (words ≡ ws)
+some_fit t ws words e = let k = cond_some t ws words e in (k.0, sym k.1)
+
+pub none_unfit : (t : Bool) (ws : List ℕ) → cond t (Some ws) None ≡ None → t ≡ false
+none_unfit true ws e = absurd (none-some _ (sym e))
+none_unfit false ws e = refl
+
 module _ (fs : List Field) (channel : ℕ) (values registers : List ℕ) where
   pub pack_refused : (no_channel channel registers || not (fitting fs values)) ≡ true
       → packed_by fs channel values registers ≡ record { answer = refused 40 0; left = registers }
@@ -75,15 +86,16 @@ module _ (fs : List Field) (channel : ℕ) (values registers : List ℕ) where
   unfolding packed_by
   pack_done h g = rw (h, g) refl
 
-  pub unpack_no_channel : no_channel channel registers ≡ true
+  pub unpack_refused : (no_channel channel registers || not (eqb (length values) (length fs))) ≡ true
       → unpacked_by fs channel registers values ≡ record { answer = refused 40 0; left = values }
   unfolding unpacked_by
+  unpack_refused h = rw h refl
+
+  pub unpack_no_channel : no_channel channel registers ≡ true → (no_channel channel registers || not (eqb (length values) (length fs))) ≡ true
   unpack_no_channel h = rw h refl
 
-  pub unpack_uncounted : no_channel channel registers ≡ false → (length values ≡ length fs → ⊥)
-      → unpacked_by fs channel registers values ≡ record { answer = refused 40 0; left = values }
-  unfolding unpacked_by
-  unpack_uncounted h n = rw (h, ne_eqb _ _ n) refl
+  pub unpack_uncounted : (length values ≡ length fs → ⊥) → (no_channel channel registers || not (eqb (length values) (length fs))) ≡ true
+  unpack_uncounted n = rw (ne_eqb _ _ n, or-true (no_channel channel registers)) refl
 
   pub unpack_done : no_channel channel registers ≡ false → length values ≡ length fs
       → unpacked_by fs channel registers values
@@ -138,12 +150,11 @@ module _ (fs : List Field) (h : overfull fs ≡ false) where
       let o = or_false (any_miswide fs || ltb 96 (bits (directed Inputs fs))) (ltb 96 (bits (directed Outputs fs))) h in
       ltb-false _ _ o.1
 
-module _ (m : List ℕ) (table : ℕ) (d : Direction) where
-  pub left_laid : (l : Laid (table_at m table)) → fields_left d m table ≡ directed d l.fs
-  unfolding fields_left fields_in
-  left_laid l = rw l.here refl
+module _ (m : List ℕ) (table : ℕ) (d : Direction) (fs : List Field) (f : fs ≡ directed d (fields_met m table)) where
+  pub left_laid : (l : Laid (table_at m table)) → fs ≡ directed d l.fs
+  left_laid l = rw (f, laid-met m table l) refl
 
-  pub packable : (i o n : ℕ) → Counts (table_at m table) i o → n ≡ chosen d i o → Packable d m table 0 n
+  pub packable : (i o n : ℕ) → Counts (table_at m table) i o → n ≡ chosen d i o → Packable fs n
   packable i o n k e =
       let s = left_laid k.laid in
       let b = laid-bits k.laid.fs k.laid.fits d in
@@ -159,14 +170,16 @@ module _ (m : List ℕ) (table : ℕ) (d : Direction) where
 
   -- a call by what the count answers
   module _ (lent : List ℕ) (call : List Field → Outcome) where
-    pub called-laid : Laid (table_at m table) → called_on (checked_at m table) d lent call ≡ call (fields_left d m table)
+    pub called-laid : Laid (table_at m table) → called_on (checked_at m table) d lent call ≡ call fs
     unfolding checked_at called_on
     called-laid l = rw (laid-checked (table_at m table) l, left_laid l) refl
 
-    pub called-refused : (n p : ℕ) → refused n p ≡ counted (checked_at m table)
-        → called_on (checked_at m table) d lent call ≡ record { answer = refused n p; left = lent }
-    unfolding called_on
-    called-refused n p e = let r = refused-checked (checked_at m table) n p e in rw (r.0, r.1) refl
+-- a call on a table that is refused
+module _ (m : List ℕ) (table : ℕ) (d : Direction) (lent : List ℕ) (call : List Field → Outcome) where
+  pub called-refused : (n p : ℕ) → refused n p ≡ counted (checked_at m table)
+      → called_on (checked_at m table) d lent call ≡ record { answer = refused n p; left = lent }
+  unfolding called_on
+  called-refused n p e = let r = refused-checked (checked_at m table) n p e in rw (r.0, r.1) refl
 
 -- the registers with the channel's row set and put back
 pub put_back : (fs : List Field) (channel : ℕ) (values registers words : List ℕ) (all next : List (List ℕ)) (after : List ℕ)

@@ -34,7 +34,7 @@ packed = 1 ∷ 2 ∷ 3 ∷ 5 ∷ 261632 ∷ 0 ∷ 7 ∷ 8 ∷ 9 ∷ 10 ∷ 11 �
 
 -- opens every definition
 all : Bool
-unfolding field mode card good registers packed Table.text_bytes Table.nul_of Table.name_place Table.field_of
+unfolding field mode card good registers packed Table.nul_of Table.name_place Table.field_of
     Table.sound_field Table.sound_mode Table.record_at Table.entry_of Table.with_field Table.with_entry Table.table_from
     Table.table_at Table.stands_in Table.directed Table.bits Table.any_miswide Table.overfull Table.checked Table.checked_at
     Layout.joined Layout.words_of Layout.is_signed Layout.value_of Layout.bits_of Layout.in_range Layout.packed

@@ -1,131 +1,113 @@
 -- A table's fields one by one.
-use Prim.Native.Nat.{ℕ, suc, ◌+◌, ◌-◌, ◌≤◌, ◌<◌}
-use mathlib.Core.Path.{◌≡◌, refl, ◌∙◌}
+use Prim.Native.Nat.{ℕ, zero, suc, ◌+◌, ◌*◌, ◌≤◌, ◌<◌}
+use mathlib.Core.Path.{◌≡◌, refl, sym, ◌∙◌}
 use mathlib.Core.Bool.{Bool, true, false}
-use mathlib.Core.List.{List, ◌∷◌}
+use mathlib.Core.List.{List, [], ◌∷◌}
+use mathlib.Core.Logic.{◌⊎◌, ⊎_elim}
 use native.Mathlib.Omega.{arith}
-use lib.ListN.{length, drop}
-use lib.Seq.{drop-nil}
+use native.Mathlib.Numerals.{add-one}
+use lib.ListN.{length, drop, length-drop}
+use lib.Seq.{drop-cons, drop-nil}
+use Rattle.std.proofs.lemmas.Option.{none-some, same_Some}
+use lib.Dec.{ltb}
+use borrow.Author.Tests.{ltb-true, ltb-false}
+use Rattle.std.specs.Prelude.{slice_get, Some, None}
 use Rattle.lbp16.specs.Answer.{accepted, refused}
-use Rattle.sserial.specs.Table.{Table, unreadable, fields, checked_at, stands_in, directed, table_at, with_field, with_entry}
+use Rattle.sserial.specs.Table.{Table, unreadable, fields, checked_at, stands_in, directed, table_from, table_at, with_field, with_entry, entry_of}
 use Rattle.sserial.specs.Calls.{front, indexed, shown, counted}
-use Rattle.sserial.specs.Inside.{entry_at, Readable, fields_in, fields_left}
+use Rattle.sserial.specs.Inside.{entry_at, met, met_from, fields_met}
 use Rattle.sserial.specs.declared.table.Field.{Field}
 use Rattle.sserial.specs.declared.table.Entry.{Entry}
 use Rattle.sserial.specs.declared.table.Entry.TheVariants.{End, Unreadable, Mode}
 use Rattle.sserial.specs.declared.table.Direction.{Direction}
-use Rattle.sserial.proofs.TableLaws.{readable, entry-lent}
-use Rattle.sserial.proofs.CountLaws.{table-next}
+use Rattle.sserial.proofs.TableLaws.{entry-cut, entry_read}
 use Rattle.sserial.proofs.CheckedLaws.{Laid, laid-checked, refused-checked}
 
-abbrev pub is_field : Entry → Bool
-is_field End = false
-is_field Unreadable = false
-is_field Mode = false
-is_field (Entry.Field f) = true
+-- the fields from an entry on are that entry's and those after it
+pub fields-next : (m : List ℕ) (at : ℕ) → fields_met m at ≡ met (entry_at m at) (fields_met m (at + 2))
+unfolding fields_met met_from met
+fields-next m at = go (ltb (length m) (at + 2)) refl
+  where
+    short : (l : List ℕ) → length l ≤ 1 → met_from m l ≡ []
+    short [] h = refl
+    short (a ∷ []) h = refl
+    short (a ∷ b ∷ l) h = absurd (omega arith)
 
--- the fields of one direction, where the entry at hand is e
-module _ (d : Direction) (m : List ℕ) (at : ℕ) (e : Entry) (found : e ≡ entry_at m at) where
-  left_is : fields_left d m at ≡ directed d (fields_in (with_entry e (table_at m (at + 2))))
-  unfolding fields_left
-  left_is = rw (table-next m at, ← found) refl
+    go : (t : Bool) → ltb (length m) (at + 2) ≡ t → met_from m (drop at m) ≡ met (entry_at m at) (met_from m (drop (at + 2) m))
+    go true e =
+        let h : length m < at + 2 = ltb-true _ _ e in
+        let d = length-drop at m in
+        rw (entry-cut m at h) (short (drop at m) (omega arith))
+    go false e =
+        let h : at + 2 ≤ length m = ltb-false _ _ e in
+        let s : suc (suc at) ≡ at + 2 = omega arith in
+        let a : at < length m = omega arith in
+        let b : suc at < length m = omega arith in
+        rw (drop-cons m at 0 a, drop-cons m (suc at) 0 b, s, entry_read m at h) (rw add-one refl)
 
-  module _ (some : 0 < length (fields_left d m at)) where
-    met : 0 < length (directed d (fields_in (with_entry e (table_at m (at + 2)))))
-    met = rw (← left_is) some
+-- the fields, where the entry at hand is e
+module _ (m : List ℕ) (at : ℕ) (e : Entry) (found : e ≡ entry_at m at) where
+  here : fields_met m at ≡ met e (fields_met m (at + 2))
+  here = fields-next m at ∙ rw (← found) refl
 
-    pub left-lent : at + 2 ≤ length m
-    unfolding directed fields_in with_entry
-    left-lent = entry-lent m at e found (go e met)
-      where
-        go : (e : Entry) → 0 < length (directed d (fields_in (with_entry e (table_at m (at + 2))))) → readable e ≡ true
-        go End h = absurd (omega arith)
-        go Unreadable h = absurd (omega arith)
-        go Mode h = refl
-        go (Entry.Field f) h = refl
+  pub met_none : (e ≡ End) ⊎ (e ≡ Unreadable) → fields_met m at ≡ []
+  unfolding met
+  met_none k = here ∙ ⊎_elim (λ q. rw q refl) (λ q. rw q refl) k
 
-    pub left-taken : (f : Field) → e ≡ Entry.Field f → stands_in d f ≡ true → fields_left d m at ≡ f ∷ fields_left d m (at + 2)
-    unfolding directed fields_in with_entry with_field fields_left
-    left-taken f k s = left_is ∙ (rw k (go (table_at m (at + 2)) (rw k at met)))
-      where
-        go : (t : Table) → 0 < length (directed d (fields_in (with_field f t)))
-            → directed d (fields_in (with_field f t)) ≡ f ∷ directed d (fields_in t)
-        go unreadable h = absurd (omega arith)
-        go (fields fs) h = rw s refl
+  pub met_mode : e ≡ Mode → fields_met m at ≡ fields_met m (at + 2)
+  unfolding met
+  met_mode k = here ∙ rw k refl
 
-    pub left_passed : (f : Field) → e ≡ Entry.Field f → stands_in d f ≡ false → fields_left d m at ≡ fields_left d m (at + 2)
-    unfolding directed fields_in with_entry with_field fields_left
-    left_passed f k s = left_is ∙ (rw k (go (table_at m (at + 2))))
-      where
-        go : (t : Table) → directed d (fields_in (with_field f t)) ≡ directed d (fields_in t)
-        go unreadable = refl
-        go (fields fs) = rw s refl
+  pub met_field : (f : Field) → e ≡ Entry.Field f → fields_met m at ≡ f ∷ fields_met m (at + 2)
+  unfolding met
+  met_field f k = here ∙ rw k refl
 
-    pub left_other : is_field e ≡ false → fields_left d m at ≡ fields_left d m (at + 2)
-    unfolding directed fields_in with_entry fields_left
-    left_other k = left_is ∙ go e k met
-      where
-        go : (e : Entry) → is_field e ≡ false → 0 < length (directed d (fields_in (with_entry e (table_at m (at + 2)))))
-            → directed d (fields_in (with_entry e (table_at m (at + 2)))) ≡ directed d (fields_in (table_at m (at + 2)))
-        go End k h = absurd (omega arith)
-        go Unreadable k h = absurd (omega arith)
-        go Mode k h = refl
-        go (Entry.Field f) k h = let z : ◌≡◌ {A = ℕ} 0 1 = cc in absurd (omega arith)
+-- of one direction, the first of the fields ahead
+pub directed-taken : (d : Direction) (f : Field) (fs gs : List Field) → gs ≡ f ∷ fs → stands_in d f ≡ true → directed d gs ≡ f ∷ directed d fs
+unfolding directed
+directed-taken d f fs gs e s = rw (e, s) refl
 
--- the search for a field by its index, with the entries before `at` passed
-pub record Finding (m : List ℕ) (table index at left : ℕ) : Type 0 where
-  pub whole : Readable (table_at m at)
-  pub same : front (drop left (fields_in (table_at m at))) ≡ front (drop index (fields_in (table_at m table)))
+pub directed_passed : (d : Direction) (f : Field) (fs gs : List Field) → gs ≡ f ∷ fs → stands_in d f ≡ false → directed d gs ≡ directed d fs
+unfolding directed
+directed_passed d f fs gs e s = rw (e, s) refl
 
+pub directed-none : (d : Direction) (gs : List Field) → gs ≡ [] → directed d gs ≡ []
+unfolding directed
+directed-none d gs e = rw e refl
+
+-- all fields of a table that is readable
 no_fields : (fs : List Field) → unreadable ≡ fields fs → ⊥
 no_fields fs e = let z : ◌≡◌ {A = ℕ} 0 1 = cc in omega arith
 
-module _ {m : List ℕ} {table index at left : ℕ} (h : Finding m table index at left) (e : Entry) (found : e ≡ entry_at m at) where
-  here : table_at m at ≡ with_entry e (table_at m (at + 2))
-  here = rw (table-next m at, ← found) refl
+met-all : (m bs : List ℕ) (fs : List Field) → table_from m bs ≡ fields fs → met_from m bs ≡ fs
+unfolding table_from met_from with_entry with_field met
+met-all m [] fs e = absurd (no_fields fs e)
+met-all m (a ∷ []) fs e = absurd (no_fields fs e)
+met-all m (a ∷ b ∷ rest) fs e = go (entry_of m (a + 256 * b)) (table_from m rest) (λ gs d. met-all m rest gs d) e
+  where
+    go : (n : Entry) (t : Table) → ((gs : List Field) → t ≡ fields gs → met_from m rest ≡ gs) → with_entry n t ≡ fields fs → met n (met_from m rest) ≡ fs
+    go End t d k = cc
+    go Unreadable t d k = absurd (no_fields fs k)
+    go Mode t d k = d fs k
+    go (Entry.Field f) unreadable d k = absurd (no_fields fs k)
+    go (Entry.Field f) (fields gs) d k = let r = d gs refl in cc
 
-  whole_here : Readable (with_entry e (table_at m (at + 2)))
-  whole_here = rw here at h.whole
+pub laid-met : (m : List ℕ) (at : ℕ) (l : Laid (table_at m at)) → fields_met m at ≡ l.fs
+unfolding fields_met table_at
+laid-met m at l = met-all m (drop at m) l.fs l.here
 
-  same_here : front (drop left (fields_in (with_entry e (table_at m (at + 2))))) ≡ front (drop index (fields_in (table_at m table)))
-  same_here = rw here at h.same
+-- the field of an index, and none
+pub front_some : (fs : List Field) (index : ℕ) (f : Field) → slice_get fs index ≡ Some f → accepted (shown f) ≡ front (drop index fs)
+unfolding front
+front_some [] index f e = absurd (none-some _ e)
+front_some (x ∷ fs) zero f e = let k = same_Some _ _ e in rw k refl
+front_some (x ∷ fs) (suc index) f e = front_some fs index f e
 
-  pub find_end : e ≡ End → refused 40 0 ≡ front (drop index (fields_in (table_at m table)))
-  unfolding with_entry fields_in front
-  find_end k = (rw drop-nil refl) ∙ (rw k at same_here)
-
-  pub find_cut : e ≡ Unreadable → ⊥
-  unfolding with_entry
-  find_cut k = no_fields _ (rw k at whole_here)
-
-  pub find_mode : e ≡ Mode → (left' : ℕ) → left' ≡ left → Finding m table index (at + 2) left'
-  unfolding with_entry
-  find_mode k left' q = rw q (record { whole = rw k at whole_here; same = rw k at same_here })
-
-  module _ (f : Field) (k : e ≡ Entry.Field f) where
-    pub find_here : left ≡ 0 → accepted (shown f) ≡ front (drop index (fields_in (table_at m table)))
-    unfolding with_entry with_field fields_in front
-    find_here z = go (table_at m (at + 2)) (rw k at whole_here) (rw (k, z) at same_here)
-      where
-        go : (t : Table) → Readable (with_field f t) → front (fields_in (with_field f t)) ≡ front (drop index (fields_in (table_at m table)))
-            → accepted (shown f) ≡ front (drop index (fields_in (table_at m table)))
-        go unreadable r s = absurd (no_fields _ r)
-        go (fields fs) r s = s
-
-    pub find_more : (left ≡ 0 → ⊥) → (left' : ℕ) → left' ≡ left - 1 → Finding m table index (at + 2) left'
-    unfolding with_entry with_field fields_in
-    find_more n left' q =
-        record { whole = go (table_at m (at + 2)) (rw k at whole_here); same = skip (table_at m (at + 2)) (rw k at whole_here) (rw k at same_here) }
-      where
-        go : (t : Table) → Readable (with_field f t) → Readable t
-        go unreadable r = absurd (no_fields _ r)
-        go (fields fs) r = refl
-
-        skip : (t : Table) → Readable (with_field f t)
-            → front (drop left (fields_in (with_field f t))) ≡ front (drop index (fields_in (table_at m table)))
-            → front (drop left' (fields_in t)) ≡ front (drop index (fields_in (table_at m table)))
-        skip unreadable r s = absurd (no_fields _ r)
-        skip (fields fs) r s = let b : left ≡ suc left' = omega arith in rw b at s
+pub front_none : (fs : List Field) (index : ℕ) → slice_get fs index ≡ None → refused 40 0 ≡ front (drop index fs)
+unfolding front
+front_none [] index e = rw drop-nil refl
+front_none (x ∷ fs) zero e = absurd (none-some _ (sym e))
+front_none (x ∷ fs) (suc index) e = front_none fs index e
 
 -- the answer by the table's check
 module _ (m : List ℕ) (table index : ℕ) where
@@ -135,7 +117,6 @@ module _ (m : List ℕ) (table index : ℕ) where
       let r = refused-checked (checked_at m table) n p e in
       rw (r.0, r.1) refl
 
-  pub field_found : Laid (table_at m table)
-      → Readable (table_at m table) × (front (drop index (fields_in (table_at m table))) ≡ indexed (checked_at m table) index)
-  unfolding indexed checked_at fields_in
-  field_found l = (rw l.here refl, rw (laid-checked (table_at m table) l, l.here) refl)
+  pub field_found : Laid (table_at m table) → front (drop index (fields_met m table)) ≡ indexed (checked_at m table) index
+  unfolding indexed checked_at
+  field_found l = rw (laid-met m table l, laid-checked (table_at m table) l) refl

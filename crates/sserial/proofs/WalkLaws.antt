@@ -1,7 +1,7 @@
 -- The fields of one direction one after the other: `fs` are those still to come, `fs₀` all of them.
 use Prim.Native.Nat.{ℕ, suc, ◌+◌, ◌*◌, ◌/◌, ◌%◌, ◌^◌, ◌≤◌, ◌<◌}
 use mathlib.Core.Path.{◌≡◌, refl, sym, ap, ap₂, ◌∙◌}
-use mathlib.Core.Bool.{Bool, true, ◌&&◌, and-true, and_assoc}
+use mathlib.Core.Bool.{true, false}
 use mathlib.Core.List.{List, [], ◌∷◌, ◌++◌, append-nil, append_assoc}
 use native.Mathlib.Omega.{arith}
 use native.Mathlib.Nat.{mul_comm, mul_assoc, mul-add, mul-zero}
@@ -28,7 +28,7 @@ unfolding bits
 next_fits low e h = let d = rw e at h in omega arith
 
 -- packing: j values are laid into the words below bit `low`
-pub record Packing (fs₀ : List Field) (vs : List ℕ) (fs : List Field) (words : List ℕ) (good : Bool) (low j : ℕ) : Type 0 where
+pub record Packing (fs₀ : List Field) (vs : List ℕ) (fs : List Field) (words : List ℕ) (low j : ℕ) : Type 0 where
   pub count : j + length fs ≡ length vs
   pub wide : AllWide fs
   pub end : low + bits fs ≤ 96
@@ -36,17 +36,17 @@ pub record Packing (fs₀ : List Field) (vs : List ℕ) (fs : List Field) (words
   pub each : Each (2 ^ 32) words
   pub three : length words ≡ 3
   pub sum : joined words + 2 ^ low * packed fs (drop j vs) ≡ packed fs₀ vs
-  pub fits : (good && fitting fs (drop j vs)) ≡ fitting fs₀ vs
+  pub fits : fitting fs (drop j vs) ≡ fitting fs₀ vs
 
-pub packing_first : (fs : List Field) (vs : List ℕ) → length fs ≡ length vs → AllWide fs → 0 + bits fs ≤ 96
-    → Packing fs vs fs (0 ∷ 0 ∷ 0 ∷ []) true 0 0
+pub packing_first : (fs : List Field) (vs : List ℕ) → length fs ≡ length vs → AllWide fs → bits fs ≤ 96
+    → Packing fs vs fs (0 ∷ 0 ∷ 0 ∷ []) 0 0
 unfolding joined
 packing_first fs vs n w b =
     let z : 0 < 2 ^ 32 = omega arith in
     record {
       count = omega arith;
       wide = w;
-      end = b;
+      end = omega arith;
       free = omega arith;
       each = Each.more z (Each.more z (Each.more z Each.none));
       three = refl;
@@ -54,9 +54,9 @@ packing_first fs vs n w b =
       fits = refl;
     }
 
-module _ {fs₀ fs : List Field} {vs words : List ℕ} {good : Bool} {low j : ℕ} (h : Packing fs₀ vs fs words good low j) where
-  pub packing_some : j < length vs → 0 < length fs
-  packing_some l = let c = h.count in omega arith
+module _ {fs₀ fs : List Field} {vs words : List ℕ} {low j : ℕ} (h : Packing fs₀ vs fs words low j) where
+  pub packing_some : j < length vs → fs ≡ [] → ⊥
+  packing_some l e = let c = h.count in let z : length fs ≡ 0 = rw e refl in omega arith
 
   module _ (f : Field) (gs : List Field) (e : fs ≡ f ∷ gs) where
     pub packing_wide : Wide f
@@ -65,11 +65,11 @@ module _ {fs₀ fs : List Field} {vs words : List ℕ} {good : Bool} {low j : �
     pub packing_room : low + f.width ≤ 96
     packing_room = let d = next_fits low e h.end in omega arith
 
-    pub packing_more : j < length vs → (b : ℕ) (t : Bool) (more : List ℕ) → b ≡ bits_of f (get_or vs j 0) → t ≡ in_range f (get_or vs j 0)
+    pub packing_more : j < length vs → (b : ℕ) (more : List ℕ) → b ≡ bits_of f (get_or vs j 0) → in_range f (get_or vs j 0) ≡ true
         → joined more ≡ joined words + b * 2 ^ low → Each (2 ^ 32) more → length more ≡ 3
-        → Packing fs₀ vs gs more (good && t) (low + f.width) (j + 1)
+        → Packing fs₀ vs gs more (low + f.width) (j + 1)
     unfolding packed fitting
-    packing_more l b t more q r s i n =
+    packing_more l b more q r s i n =
         let d : drop j vs ≡ get_or vs j 0 ∷ drop (suc j) vs = drop-cons vs j 0 l in
         let c = h.count in
         let k : length fs ≡ suc (length gs) = rw e refl in
@@ -84,7 +84,7 @@ module _ {fs₀ fs : List Field} {vs words : List ℕ} {good : Bool} {low j : �
           each = i;
           three = n;
           sum = rw (add-one j, s) (omega arith);
-          fits = rw (add-one j, r) (and_assoc good (in_range f (get_or vs j 0)) (fitting gs (drop (suc j) vs)) ∙ (rw (e, d) at h.fits));
+          fits = rw (add-one j) (rw (e, d, r) at h.fits);
         }
       where
         spread : (b p : ℕ) → 2 ^ low * (b + 2 ^ f.width * p) ≡ b * 2 ^ low + 2 ^ (low + f.width) * p
@@ -95,7 +95,13 @@ module _ {fs₀ fs : List Field} {vs words : List ℕ} {good : Bool} {low j : �
             (mul_comm (2 ^ low) b)
             (sym (mul_assoc (2 ^ low) (2 ^ f.width) p) ∙ ap (λ (x : ℕ). x * p) (sym (pow-add 2 low f.width)))
 
-  pub packing_done : length vs ≤ j → (good ≡ fitting fs₀ vs) × (words ≡ words_of 3 (packed fs₀ vs))
+    pub packing_bad : j < length vs → in_range f (get_or vs j 0) ≡ false → fitting fs₀ vs ≡ false
+    unfolding fitting
+    packing_bad l r =
+        let d : drop j vs ≡ get_or vs j 0 ∷ drop (suc j) vs = drop-cons vs j 0 l in
+        sym (rw (e, d, r) at h.fits)
+
+  pub packing_done : length vs ≤ j → (fitting fs₀ vs ≡ true) × (words ≡ words_of 3 (packed fs₀ vs))
   unfolding packed fitting
   packing_done l =
       let c = h.count in
@@ -104,7 +110,7 @@ module _ {fs₀ fs : List Field} {vs words : List ℕ} {good : Bool} {low j : �
       let d : drop j vs ≡ [] = rw k (drop-length vs) in
       let s : joined words + 2 ^ low * 0 ≡ packed fs₀ vs = rw e at h.sum in
       let p : joined words ≡ packed fs₀ vs = let z = mul-zero (2 ^ low) in omega arith in
-      (sym (and-true good) ∙ (rw (e, d) at h.fits), sym (rw (h.three, p) at (words-joined words h.each)))
+      (sym (rw (e, d) at h.fits), sym (rw (h.three, p) at (words-joined words h.each)))
 
 -- unpacking: j values of the number n are read, from the bits below `low`
 pub record Reading (fs₀ : List Field) (n : ℕ) (fs : List Field) (values : List ℕ) (low j : ℕ) : Type 0 where
@@ -113,15 +119,15 @@ pub record Reading (fs₀ : List Field) (n : ℕ) (fs : List Field) (values : Li
   pub end : low + bits fs ≤ 96
   pub same : take j values ++ unpacked fs (n / 2 ^ low) ≡ unpacked fs₀ n
 
-pub reading-first : (fs : List Field) (n : ℕ) (values : List ℕ) → length fs ≡ length values → AllWide fs → 0 + bits fs ≤ 96
+pub reading-first : (fs : List Field) (n : ℕ) (values : List ℕ) → length fs ≡ length values → AllWide fs → bits fs ≤ 96
     → Reading fs n fs values 0 0
 reading-first fs n values l w b =
     let z : n / 2 ^ 0 ≡ n = omega arith in
-    record { count = omega arith; wide = w; end = b; same = rw z refl }
+    record { count = omega arith; wide = w; end = omega arith; same = rw z refl }
 
 module _ {fs₀ fs : List Field} {n : ℕ} {values : List ℕ} {low j : ℕ} (h : Reading fs₀ n fs values low j) where
-  pub reading-some : j < length values → 0 < length fs
-  reading-some l = let c = h.count in omega arith
+  pub reading-some : j < length values → fs ≡ [] → ⊥
+  reading-some l e = let c = h.count in let z : length fs ≡ 0 = rw e refl in omega arith
 
   module _ (f : Field) (gs : List Field) (e : fs ≡ f ∷ gs) where
     pub reading-wide : Wide f

@@ -1,24 +1,23 @@
 -- What a call answers and leaves. The registers are three words for each of eight channels, one channel after the other.
-use Rattle.std.specs.Prelude.{ℕ, ◌*◌, List, [], ◌∷◌, Bool, not, ◌||◌, cond, length, take, drop, eqb, ltb}
+use Rattle.std.specs.Prelude.{ℕ, ◌*◌, List, [], ◌∷◌, Bool, not, ◌||◌, cond, length, take, drop, eqb, ltb, Result, Ok, Err}
 use Rattle.std.proofs.lemmas.List.Edits.{sets}
 use Rattle.lbp16.specs.Answer.{Answer, accepted, refusal}
+use Rattle.lbp16.specs.declared.Refusal.{Refusal}
 use Rattle.sserial.specs.Table.{Checked, refused, laid, directed}
 use Rattle.sserial.specs.Layout.{joined, words_of, packed, unpacked, fitting}
 use Rattle.sserial.specs.declared.table.Field.{Field}
 use Rattle.sserial.specs.declared.table.Direction.{Direction}
 use Rattle.sserial.specs.declared.table.Direction.TheVariants.{Inputs, Outputs}
-use Rattle.sserial.specs.declared.count.TableAnswer.{TableAnswer}
-use Rattle.sserial.specs.declared.field.FieldAnswer.{FieldAnswer}
-use Rattle.sserial.specs.declared.call.CallAnswer.{CallAnswer}
+use Rattle.sserial.specs.declared.count.FieldCounts.{FieldCounts}
 
 -- how many fields each way
 unfoldable pub counted : Checked → Answer
 counted (refused n) = Answer.refused n 0
 counted (laid fs) = accepted (length (directed Inputs fs) ∷ length (directed Outputs fs) ∷ [])
 
-unfoldable pub table_listed : TableAnswer → Answer
-table_listed (TableAnswer.Fields inputs outputs) = accepted (inputs ∷ outputs ∷ [])
-table_listed (TableAnswer.Refused r) = refusal r
+unfoldable pub table_listed : Result FieldCounts Refusal → Answer
+table_listed (Ok counts) = accepted (counts.inputs ∷ counts.outputs ∷ [])
+table_listed (Err r) = refusal r
 
 -- the index-th field, modes not counted; 40 for an index past the last
 unfoldable pub shown : Field → List ℕ
@@ -33,9 +32,9 @@ unfoldable pub indexed : Checked → ℕ → Answer
 indexed (refused n) index = Answer.refused n 0
 indexed (laid fs) index = front (drop index fs)
 
-unfoldable pub field_listed : FieldAnswer → Answer
-field_listed (FieldAnswer.Field f) = accepted (shown f)
-field_listed (FieldAnswer.Refused r) = refusal r
+unfoldable pub field_listed : Result Field Refusal → Answer
+field_listed (Ok f) = accepted (shown f)
+field_listed (Err r) = refusal r
 
 -- 40 of either call: a channel above 7, or registers that are not 24 words
 unfoldable pub no_channel : ℕ → List ℕ → Bool
@@ -71,10 +70,10 @@ unpacked_by fs channel registers values =
 unfoldable pub unpacked_to : Checked → Direction → ℕ → List ℕ → List ℕ → Outcome
 unpacked_to k d channel registers values = called_on k d values (λ fs. unpacked_by fs channel registers values)
 
-unfoldable pub call_listed : CallAnswer → Answer
-call_listed CallAnswer.Done = accepted []
-call_listed (CallAnswer.Refused r) = refusal r
+unfoldable pub call_listed : Result Unit Refusal → Answer
+call_listed (Ok u) = accepted []
+call_listed (Err r) = refusal r
 
 -- what a call of the code answers and leaves
-abbrev pub called : CallAnswer → List ℕ → Outcome
+abbrev pub called : Result Unit Refusal → List ℕ → Outcome
 called a left = record { answer = call_listed a; left = left }

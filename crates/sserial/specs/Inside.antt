@@ -1,13 +1,15 @@
 -- The inside of private functions' contracts. Laws in proofs/ tie it to the definitions of Table.antt.
-use Rattle.std.specs.Prelude.{ℕ, zero, suc, ◌+◌, ◌≤◌, ◌<◌, ◌≡◌, List, [], ◌∷◌, ◌++◌, true, false, ◌||◌, cond, length, take, drop, eqb, ltb}
+use Rattle.std.specs.Prelude.{ℕ, zero, suc, ◌+◌, ◌*◌, ◌≤◌, ◌<◌, ◌≡◌, List, [], ◌∷◌, ◌++◌, true, false, ◌||◌, cond, length, take, drop, eqb, ltb}
 use Rattle.lbp16.specs.Answer.{Answer, accepted, refused}
-use Rattle.sserial.specs.Table.{Table, unreadable, fields, table_at, directed, stands_in}
+use Rattle.sserial.specs.Table.{Table, unreadable, fields, directed, stands_in}
 use Rattle.sserial.specs.Table.{bits, any_miswide, pair_at, entry_of, sound_field, sound_mode, field_of}
 use Rattle.sserial.specs.declared.table.Field.{Field}
 use Rattle.sserial.specs.declared.table.Entry.{Entry}
-use Rattle.sserial.specs.declared.table.Entry.TheVariants.{Unreadable, Mode}
+use Rattle.sserial.specs.declared.table.Entry.TheVariants.{End, Unreadable, Mode}
 use Rattle.sserial.specs.declared.table.Direction.{Direction}
 use Rattle.sserial.specs.declared.table.Direction.TheVariants.{Inputs, Outputs}
+use Rattle.sserial.specs.declared.field.Fields.{Fields}
+use Rattle.sserial.specs.declared.field.Directed.{Directed}
 use Rattle.sserial.specs.declared.count.Sum.{Sum}
 use Rattle.sserial.specs.declared.count.Sums.{Sums}
 
@@ -21,16 +23,26 @@ mode_record memory p = cond (sound_mode memory p) Mode Unreadable
 unfoldable pub entry_at : List ℕ → ℕ → Entry
 entry_at memory at = cond (ltb (length memory) (at + 2)) Unreadable (entry_of memory (pair_at memory at))
 
--- the fields of a table from an entry on, and those of one direction
-unfoldable pub fields_in : Table → List Field
-fields_in unreadable = []
-fields_in (fields fs) = fs
+-- the fields from an entry on, up to the table's end or to an entry that is unreadable, and those of one direction
+unfoldable pub met : Entry → List Field → List Field
+met End fs = []
+met Unreadable fs = []
+met Mode fs = fs
+met (Entry.Field f) fs = f ∷ fs
 
-abbrev pub Readable : Table → Type 0
-Readable t = t ≡ fields (fields_in t)
+unfoldable pub met_from : List ℕ → List ℕ → List Field
+met_from memory [] = []
+met_from memory (a ∷ []) = []
+met_from memory (a ∷ b ∷ rest) = met (entry_of memory (a + 256 * b)) (met_from memory rest)
 
-unfoldable pub fields_left : Direction → List ℕ → ℕ → List Field
-fields_left d memory at = directed d (fields_in (table_at memory at))
+unfoldable pub fields_met : List ℕ → ℕ → List Field
+fields_met memory at = met_from memory (drop at memory)
+
+abbrev pub fields_ahead : Fields → List Field
+fields_ahead s = fields_met s.memory.now s.at
+
+abbrev pub directed_ahead : Directed → List Field
+directed_ahead s = directed s.direction (fields_ahead s.fields)
 
 -- The fields counted so far each way, and their bits, while these stay within 96.
 pub record Small (s : Sum) : Type 0 where
@@ -90,11 +102,11 @@ pub data AllWide : List Field → Type 0 where
   none : AllWide []
   more : {f : Field} {fs : List Field} → Wide f → AllWide fs → AllWide (f ∷ fs)
 
--- the fields of one direction, from the entry at a place on: n of them, from bit `low` on
-pub record Packable (d : Direction) (memory : List ℕ) (at low n : ℕ) : Type 0 where
-  pub count : length (fields_left d memory at) ≡ n
-  pub wide : AllWide (fields_left d memory at)
-  pub fits : low + bits (fields_left d memory at) ≤ 96
+-- n fields of one direction
+pub record Packable (fs : List Field) (n : ℕ) : Type 0 where
+  pub count : length fs ≡ n
+  pub wide : AllWide fs
+  pub fits : bits fs ≤ 96
 
 abbrev pub chosen : Direction → ℕ → ℕ → ℕ
 chosen Inputs i o = i

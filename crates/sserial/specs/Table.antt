@@ -1,4 +1,5 @@
 -- A card's process table, read from the card's memory. Document 000's descriptor section decides the layout.
+use Rattle.std.specs.List.{position_or_len}
 use Rattle.std.specs.Prelude.{ℕ, ◌+◌, ◌*◌, List, [], ◌∷◌, Bool, false, ◌||◌, ◌&&◌, cond, length, drop, get_or, eqb, ltb}
 use Rattle.sserial.specs.declared.table.Field.{Field}
 use Rattle.sserial.specs.declared.table.Entry.{Entry}
@@ -17,9 +18,8 @@ abbrev pub quad_at : List ℕ → ℕ → ℕ
 quad_at memory at = pair_at memory at + 65536 * pair_at memory (at + 2)
 
 -- the bytes before the first NUL
-unfoldable pub text_bytes : List ℕ → ℕ
-text_bytes [] = 0
-text_bytes (b ∷ bs) = cond (eqb b 0) 0 (1 + text_bytes bs)
+abbrev pub text_bytes : List ℕ → ℕ
+text_bytes bs = position_or_len (λ b. eqb b 0) bs
 
 -- the place of the NUL that ends the string at a place; it stands past the memory's end where it is not lent
 unfoldable pub nul_of : List ℕ → ℕ → ℕ

@@ -1,30 +1,14 @@
 // One direction of one channel, packed and unpacked. The registers lent are three words for each of eight channels.
 ghost use Rattle.std.specs.Prelude.{◌≡◌};
-ghost use Rattle.lbp16.specs.Answer.{refused};
 ghost use Rattle.sserial.specs.Table.{checked_at};
-ghost use Rattle.sserial.specs.Calls.{no_channel, packed_by, packed_to, unpacked_by, unpacked_to, call_listed, called};
-ghost use Rattle.sserial.specs.Inside.{Packable, fields_left, chosen};
+ghost use Rattle.sserial.specs.Calls.{no_channel, packed_by, packed_to, unpacked_by, unpacked_to, called};
+ghost use Rattle.sserial.specs.Inside.{Packable, directed_ahead, chosen};
 
-use crate::count::TableAnswer;
+use crate::count::FieldCounts;
+use crate::field::Directed;
 use crate::table::Direction;
 use crate::{channels, count, pack};
-use lbp16::Refusal;
-
-// The answer of packing and of unpacking.
-#[derive(Clone, Copy)]
-pub enum CallAnswer {
-    Done,
-    Refused(Refusal),
-}
-
-fn bad_call() -> CallAnswer
-    ensures { call_listed result ≡ refused 40 0 }
-{
-    CallAnswer::Refused(Refusal {
-        number: 40,
-        place: 0,
-    })
-}
+use lbp16::{Refusal, Rule};
 
 fn no_channel(channel: u32, registers: &[u32]) -> bool
     ensures { result ≡ no_channel channel registers.now }
@@ -32,69 +16,55 @@ fn no_channel(channel: u32, registers: &[u32]) -> bool
     (7 < channel) | (registers.len() != 24)
 }
 
-fn fields_of(d: Direction, inputs: usize, outputs: usize) -> usize
-    ensures { result ≡ chosen d inputs outputs }
+fn counted_in(d: Direction, counts: FieldCounts) -> usize
+    ensures { result ≡ chosen d counts.inputs counts.outputs }
 {
     match d {
-        Direction::Inputs => inputs,
-        Direction::Outputs => outputs,
+        Direction::Inputs => counts.inputs,
+        Direction::Outputs => counts.outputs,
     }
 }
 
 fn pack_fields(
-    memory: &[u8],
-    table: u16,
-    d: Direction,
+    fields: Directed,
     n: usize,
     channel: u32,
     values: &[u64],
     registers: &mut [u32],
-) -> CallAnswer
-    requires { Packable d memory.now table 0 n }
+) -> Result<(), Refusal>
+    requires { Packable (directed_ahead fields) n }
     ensures { called result registers.new
-        ≡ packed_by (fields_left d memory.now table) channel values.now registers.old }
+        ≡ packed_by (directed_ahead fields.entry) channel values.now registers.old }
 {
-    if no_channel(channel, registers) {
-        return bad_call();
+    if no_channel(channel, registers) || values.len() != n {
+        return Err(Rule::BadCall.at(0));
     }
-    if values.len() != n {
-        return bad_call();
-    }
-    let packed = pack::pack_values(memory, table, d, values);
-    if !packed.good {
-        return bad_call();
-    }
-    let words = packed.words;
+    let Some(words) = pack::pack_values(fields, values) else {
+        return Err(Rule::BadCall.at(0));
+    };
     let all = channels::channels_of(registers);
     let next = channels::with_channel(all, channel as usize, words);
     channels::put_channels(next, registers);
-    CallAnswer::Done
+    Ok(())
 }
 
 fn unpack_fields(
-    memory: &[u8],
-    table: u16,
-    d: Direction,
+    fields: Directed,
     n: usize,
     channel: u32,
     registers: &[u32],
     values: &mut [u64],
-) -> CallAnswer
-    requires { Packable d memory.now table 0 n }
+) -> Result<(), Refusal>
+    requires { Packable (directed_ahead fields) n }
     ensures { called result values.new
-        ≡ unpacked_by (fields_left d memory.now table) channel registers.now values.old }
+        ≡ unpacked_by (directed_ahead fields.entry) channel registers.now values.old }
 {
-    if no_channel(channel, registers) {
-        return bad_call();
-    }
-    if values.len() != n {
-        return bad_call();
+    if no_channel(channel, registers) || values.len() != n {
+        return Err(Rule::BadCall.at(0));
     }
     let all = channels::channels_of(registers);
-    let k = channel as usize;
-    let words = all[k];
-    pack::read(memory, table, d, words, values);
-    CallAnswer::Done
+    pack::read(fields, all[channel as usize], values);
+    Ok(())
 }
 
 // Packs one value for each field of the direction into the channel's registers; the other channels stay.
@@ -105,18 +75,13 @@ pub fn pack(
     channel: u32,
     values: &[u64],
     registers: &mut [u32],
-) -> CallAnswer
+) -> Result<(), Refusal>
     ensures { called result registers.new
         ≡ packed_to (checked_at memory.now table) d channel values.now registers.old }
 {
-    let answer = count::count_fields(memory, table);
-    match answer {
-        TableAnswer::Refused(r) => CallAnswer::Refused(r),
-        TableAnswer::Fields { inputs, outputs } => {
-            let n = fields_of(d, inputs, outputs);
-            pack_fields(memory, table, d, n, channel, values, registers)
-        }
-    }
+    let counts = count::count_fields(memory, table)?;
+    let fields = Directed::new(memory, table, d);
+    pack_fields(fields, counted_in(d, counts), channel, values, registers)
 }
 
 // Unpacks the value of each field of the direction from the channel's registers.
@@ -127,16 +92,11 @@ pub fn unpack(
     channel: u32,
     registers: &[u32],
     values: &mut [u64],
-) -> CallAnswer
+) -> Result<(), Refusal>
     ensures { called result values.new
         ≡ unpacked_to (checked_at memory.now table) d channel registers.now values.old }
 {
-    let answer = count::count_fields(memory, table);
-    match answer {
-        TableAnswer::Refused(r) => CallAnswer::Refused(r),
-        TableAnswer::Fields { inputs, outputs } => {
-            let n = fields_of(d, inputs, outputs);
-            unpack_fields(memory, table, d, n, channel, registers, values)
-        }
-    }
+    let counts = count::count_fields(memory, table)?;
+    let fields = Directed::new(memory, table, d);
+    unpack_fields(fields, counted_in(d, counts), channel, registers, values)
 }

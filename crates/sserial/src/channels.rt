@@ -50,10 +50,7 @@ pub(crate) fn put_channels(all: [[u32; 3]; 8], words: &mut [u32])
     requires { length words.old ≡ 24 }
     ensures { words.new ≡ flat all }
 {
-    let mut i: usize = 0;
-    while i < 8 {
-        let row = all[i];
+    for (i, &row) in all.iter().enumerate() {
         put_row(words, i, row);
-        i += 1;
     }
 }

@@ -6,7 +6,7 @@ ghost use Rattle.sserial.specs.Inside.{Small, Within, sum_with, sums_with, sums_
 
 use crate::table;
 use crate::table::{Direction, Entry, Field};
-use lbp16::Refusal;
+use lbp16::{Refusal, Rule};
 
 // How many fields stand in a direction, and how many bits they take.
 #[derive(Clone, Copy)]
@@ -23,11 +23,11 @@ pub struct Sums {
     pub over: bool,
 }
 
-// How many fields each way, or why the table was refused.
-#[derive(Clone, Copy)]
-pub enum TableAnswer {
-    Fields { inputs: usize, outputs: usize },
-    Refused(Refusal),
+// How many fields a table has each way.
+#[derive(Clone, Copy, Debug, PartialEq, Eq)]
+pub struct FieldCounts {
+    pub inputs: usize,
+    pub outputs: usize,
 }
 
 fn sum_with(s: Sum, f: Field, d: Direction) -> Sum
@@ -69,23 +69,20 @@ fn sums_with(s: Sums, f: Field) -> Sums
     }
 }
 
-fn answered(s: Sums) -> TableAnswer
+fn answered(s: Sums) -> Result<FieldCounts, Refusal>
     ensures { table_listed result ≡ sums_answer s }
 {
     if s.over {
-        return TableAnswer::Refused(Refusal {
-            number: 42,
-            place: 0,
-        });
+        return Err(Rule::FieldWidth.at(0));
     }
-    TableAnswer::Fields {
+    Ok(FieldCounts {
         inputs: s.inputs.fields,
         outputs: s.outputs.fields,
-    }
+    })
 }
 
 // How many fields the table at this address has each way. 41 holds anywhere in the table before 42 does.
-pub fn count_fields(memory: &[u8], table: u16) -> TableAnswer
+pub fn count_fields(memory: &[u8], table: u16) -> Result<FieldCounts, Refusal>
     ensures { table_listed result ≡ counted (checked_at memory.now table) }
 {
     let mut at = table as usize;
@@ -99,10 +96,7 @@ pub fn count_fields(memory: &[u8], table: u16) -> TableAnswer
         match entry {
             Entry::End => return answered(s),
             Entry::Unreadable => {
-                return TableAnswer::Refused(Refusal {
-                    number: 41,
-                    place: 0,
-                });
+                return Err(Rule::BadTable.at(0));
             }
             Entry::Mode => {}
             Entry::Field(f) => s = sums_with(s, f),

@@ -1,96 +1,107 @@
 // A table's fields one by one.
-ghost use Rattle.std.specs.Prelude.{◌≡◌, ◌∷◌, ◌<◌, length, drop};
-ghost use Rattle.lbp16.specs.Answer.{refused};
-ghost use Rattle.sserial.specs.Table.{checked_at, table_at};
-ghost use Rattle.sserial.specs.Calls.{indexed, front, field_listed};
-ghost use Rattle.sserial.specs.Inside.{Readable, fields_in, fields_left};
+ghost use Rattle.std.specs.Prelude.{◌≡◌, slice_get};
+ghost use Rattle.sserial.specs.Table.{checked_at, directed};
+ghost use Rattle.sserial.specs.Calls.{indexed, field_listed};
+ghost use Rattle.sserial.specs.Inside.{fields_met, fields_ahead, directed_ahead};
 
-use crate::count::TableAnswer;
 use crate::table::{Direction, Entry, Field};
 use crate::{count, table};
-use lbp16::Refusal;
+use lbp16::{Refusal, Rule};
 
+// The fields from an entry on, up to the table's end or to an entry that is unreadable.
 #[derive(Clone, Copy)]
-pub enum FieldAnswer {
-    Field(Field),
-    Refused(Refusal),
-}
-
-// A field, and the place of the entry after its own.
-#[derive(Clone, Copy)]
-pub(crate) struct Next {
-    pub field: Field,
+pub(crate) struct Fields<'a> {
+    pub memory: &'a [u8],
     pub at: usize,
 }
 
-fn past_last() -> FieldAnswer
-    ensures { field_listed result ≡ refused 40 0 }
-{
-    FieldAnswer::Refused(Refusal {
-        number: 40,
-        place: 0,
-    })
+impl<'a> Fields<'a> {
+    fn new(memory: &'a [u8], table: u16) -> Self
+        ensures { fields_ahead result ≡ fields_met memory.now table }
+    {
+        Fields {
+            memory,
+            at: table as usize,
+        }
+    }
 }
 
-fn find(memory: &[u8], table: u16, index: u64) -> FieldAnswer
-    requires { Readable (table_at memory.now table) }
-    ensures { field_listed result ≡ front (drop index (fields_in (table_at memory.now table))) }
-{
-    let mut at = table as usize;
-    let mut left = index;
-    loop {
-        let entry = table::entry_at(memory, at);
-        match entry {
-            Entry::End => return past_last(),
-            Entry::Unreadable => return past_last(),
-            Entry::Mode => {}
-            Entry::Field(f) => {
-                if left == 0 {
-                    return FieldAnswer::Field(f);
+impl<'a> Iterator for Fields<'a> {
+    ghost use Rattle.std.specs.Iterator.{YieldsFirst, item_count};
+    ghost use Rattle.sserial.specs.Inside.{fields_ahead};
+
+    type Item = Field;
+
+    ghost next_gives = { YieldsFirst fields_ahead };
+
+    ghost remaining = { item_count fields_ahead };
+
+    fn next(&mut self) -> Option<Field> {
+        loop {
+            let entry = table::entry_at(self.memory, self.at);
+            match entry {
+                Entry::End | Entry::Unreadable => return None,
+                Entry::Mode => self.at += 2,
+                Entry::Field(f) => {
+                    self.at += 2;
+                    return Some(f);
                 }
-                left -= 1;
             }
         }
-        at += 2;
     }
+}
+
+// Those of one direction.
+#[derive(Clone, Copy)]
+pub(crate) struct Directed<'a> {
+    pub fields: Fields<'a>,
+    pub direction: Direction,
+}
+
+impl<'a> Directed<'a> {
+    pub(crate) fn new(memory: &'a [u8], table: u16, direction: Direction) -> Self
+        ensures { directed_ahead result ≡ directed direction (fields_met memory.now table) }
+    {
+        Directed {
+            fields: Fields::new(memory, table),
+            direction,
+        }
+    }
+}
+
+impl<'a> Iterator for Directed<'a> {
+    ghost use Rattle.std.specs.Iterator.{YieldsFirst, item_count};
+    ghost use Rattle.sserial.specs.Inside.{directed_ahead};
+
+    type Item = Field;
+
+    ghost next_gives = { YieldsFirst directed_ahead };
+
+    ghost remaining = { item_count directed_ahead };
+
+    fn next(&mut self) -> Option<Field> {
+        while let Some(f) = self.fields.next() {
+            if table::stands_in(f, self.direction) {
+                return Some(f);
+            }
+        }
+        None
+    }
+}
+
+fn nth(memory: &[u8], table: u16, index: u64) -> Option<Field>
+    ensures { result ≡ slice_get (fields_met memory.now table) index }
+{
+    Fields::new(memory, table).nth(index as usize)
 }
 
 // The index-th field of the table at this address, modes not counted. 40 for an index past the last.
-pub fn field(memory: &[u8], table: u16, index: u64) -> FieldAnswer
+pub fn field(memory: &[u8], table: u16, index: u64) -> Result<Field, Refusal>
     ensures { field_listed result ≡ indexed (checked_at memory.now table) index }
 {
-    let answer = count::count_fields(memory, table);
-    match answer {
-        TableAnswer::Refused(r) => FieldAnswer::Refused(r),
-        TableAnswer::Fields {
-            inputs: _,
-            outputs: _,
-        } => find(memory, table, index),
-    }
-}
-
-// The next field of one direction, from the entry at `at` on.
-pub(crate) fn next_field(memory: &[u8], at: usize, d: Direction) -> Next
-    requires { 0 < length (fields_left d memory.now at) }
-    ensures { fields_left d memory.now at ≡ result.field ∷ fields_left d memory.now result.at }
-{
-    let mut next = at;
-    loop {
-        let entry = table::entry_at(memory, next);
-        match entry {
-            // The first two are not met, since a field of this direction is still to come.
-            Entry::End => {}
-            Entry::Unreadable => {}
-            Entry::Mode => {}
-            Entry::Field(f) => {
-                if table::stands_in(f, d) {
-                    return Next {
-                        field: f,
-                        at: next + 2,
-                    };
-                }
-            }
-        }
-        next += 2;
+    count::count_fields(memory, table)?;
+    match nth(memory, table, index) {
+        Some(f) => Ok(f),
+        None => Err(Rule::BadCall.at(0)),
     }
 }

@@ -1,11 +1,11 @@
 // A card's process table: its entries, and the records that they point to.
-ghost use Rattle.std.specs.Prelude.{◌≡◌, ◌+◌, ◌<◌, ◌≤◌, length};
+ghost use Rattle.std.specs.Prelude.{◌≡◌, ◌+◌, ◌<◌, ◌≤◌, length, drop, position, ◌==◌, MatchOption};
 ghost use Rattle.sserial.specs.Table.{pair_at, quad_at, nul_of, is_direction, record_at, stands_in};
 ghost use Rattle.sserial.specs.Inside.{field_record, mode_record, entry_at};
 
 // A field as its descriptor has it. `kind` is the data type, `minimum` and `maximum` are the bits that stand there, `unit` and
 // `name` the places of the two strings.
-#[derive(Clone, Copy)]
+#[derive(Clone, Copy, Debug, PartialEq, Eq)]
 pub struct Field {
     pub width: u8,
     pub kind: u8,
@@ -17,7 +17,7 @@ pub struct Field {
 }
 
 // What stands at a table's entry.
-#[derive(Clone, Copy)]
+#[derive(Clone, Copy, Debug, PartialEq, Eq)]
 pub enum Entry {
     End,
     Unreadable,
@@ -26,44 +26,44 @@ pub enum Entry {
 }
 
 // Read from the card, or written to it. A field of both directions stands in both.
-#[derive(Clone, Copy)]
+#[derive(Clone, Copy, Debug, PartialEq, Eq)]
 pub enum Direction {
     Inputs,
     Outputs,
 }
 
-fn wide(b: u8) -> u32
-    ensures { (result ≡ b) × (result < 256) }
-{
-    b as u32
-}
-
-fn pair_at(memory: &[u8], at: usize) -> u32
+fn pair_at(memory: &[u8], at: usize) -> u16
     requires { at + 2 ≤ length memory.now }
     ensures { (result ≡ pair_at memory.now at) × (result < 65536) }
 {
-    wide(memory[at]) + 256 * wide(memory[at + 1])
+    u16::from_le_bytes([memory[at], memory[at + 1]])
 }
 
 fn quad_at(memory: &[u8], at: usize) -> u32
     requires { at + 4 ≤ length memory.now }
     ensures { result ≡ quad_at memory.now at }
 {
-    pair_at(memory, at) + 65536 * pair_at(memory, at + 2)
+    u32::from_le_bytes([memory[at], memory[at + 1], memory[at + 2], memory[at + 3]])
 }
 
-// The place of the NUL that ends the string at `at`; past the end where it is not lent.
-fn nul_of(memory: &[u8], at: usize) -> usize
-    ensures { result ≡ nul_of memory.now at }
+fn first_nul(bytes: &[u8]) -> Option<usize>
+    ensures { result ≡ position (λ b. b == 0) bytes.now }
 {
-    let mut i = at;
-    while i < memory.len() {
-        if memory[i] == 0 {
-            return i;
-        }
-        i += 1;
-    }
-    i
+    bytes.iter().position(|&b| b == 0)
+}
+
+fn rest_of(memory: &[u8], at: usize) -> &[u8]
+    ensures { result.now ≡ drop at memory.now }
+{
+    memory.get(at..).unwrap_or(&[])
+}
+
+// The place of the NUL that ends the string at `at`, where it is lent.
+fn nul_of(memory: &[u8], at: usize) -> Option<usize>
+    ensures { MatchOption result (length memory.now ≤ nul_of memory.now at)
+        (λ place. (place ≡ nul_of memory.now at) × (nul_of memory.now at < length memory.now)) }
+{
+    Some(at + first_nul(rest_of(memory, at))?)
 }
 
 fn is_direction(d: u8) -> bool
@@ -77,15 +77,13 @@ fn field_record(memory: &[u8], p: usize) -> Entry
     ensures { result ≡ field_record memory.now p }
 {
     let unit = p + 14;
-    let unit_end = nul_of(memory, unit);
-    if memory.len() <= unit_end {
+    let Some(unit_end) = nul_of(memory, unit) else {
         return Entry::Unreadable;
-    }
+    };
     let name = unit_end + 1;
-    let name_end = nul_of(memory, name);
-    if memory.len() <= name_end {
+    let Some(_) = nul_of(memory, name) else {
         return Entry::Unreadable;
-    }
+    };
     let kind = memory[p + 2];
     let direction = memory[p + 3];
     let listed = (kind < 8) & is_direction(direction);
@@ -107,10 +105,9 @@ fn mode_record(memory: &[u8], p: usize) -> Entry
     requires { p < 65536 }
     ensures { result ≡ mode_record memory.now p }
 {
-    let name_end = nul_of(memory, p + 4);
-    if memory.len() <= name_end {
+    let Some(_) = nul_of(memory, p + 4) else {
         return Entry::Unreadable;
-    }
+    };
     if memory[p + 2] < 2 {
         Entry::Mode
     } else {
@@ -142,11 +139,10 @@ pub(crate) fn entry_at(memory: &[u8], at: usize) -> Entry
     if memory.len() - at < 2 {
         return Entry::Unreadable;
     }
-    let p = pair_at(memory, at) as usize;
-    if p == 0 {
-        return Entry::End;
+    match pair_at(memory, at) {
+        0 => Entry::End,
+        p => record_at(memory, p as usize),
     }
-    record_at(memory, p)
 }
 
 pub(crate) fn stands_in(f: Field, d: Direction) -> bool

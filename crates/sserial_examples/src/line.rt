@@ -1,24 +1,22 @@
-// One call of the library, put as a line. Each function answers the place behind what it put.
+// One call of the library, put as a line. Each function answers the place behind what it put; what the room does not hold is cut off.
 use lbp16::Refusal;
-use sserial::call::CallAnswer;
-use sserial::count::TableAnswer;
-use sserial::field::FieldAnswer;
+use sserial::count::FieldCounts;
 use sserial::table::Field;
 use sserial::{count, field};
 use text::{find, line, number};
 
 fn refusal(out: &mut [u8], at: usize, r: Refusal) -> usize {
-    let next = line::numbered(out, at, b" refused ", r.number as u64);
+    let next = line::numbered(out, at, b" refused ", u64::from(r.rule.number()));
     line::numbered(out, next, b" at ", r.place)
 }
 
-fn counted(out: &mut [u8], at: usize, answer: TableAnswer) -> usize {
+fn counted(out: &mut [u8], at: usize, answer: Result<FieldCounts, Refusal>) -> usize {
     match answer {
-        TableAnswer::Fields { inputs, outputs } => {
-            let next = line::numbered(out, at, b" fields in ", inputs as u64);
-            line::numbered(out, next, b", out ", outputs as u64)
+        Ok(counts) => {
+            let next = line::numbered(out, at, b" fields in ", counts.inputs as u64);
+            line::numbered(out, next, b", out ", counts.outputs as u64)
         }
-        TableAnswer::Refused(r) => refusal(out, at, r),
+        Err(r) => refusal(out, at, r),
     }
 }
 
@@ -63,49 +61,35 @@ fn one_field(out: &mut [u8], at: usize, memory: &[u8], f: Field) -> usize {
     string(out, next, b", name at ", memory, f.name)
 }
 
-// The place behind it, and whether the table has this field.
-#[derive(Clone, Copy)]
-struct Put {
-    at: usize,
-    more: bool,
-}
-
-fn answered(out: &mut [u8], at: usize, memory: &[u8], answer: FieldAnswer) -> Put {
+fn answered(out: &mut [u8], at: usize, memory: &[u8], answer: Result<Field, Refusal>) -> usize {
     match answer {
-        FieldAnswer::Field(f) => {
-            let next = one_field(out, at, memory, f);
-            Put {
-                at: text::put(out, next, b"\n"),
-                more: true,
-            }
-        }
-        FieldAnswer::Refused(r) => {
-            let next = refusal(out, at, r);
-            Put {
-                at: text::put(out, next, b"\n"),
-                more: false,
-            }
-        }
+        Ok(f) => one_field(out, at, memory, f),
+        Err(r) => refusal(out, at, r),
     }
 }
 
-fn field(out: &mut [u8], at: usize, memory: &[u8], table: u16, index: u64) -> Put {
+fn field(
+    out: &mut [u8],
+    at: usize,
+    memory: &[u8],
+    index: u64,
+    answer: Result<Field, Refusal>,
+) -> usize {
     let next = line::numbered(out, at, b"field ", index);
     let next = text::put(out, next, b":");
-    answered(out, next, memory, field::field(memory, table, index))
+    let next = answered(out, next, memory, answer);
+    text::put(out, next, b"\n")
 }
 
 // Every field of the table, and where it ends.
 pub(crate) fn fields(out: &mut [u8], at: usize, memory: &[u8], table: u16) -> usize {
     let mut next = at;
-    let mut index: u64 = 0;
-    while index < 193 {
-        let put = field(out, next, memory, table, index);
-        next = put.at;
-        if !put.more {
+    for index in 0..193 {
+        let answer = field::field(memory, table, index);
+        next = field(out, next, memory, index, answer);
+        if answer.is_err() {
             return next;
         }
-        index += 1;
     }
     next
 }
@@ -117,18 +101,16 @@ fn number(out: &mut [u8], at: usize, n: u64) -> usize {
 
 fn numbers(out: &mut [u8], at: usize, values: &[u64]) -> usize {
     let mut next = at;
-    let mut i: usize = 0;
-    while i < values.len() {
-        next = number(out, next, values[i]);
-        i += 1;
+    for &n in values {
+        next = number(out, next, n);
     }
     next
 }
 
-fn answer(out: &mut [u8], at: usize, a: CallAnswer) -> usize {
+fn answer(out: &mut [u8], at: usize, a: Result<(), Refusal>) -> usize {
     match a {
-        CallAnswer::Done => text::put(out, at, b" done"),
-        CallAnswer::Refused(r) => refusal(out, at, r),
+        Ok(()) => text::put(out, at, b" done"),
+        Err(r) => refusal(out, at, r),
     }
 }
 
@@ -143,7 +125,7 @@ pub(crate) fn packed(
     at: usize,
     channel: u32,
     values: &[u64],
-    a: CallAnswer,
+    a: Result<(), Refusal>,
 ) -> usize {
     let next = labelled(out, at, b"packed into channel ", channel as u64);
     let next = numbers(out, next, values);
@@ -157,7 +139,7 @@ pub(crate) fn unpacked(
     at: usize,
     channel: u32,
     values: &[u64],
-    a: CallAnswer,
+    a: Result<(), Refusal>,
 ) -> usize {
     let next = labelled(out, at, b"unpacked from channel ", channel as u64);
     let next = answer(out, next, a);
@@ -173,10 +155,8 @@ fn register(out: &mut [u8], at: usize, w: u32) -> usize {
 
 fn registers(out: &mut [u8], at: usize, words: &[u32]) -> usize {
     let mut next = at;
-    let mut i: usize = 0;
-    while i < words.len() {
-        next = register(out, next, words[i]);
-        i += 1;
+    for &w in words {
+        next = register(out, next, w);
     }
     next
 }

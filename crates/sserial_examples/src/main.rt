@@ -11,9 +11,11 @@ use std::io;
 use std::io::Write;
 
 fn channels(out: &mut [u8], at: usize, registers: [u32; 24]) -> usize {
-    let next = line::channel(out, at, 1, &registers[3..6]);
-    let next = line::channel(out, next, 2, &registers[6..9]);
-    line::channel(out, next, 3, &registers[9..12])
+    let mut next = at;
+    for k in 1..4 {
+        next = line::channel(out, next, k as u64, &registers[3 * k..3 * k + 3]);
+    }
+    next
 }
 
 fn back(out: &mut [u8], at: usize, card: &[u8], registers: &[u32], values: &mut [u64]) -> usize {
@@ -53,18 +55,12 @@ fn told(out: &mut [u8], at: usize, text: &[u8], card: &[u8], table: u16) -> usiz
     line::counts(out, next, card, table)
 }
 
-// The first n bytes, or all of them.
-fn first(s: &[u8], n: usize) -> &[u8] {
-    let k = text::least(n, s.len());
-    &s[..k]
-}
-
 // A memory without its last byte, which ends the software mode's name.
 fn without_last(card: &[u8]) -> &[u8] {
-    if card.len() == 0 {
-        return card;
+    match card {
+        [front @ .., _] => front,
+        [] => card,
     }
-    first(card, card.len() - 1)
 }
 
 fn mode_1(out: &mut [u8], at: usize, card: &[u8]) -> usize {
@@ -135,14 +131,15 @@ fn example(out: &mut [u8], at: usize, k: usize, card: &[u8]) -> usize {
 
 fn of_card(out: &mut [u8], at: usize, k: usize, input: &[u8]) -> usize {
     let memory = cards::card(input, k);
-    example(out, at, k, first(&memory.bytes, memory.digits / 2))
+    example(out, at, k, input::front(&memory.bytes, memory.digits / 2))
 }
 
 fn all(out: &mut [u8], input: &[u8]) -> usize {
-    let next = of_card(out, 0, 0, input);
-    let next = of_card(out, next, 1, input);
-    let next = of_card(out, next, 2, input);
-    of_card(out, next, 3, input)
+    let mut next: usize = 0;
+    for k in 0..4 {
+        next = of_card(out, next, k, input);
+    }
+    next
 }
 
 fn play<W: Write>(to: &mut W, cards: &[u8], out: &mut [u8; 8192]) -> io::Result<()> {

@@ -6,12 +6,12 @@ use Rattle.head.proofs.panel_exports.head_panel_reading.Goals as goal
 
 pub float_to_bits-reading_bits : goal.float_to_bits-reading_bits
 unfolding reading_listed
-float_to_bits-reading_bits c = shown-number _ _ _ _ _ _ (sym c.reading-answer.ensures ∙ ap reading_listed c.in-Reading.is)
+float_to_bits-reading_bits c = shown-number _ _ _ _ _ _ (sym c.reading-answer.ensures ∙ ap reading_listed c.in-Ok.is)
 
-pub returns-in-Reading : goal.returns-in-Reading
+pub returns-in-Ok : goal.returns-in-Ok
 unfolding reading_listed reading_number bits_left export_reading
-returns-in-Reading c = rw (← c.reading-answer.ensures, c.in-Reading.is) refl
+returns-in-Ok c = rw (← c.reading-answer.ensures, c.in-Ok.is) refl
 
-pub returns-in-Refused : goal.returns-in-Refused
+pub returns-in-Err : goal.returns-in-Err
 unfolding reading_listed reading_number bits_left export_reading
-returns-in-Refused c = rw (← c.reading-answer.ensures, c.in-Refused.is) refl
+returns-in-Err c = rw (← c.reading-answer.ensures, c.in-Err.is, c.number.ensures) refl

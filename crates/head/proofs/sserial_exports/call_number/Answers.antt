@@ -1,11 +1,12 @@
+use mathlib.Core.Path.{refl}
 use Rattle.sserial.specs.Calls.{call_listed}
 use Rattle.head.specs.Exports.{number_of}
 use Rattle.head.proofs.sserial_exports.call_number.Goals as goal
 
-pub returns-in-Done : goal.returns-in-Done
+pub returns-in-Ok : goal.returns-in-Ok
 unfolding number_of call_listed
-returns-in-Done c = rw c.in-Done.is
+returns-in-Ok c = rw c.in-Ok.is
 
-pub returns-in-Refused : goal.returns-in-Refused
+pub returns-in-Err : goal.returns-in-Err
 unfolding number_of call_listed
-returns-in-Refused c = rw c.in-Refused.is
+returns-in-Err c = rw (c.number.ensures, c.in-Err.is) refl

@@ -1,11 +1,12 @@
+use mathlib.Core.Path.{◌∙◌}
 use Rattle.sserial.specs.Calls.{table_listed}
 use Rattle.head.proofs.SserialExportLaws.{or_40, or_refused_lem}
 use Rattle.head.proofs.sserial_exports.table_or_40.Goals as goal
 
-pub returns-in-Fields : goal.returns-in-Fields
+pub returns-in-Ok : goal.returns-in-Ok
 unfolding table_listed
-returns-in-Fields c = or_40 _ _ _ (rw c.in-Fields.is at c.count_fields-answer.ensures)
+returns-in-Ok c = or_40 _ _ _ (rw c.in-Ok.is at c.count_fields-answer.ensures)
 
-pub returns-in-Refused : goal.returns-in-Refused
+pub returns-in-Err : goal.returns-in-Err
 unfolding table_listed
-returns-in-Refused c = or_refused_lem _ _ _ (rw c.in-Refused.is at c.count_fields-answer.ensures)
+returns-in-Err c = c.number.ensures ∙ or_refused_lem _ _ _ (rw c.in-Err.is at c.count_fields-answer.ensures)

@@ -1,14 +1,16 @@
-use mathlib.Core.Path.{sym, ap, ◌∙◌}
+use mathlib.Core.Path.{◌∙◌}
+use Rattle.std.proofs.lemmas.Result.{err_from_is_err_and}
 use Rattle.sserial.specs.Calls.{field_listed}
 use Rattle.panel.specs.Reading.{reading_listed}
 use Rattle.panel.proofs.FieldReadingLaws.{of_field, of-refusal}
 use Rattle.panel.proofs.fields.field_reading.Goals as goal
 
-pub returns-in-Refused : goal.returns-in-Refused
+pub returns-in_err-f : goal.returns-in_err-f
 unfolding field_listed reading_listed
-returns-in-Refused c = of-refusal _ _ _ _ _ (ap field_listed (sym c.in-Refused.is) ∙ c.field-answer.ensures)
+returns-in_err-f c =
+    let p = err_from_is_err_and c.from_residual.result c.from_residual.ensures.1 in
+    rw (p.1, p.2) (of-refusal _ _ _ _ _ c.in_err-f.ensures)
 
-pub returns-in-Field : goal.returns-in-Field
+pub returns : goal.returns
 unfolding field_listed
-returns-in-Field c = c.reading.ensures
-    ∙ of_field _ _ _ _ (ap field_listed (sym c.in-Field.is) ∙ c.field-answer.ensures)
+returns c = c.reading.ensures ∙ of_field _ _ _ _ c.in_ok-f.ensures

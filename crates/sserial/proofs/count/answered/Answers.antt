@@ -5,7 +5,7 @@ use Rattle.sserial.proofs.count.answered.Goals as goal
 
 pub returns-then-s : goal.returns-then-s
 unfolding table_listed sums_answer
-returns-then-s c = rw c.if-s.true refl
+returns-then-s c = rw (c.at.ensures, c.if-s.true) refl
 
 pub returns : goal.returns
 unfolding table_listed sums_answer

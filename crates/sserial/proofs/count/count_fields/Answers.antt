@@ -17,7 +17,7 @@ returns-in-End c = c.answered.ensures
 
 pub returns-in-Unreadable : goal.returns-in-Unreadable
 unfolding table_listed
-returns-in-Unreadable c = count_cut c.loop-f.invariant _ c.entry_at-entry.ensures c.in-Unreadable.is
+returns-in-Unreadable c = rw c.at.ensures (count_cut c.loop-f.invariant _ c.entry_at-entry.ensures c.in-Unreadable.is)
 
 lent : (c : goal.Joined-entry) → c.loop-f.at + 2 ≤ length c.args.memory.now
 lent c = elim c.match-entry.branch [

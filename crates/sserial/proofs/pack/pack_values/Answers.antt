@@ -1,36 +1,42 @@
 use borrow.Author.Rules.{rules}
+use mathlib.Core.Path.{refl, sym, ◌∙◌}
 use Rattle.sserial.proofs.LayoutLaws.{bits_below}
-use Rattle.sserial.proofs.WalkLaws.{packing_first, packing_wide, packing_room, packing_more, packing_done}
+use Rattle.sserial.proofs.WalkLaws.{packing_first, packing_wide, packing_room, packing_more, packing_bad, packing_done}
 use Rattle.sserial.proofs.pack.pack_values.Goals as goal
 
-pub loop-j-init : goal.loop-j-init
-loop-j-init c = let p = c.requires in packing_first _ _ p.count p.wide p.fits
+pub loop-v-init : goal.loop-v-init
+loop-v-init c = let p = c.requires in packing_first _ _ p.count p.wide p.fits
+
+pub in_range-requires : goal.in_range-requires
+in_range-requires c = packing_wide c.loop-v.invariant _ _ c.in_ok-f.ensures.steps
+
+pub returns-then-not-in_range : goal.returns-then-not-in_range
+returns-then-not-in_range c =
+    let bad = sym c.in_range.ensures ∙ c.if-not-in_range.true in
+    rw (packing_bad c.loop-v.invariant _ _ c.in_ok-f.ensures.steps c.loop-v-test.true bad) refl
 
 pub bits_of-requires : goal.bits_of-requires
-bits_of-requires c = packing_wide c.loop-j.invariant _ _ c.next_field-next.ensures
+bits_of-requires c = packing_wide c.loop-v.invariant _ _ c.in_ok-f.ensures.steps
 
 pub put-more-requires : goal.put-more-requires
-put-more-requires c = let i = c.loop-j.invariant in (
-  packing_room i _ _ c.next_field-next.ensures,
-  (packing_wide i _ _ c.next_field-next.ensures).most,
+put-more-requires c = let i = c.loop-v.invariant in (
+  packing_room i _ _ c.in_ok-f.ensures.steps,
+  (packing_wide i _ _ c.in_ok-f.ensures.steps).most,
   rw c.bits_of.ensures (bits_below _ _),
   i.free,
   i.each,
 )
 
-pub in_range-good-requires : goal.in_range-good-requires
-in_range-good-requires c = packing_wide c.loop-j.invariant _ _ c.next_field-next.ensures
-
-pub loop-j-preserved : goal.loop-j-preserved
-loop-j-preserved c = packing_more
-    c.loop-j.invariant _ _
-    c.next_field-next.ensures
-    c.loop-j-test.true _ _ _
+pub loop-v-preserved : goal.loop-v-preserved
+loop-v-preserved c = packing_more
+    c.loop-v.invariant _ _
+    c.in_ok-f.ensures.steps
+    c.loop-v-test.true _ _
     c.bits_of.ensures
-    c.in_range-good.ensures
+    (sym c.in_range.ensures ∙ c.if-not-in_range.false)
     c.put-more.ensures.0
     c.put-more.ensures.1
     (search rules)
 
 pub returns : goal.returns
-returns c = packing_done c.loop-j.invariant c.loop-j-test.false
+returns c = let d = packing_done c.loop-v.invariant c.loop-v-test.false in rw (d.0, d.1) refl
