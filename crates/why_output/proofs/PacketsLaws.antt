@@ -12,7 +12,6 @@ use Rattle.lbp16.specs.declared.pointer.Pointers.{Pointers}
 use Rattle.packet.specs.Command.{limit}
 use Rattle.packet.proofs.SliceLaws.{tail-whole}
 use Rattle.packet.specs.Verdict.{verdict_listed}
-use Rattle.packet.specs.declared.judge.Verdict.{Verdict}
 use Rattle.card.specs.Run.{Outcome, run_packet, ran}
 use Rattle.card.specs.declared.run.Ran.{Ran}
 use Rattle.cue.specs.Output.{Front, front_of, bytes_in_frame, behind_frame, frame_listed}
@@ -31,11 +30,11 @@ inside_is rest n e f = f ∙ rw e refl
 
 -- a packet that was run
 module _ (n : ℕ) (o : Outcome) (r : Ran) (store reply : List ℕ) (e : ran r store reply ≡ o) where
-  pub ran-accepted : (v : ℕ) → r.answer ≡ Verdict.Accepted v → part_left (Ok n) store r.pointers ≡ ran_left n o
+  pub ran-accepted : (v : ℕ) → r.answer ≡ Ok v → part_left (Ok n) store r.pointers ≡ ran_left n o
   unfolding ran_left ran_part ran verdict_listed
   ran-accepted v q = rw (← e, q) refl
 
-  pub ran-refused : (x : Refusal) → r.answer ≡ Verdict.Refused x → part_left (Err (Stop.Refused n)) store r.pointers ≡ ran_left n o
+  pub ran-refused : (x : Refusal) → r.answer ≡ Err x → part_left (Err (Stop.Refused n)) store r.pointers ≡ ran_left n o
   unfolding ran_left ran_part ran verdict_listed
   ran-refused x q = rw (← e, q) refl
 

@@ -7,8 +7,9 @@ pub mod packets;
 mod pointed;
 pub mod words;
 
-ghost use Rattle.std.specs.Prelude.{◌++◌, ◌≡◌, ◌≤◌, length};
+ghost use Rattle.std.specs.Prelude.{◌++◌, ◌≡◌, ◌≤◌, length, IfSome};
 ghost use Rattle.cue.specs.Output.{front_of};
+ghost use Rattle.reason.specs.Reason.{reason_listed};
 ghost use Rattle.text.specs.Line.{numbered};
 ghost use Rattle.text.specs.Number.{ascii};
 ghost use Rattle.text.specs.Room.{filled, put_at, text_left};
@@ -49,12 +50,14 @@ fn front(out: &mut [u8], at: usize, packet: &[u8], place: u64) -> usize
     text::put(out, at, b"\n")
 }
 
-fn say(out: &mut [u8], at: usize, packet: &[u8], r: Reason) -> usize
-    ensures { filled result out.new ≡ put_at (said_of packet.now r) at out.old }
+// Refusals 1 and 2 are of no command.
+fn say(out: &mut [u8], at: usize, packet: &[u8], reason: Option<Reason>) -> usize
+    requires { IfSome reason (λ r. 1 ≤ r.number) }
+    ensures { filled result out.new ≡ put_at (said_of packet.now (reason_listed reason)) at out.old }
 {
-    if r.number == 0 {
+    let Some(r) = reason else {
         return accepted(out, at, packet);
-    }
+    };
     let at = packet_text::put_refused(out, at, r);
     if r.number < 3 {
         return at;

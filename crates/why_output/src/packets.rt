@@ -15,7 +15,6 @@ use cue::frame;
 use cue::frame::Frame;
 use lbp16::pointer::Pointers;
 use packet::command::LIMIT;
-use packet::judge::Verdict;
 use reason::slice;
 use text::{line, number, pick};
 
@@ -52,11 +51,11 @@ fn ran_at(rest: &[u8], n: usize, store: &mut [u8], p: Pointers) -> Passed
     let pointers = ran.pointers;
     let answer = ran.answer;
     match answer {
-        Verdict::Accepted(_) => Passed {
+        Ok(_) => Passed {
             part: Ok(n),
             pointers,
         },
-        Verdict::Refused(_) => Passed {
+        Err(_) => Passed {
             part: Err(Stop::Refused(n)),
             pointers,
         },
