@@ -1,6 +1,6 @@
 -- What is said of a part, and that it fits its room.
 use Prim.Native.Nat.{ℕ, ◌+◌, ◌^◌, ◌≤◌, ◌<◌, min}
-use mathlib.Core.Path.{◌≡◌, sym, ap, ◌∙◌}
+use mathlib.Core.Path.{◌≡◌, refl, sym, ap, ◌∙◌}
 use mathlib.Core.List.{List, []}
 use native.Mathlib.Omega.{arith}
 use borrow.Author.Tests.{le-ltb}
@@ -16,11 +16,15 @@ use Rattle.text.proofs.RoomLaws.{put_front, put_then}
 use Rattle.cue.proofs.FrameLaws.{whole-frame}
 use Rattle.card.specs.Run.{checked_packet}
 use Rattle.reason.specs.Reason.{pointers_left}
-use Rattle.packet_text.specs.Packet.{packet_text, most_text, PacketLeft, packet_left, shown_packet}
+use Rattle.packet_text.specs.Packet.{packet_text, most_text, PacketLeft, shown_left, shown_packet}
+use Rattle.packet_text.specs.declared.Shown.{Shown}
+use Rattle.lbp16.specs.Answer.{rule_number}
+use Rattle.lbp16.specs.declared.Refusal.{Refusal}
+use Rattle.lbp16.proofs.RuleLaws.{rule_number_range}
 use Rattle.lbpdis_output.specs.Said.{packet_line, fault_line, cut_line, unmarked_line, end_line, part_text, passed_by, pointers_by}
 use Rattle.lbpdis_output.specs.Said.{PartLeft, part_left, part_by, part_said}
 use Rattle.lbpdis_output.specs.Inside.{part_put}
-use Rattle.std.specs.Prelude.{Option, None, Some, IfSome}
+use Rattle.std.specs.Prelude.{Option, None, Some, IfSome, Result, Ok, Err, IsOk}
 
 line-size : (i n : ℕ) → i < 2 ^ 64 → n < 2 ^ 64 → length (packet_line i n) ≤ 56
 unfolding packet_line ascii
@@ -64,19 +68,28 @@ pub record Shows (p : Pointers) (packet : List ℕ) (n : ℕ) (q : Pointers) (ro
   pub text : take n room ≡ packet_text p packet
   pub pointers : q ≡ pointers_left (checked_packet p packet) p
 
-pub shows : (p : Pointers) (packet : List ℕ) (number n : ℕ) (q : Pointers) (before after : List ℕ)
-    → packet_left number n q after ≡ shown_packet p packet before → length (packet_text p packet) ≤ most_text
-    → length before ≡ most_text → length after ≡ most_text → Shows p packet n q after
-unfolding shown_packet
-shows p packet number n q before after e l b a =
-    let t = packet_text p packet in
-    let w = rw (le-ltb (length before) (length t) (omega arith)) at e in
-    let bytes : n ≡ length t = ap (λ (x : PacketLeft). x.bytes) w in
-    record {
-      short = omega arith;
-      text = rw (ap (λ (x : PacketLeft). x.room) w, bytes) (take-append_seam t (drop (length t) before));
-      pointers = ap (λ (x : PacketLeft). x.pointers) w;
-    }
+module _ (p : Pointers) (packet before after : List ℕ) (l : length (packet_text p packet) ≤ most_text) (b : length before ≡ most_text) where
+  pub answered : (r : Result Shown Refusal) → shown_left p r after ≡ shown_packet p packet before → IsOk r
+  unfolding shown_left shown_packet
+  answered (Ok s) e = refl
+  answered (Err x) e =
+      let w = rw (le-ltb (length before) (length (packet_text p packet)) (omega arith)) at e in
+      let z : rule_number x.rule ≡ 0 = ap (λ (x : PacketLeft). x.number) w in
+      let h = rule_number_range x.rule in
+      absurd (omega (arith, h, z))
+
+  pub shows : (r : Result Shown Refusal) (s : Shown) → r ≡ Ok s → shown_left p r after ≡ shown_packet p packet before
+      → length after ≡ most_text → Shows p packet s.bytes s.pointers after
+  unfolding shown_left shown_packet
+  shows r s o e a =
+      let t = packet_text p packet in
+      let w = rw (o, le-ltb (length before) (length t) (omega arith)) at e in
+      let bytes : s.bytes ≡ length t = ap (λ (x : PacketLeft). x.bytes) w in
+      record {
+        short = omega arith;
+        text = rw (ap (λ (x : PacketLeft). x.room) w, bytes) (take-append_seam t (drop (length t) before));
+        pointers = ap (λ (x : PacketLeft). x.pointers) w;
+      }
 
 -- A packet's line and its text, put one behind the other.
 pub framed : (i n : ℕ) (rest : List ℕ) (p : Pointers) (room mid after : List ℕ) (at next : ℕ) (q : Pointers)

@@ -79,7 +79,7 @@ fn put_text(room: &mut [u8], at: usize, packet: &[u8], p: Pointers) -> Laid
         × (result.pointers ≡ pointers_left (checked_packet p packet.now) p) × (length (packet_text p packet.now) ≤ most_text) }
 {
     let mut words = [0u8; packet_text::MOST];
-    let shown = packet_text::put_packet(&mut words, packet, p);
+    let shown = packet_text::put_packet(&mut words, packet, p).unwrap();
     let n = shown.bytes;
     let pointers = shown.pointers;
     Laid {
