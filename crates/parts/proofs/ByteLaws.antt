@@ -78,6 +78,7 @@ module _ (k : Kept) (b : ℕ) (rg : Ranged k) where
             ranged =
                 record {
                   stands = omega arith;
+                  known = λ h. omega arith;
                   collected = omega arith;
                   bytes = rw length-set rg.bytes;
                   index = rg.index;
@@ -112,6 +113,7 @@ module _ (k : Kept) (b : ℕ) (rg : Ranged k) where
                   ranged =
                       record {
                         stands = h.1;
+                        known = λ more. h.0;
                         collected = omega arith;
                         bytes = rg.bytes;
                         index = rg.index;

@@ -1,10 +1,10 @@
 -- A call, as the code makes it.
 use Prim.Native.Nat.{ℕ, zero, suc, ◌+◌, ◌*◌, ◌-◌, ◌≤◌, ◌<◌}
 use mathlib.Core.Path.{◌≡◌, refl, sym, ap, ◌∙◌}
-use mathlib.Core.List.{List, [], ◌++◌, append-nil}
-use mathlib.Core.Bool.{Bool, true, false, cond}
+use mathlib.Core.List.{List, [], ◌∷◌, ◌++◌, append-nil}
+use mathlib.Core.Bool.{Bool, true, false, cond, ◌&&◌}
 use native.Mathlib.Omega.{arith}
-use lib.Dec.{eqb}
+use lib.Dec.{eqb, ltb}
 use lib.ListN.{length, take, drop, get_or, length-append, length-take, length-drop, drop_of_length-le}
 use lib.Seq.{take_all, drop_at, length-take-le}
 use borrow.Author.Tests.{lt-ltb, le-ltb, eq-eqb, ne_eqb, ltb-false, eqb-false}
@@ -15,11 +15,13 @@ use Rattle.cue.proofs.UntrustedLaws.{none_of}
 use Rattle.parts.specs.Taking.{Stopped, called, part_taken, answer_by, answered}
 use Rattle.parts.specs.State.{Held, held_packing, unopened, pair_at, packer_at, standing_of, state_of, bad_numbers, bad_state, bytes_of_state}
 use Rattle.parts.specs.Parts.{PartCall, untouched, leaves, part_of, part_left}
-use Rattle.parts.specs.Inside.{kept_at, meant, Sound, Ranged, Rooms, Stops, listed_by, outcome_left}
+use Rattle.parts.specs.Inside.{kept_at, meant, Sound, Ranged, Rooms, Stops}
 use Rattle.packet.specs.Verdict.{verdict_listed}
-use Rattle.packet.specs.declared.judge.Verdict.{Verdict}
+use Rattle.std.specs.Prelude.{Err}
+use Rattle.lbp16.specs.Answer.{accepted, rule_number}
+use Rattle.lbp16.specs.declared.Refusal.{Refusal}
+use Rattle.lbp16.specs.declared.Rule.{Rule}
 use Rattle.parts.specs.declared.Part.{Part}
-use Rattle.parts.specs.declared.call.Outcome.{Outcome}
 use Rattle.parts.specs.declared.state.Kept.{Kept}
 use Rattle.parts.specs.declared.take.Stop.{Stop}
 use Rattle.parts.proofs.PartLaws.{stands-going}
@@ -68,12 +70,16 @@ packer-sound s = go (eqb (pair_at s 22) 0) refl
 abbrev bad_tests : List ℕ → List Bool
 bad_tests s = bad_numbers (get_or s 0 0) (get_or s 1 0) (pair_at s 12 + 65536 * pair_at s 14) (packer_at s)
 
+fault-known : (n : ℕ) → (ltb 1 n && ltb n 21) ≡ false → 1 < n → 21 ≤ n
+fault-known n e h = ltb-false _ _ (rw (lt-ltb 1 n h) at e)
+
 pub tests-ranged : (s : List ℕ) → length s ≡ 1504 → any_of (bad_tests s) ≡ false → Ranged (kept_at s)
 unfolding bad_numbers kept_at
 tests-ranged s l b =
-    let (high, (_, (many, (most, (space, (count, (reply, (end, (word, _))))))))) = none_of (bad_tests s) b in
+    let (high, (known, (many, (most, (space, (count, (reply, (end, (word, _))))))))) = none_of (bad_tests s) b in
     record {
       stands = ltb-false _ _ high;
+      known = fault-known _ known;
       collected = ltb-false _ _ many;
       bytes = rw (length-take, length-drop, l) refl;
       index = ltb-false _ _ most;
@@ -86,29 +92,22 @@ module _ (state part : List ℕ) (last : Bool) (out : List ℕ) where
   x = part_of state part last out
 
   pub no_room : length out < 1476
-      → part_left (Verdict.Refused (record { number = 26; place = 1476 })) 0 state out ≡ x
+      → part_left (Err (record { rule = Rule.OutputRoom; place = 1476 })) 0 state out ≡ x
   unfolding part_of untouched verdict_listed part_left
   no_room h = rw (lt-ltb _ _ h) refl
-
-  -- the answer as the caller gets it
-  pub part-is : (c : Outcome) (state₂ out₂ : List ℕ) → outcome_left c state₂ out₂ ≡ x → (r : Part)
-      → (verdict_listed r.answer ≡ listed_by c.number c.value) × (r.taken ≡ c.taken)
-      → part_left r.answer r.taken state₂ out₂ ≡ x
-  unfolding part_left outcome_left
-  part-is c state₂ out₂ e r (a, t) = rw (a, t) e
 
   module _ (wide : 1476 ≤ length out) where
     bad-is : bad_state state ≡ true → x ≡ untouched (refused 1 0) state out
     unfolding part_of
     bad-is b = rw (le-ltb (length out) 1476 wide, b) refl
 
-    turned-away : (r : Outcome) → r ≡ record { number = 1; value = 0; taken = 0 } → bad_state state ≡ true
-        → outcome_left r state out ≡ x
-    unfolding untouched outcome_left listed_by
+    turned-away : (r : Part) → r ≡ record { answer = Err (record { rule = Rule.State; place = 0 }); taken = 0 } → bad_state state ≡ true
+        → part_left r.answer r.taken state out ≡ x
+    unfolding untouched part_left verdict_listed
     turned-away r d b = rw (bad-is b, d) refl
 
-    pub other_length : (r : Outcome) → (length state ≡ 1504 → ⊥) → r ≡ record { number = 1; value = 0; taken = 0 }
-        → outcome_left r state out ≡ x
+    pub other_length : (r : Part) → (length state ≡ 1504 → ⊥) → r ≡ record { answer = Err (record { rule = Rule.State; place = 0 }); taken = 0 }
+        → part_left r.answer r.taken state out ≡ x
     unfolding bad_state
     other_length r h d = turned-away r d (rw (ne_eqb (length state) 1504 h) refl)
 
@@ -123,8 +122,8 @@ module _ (state part : List ℕ) (last : Bool) (out : List ℕ) where
       unfolding bad_state
       bad-state = rw (eq-eqb (length state) 1504 long) (sym tests)
 
-      pub bad-numbers : (r : Outcome) → b ≡ true → r ≡ record { number = 1; value = 0; taken = 0 }
-          → outcome_left r state out ≡ x
+      pub bad-numbers : (r : Part) → b ≡ true → r ≡ record { answer = Err (record { rule = Rule.State; place = 0 }); taken = 0 }
+          → part_left r.answer r.taken state out ≡ x
       bad-numbers r t d = turned-away r d (bad-state ∙ t)
 
       module _ (good : b ≡ false) where
@@ -139,10 +138,10 @@ module _ (state part : List ℕ) (last : Bool) (out : List ℕ) where
         unfolding part_of meant
         call-is = rw (le-ltb (length out) 1476 wide, bad-state, good, state-is, stands-going) refl
 
-        pub stands_already : (k.stands ≡ 0 → ⊥) → (r : Outcome)
-            → (listed_by r.number r.value ≡ answer_by (standing_of k.stands) k.index 0) × (r.taken ≡ 0)
-            → outcome_left r state out ≡ x
-        unfolding leaves called meant answered outcome_left
+        pub stands_already : (k.stands ≡ 0 → ⊥) → (r : Part)
+            → (verdict_listed r.answer ≡ answer_by (standing_of k.stands) k.index 0) × (r.taken ≡ 0)
+            → part_left r.answer r.taken state out ≡ x
+        unfolding leaves called meant answered part_left
         stands_already z r (h, t) =
             rw (call-is, stands-going, ne_eqb k.stands 0 z) (λ i. record { answer = h i; taken = t i; state = state; room = out })
 
@@ -179,11 +178,11 @@ module _ (state part : List ℕ) (last : Bool) (out : List ℕ) where
 
           pub part_left_lem : (state₂ : List ℕ)
               → state₂ ≡ bytes_of_state (meant s.kept (drop 28 (take 28 state ++ (room ++ drop (length state - 28) (drop 28 state)))))
-              → (r : Outcome)
-              → (listed_by r.number r.value ≡ answer_by (standing_of s.kept.stands) s.kept.index s.written)
+              → (r : Part)
+              → (verdict_listed r.answer ≡ answer_by (standing_of s.kept.stands) s.kept.index s.written)
               × (r.taken ≡ s.taken)
-              → outcome_left r state₂ out₂ ≡ x
-          unfolding leaves meant answered outcome_left
+              → part_left r.answer r.taken state₂ out₂ ≡ x
+          unfolding leaves meant answered part_left
           part_left_lem state₂ f r (g, t) =
               let l = left_is.left in
               let said : answer_by (standing_of s.kept.stands) s.kept.index s.written ≡ answered p.left =
@@ -194,21 +193,20 @@ module _ (state part : List ℕ) (last : Bool) (out : List ℕ) where
               (λ i. record { answer = answer i; taken = (t ∙ left_is.taken) i; state = state' i; room = l.handed i })
 
 -- the answer by what stands
-pub answer-fault : (stands index written : ℕ) → 1 < stands
-    → listed_by stands index ≡ answer_by (standing_of stands) index written
-unfolding answer_by standing_of listed_by
+answer-fault : (stands index written : ℕ) → 1 < stands → refused stands index ≡ answer_by (standing_of stands) index written
+unfolding answer_by standing_of
 answer-fault zero index written h = absurd (omega arith)
 answer-fault (suc zero) index written h = absurd (omega arith)
 answer-fault (suc (suc n)) index written h = refl
 
 pub answer-written : (stands index written : ℕ) → stands ≤ 1
-    → listed_by 0 written ≡ answer_by (standing_of stands) index written
-unfolding answer_by standing_of listed_by
+    → accepted (written ∷ []) ≡ answer_by (standing_of stands) index written
+unfolding answer_by standing_of
 answer-written zero index written h = refl
 answer-written (suc zero) index written h = refl
 answer-written (suc (suc n)) index written h = absurd (omega arith)
 
-pub number-listed : (n value : ℕ) → (n ≡ 0 → ⊥) → refused n value ≡ listed_by n value
-unfolding listed_by
-number-listed zero value h = absurd (h refl)
-number-listed (suc n) value h = refl
+pub answer-refused : (rule : Rule) (stands index written : ℕ) → rule_number rule ≡ stands → 1 < stands → (r : Refusal)
+    → r ≡ record { rule = rule; place = index } → verdict_listed (Err r) ≡ answer_by (standing_of stands) index written
+unfolding verdict_listed
+answer-refused rule stands index written e h r d = rw (d, e) (answer-fault stands index written h)

@@ -14,7 +14,8 @@ use Rattle.cue.specs.Output.{frame_room}
 use Rattle.parts.specs.Parts.{PartCall, untouched, leaves, part_of, part_left}
 use Rattle.parts.specs.Promise.{bytes_written}
 use Rattle.packet.specs.Verdict.{verdict_listed}
-use Rattle.packet.specs.declared.judge.Verdict.{Verdict}
+use Rattle.std.specs.Prelude.{Result, Ok}
+use Rattle.lbp16.specs.declared.Refusal.{Refusal}
 use Rattle.parts.proofs.KeepLaws.{call_le}
 
 taken-least : {P : Type 0} (t : Taken P) (room : List ℕ) → bytes_written (answered t) ≤ length (t.out ++ room)
@@ -53,12 +54,12 @@ module _ (state part : List ℕ) (last : Bool) (room : List ℕ) where
       (λ g. taken-least (called held_packing (state_of state) part last).left _)
 
   -- the same of what the code answered and left
-  module _ (a : Verdict) (n : ℕ) (state₂ room₂ : List ℕ) (e : part_left a n state₂ room₂ ≡ part_of state part last room) where
+  module _ (a : Result ℕ Refusal) (n : ℕ) (state₂ room₂ : List ℕ) (e : part_left a n state₂ room₂ ≡ part_of state part last room) where
     pub answer-taken : n ≤ length part
     unfolding part_left
     answer-taken = let t : n ≡ (part_of state part last room).taken = ap (λ c. c.taken) e in rw t taken-fits
 
-    pub answer-written : (m : ℕ) → a ≡ Verdict.Accepted m → m ≤ length room₂
+    pub answer-written : (m : ℕ) → a ≡ Ok m → m ≤ length room₂
     unfolding part_left verdict_listed bytes_written
     answer-written m d =
         let l : bytes_written (verdict_listed a) ≤ length room₂ = rw e' at written-fits in
@@ -67,5 +68,5 @@ module _ (state part : List ℕ) (last : Bool) (room : List ℕ) where
         e' : part_of state part last room ≡ part_left a n state₂ room₂
         e' = sym e
 
-    pub answer-front : (m : ℕ) → a ≡ Verdict.Accepted m → m ≡ length (take m room₂)
+    pub answer-front : (m : ℕ) → a ≡ Ok m → m ≡ length (take m room₂)
     answer-front m d = sym (length-take-le m room₂ (answer-written m d))

@@ -169,6 +169,7 @@ module _ (k : Kept) (room old : List ℕ) (rg : Ranged k) (rm : Rooms room old) 
             ranged =
                 record {
                   stands = omega arith;
+                  known = λ h. omega arith;
                   collected = omega arith;
                   bytes = rg.bytes;
                   index = rg.index;
@@ -195,6 +196,7 @@ module _ (k : Kept) (room old : List ℕ) (rg : Ranged k) (rm : Rooms room old) 
         ranged =
             record {
               stands = omega arith;
+              known = λ h. omega arith;
               collected = omega arith;
               bytes = rg.bytes;
               index = rg.index;

@@ -25,10 +25,10 @@ use Rattle.parts.specs.Taking.{unknown_mark, decided_at, byte_taken, bytes_taken
 use Rattle.parts.specs.State.{held_packing, padded, pair_at, packer_at, standing_of, state_of, bad_numbers, bytes_of_state}
 use Rattle.cue.specs.Output.{frame_room}
 use Rattle.parts.specs.Parts.{leaves, part_of, part_left}
-use Rattle.parts.specs.Inside.{kept_at, meant, Ranged, Leaves, Stops, listed_by, outcome_left, unfit_tests, Marked, Waits, Single}
+use Rattle.parts.specs.Inside.{kept_at, meant, Ranged, Leaves, Stops, unfit_tests, Marked, Waits, Single}
 use Rattle.packet.specs.Verdict.{verdict_listed}
-use Rattle.packet.specs.declared.judge.Verdict.{Verdict}
-use Rattle.parts.specs.declared.call.Outcome.{Outcome}
+use Rattle.std.specs.Prelude.{Ok}
+use Rattle.parts.specs.declared.Part.{Part}
 use Rattle.parts.specs.declared.state.Kept.{Kept}
 use Rattle.parts.proofs.TidyLaws.{number-below, shifted-below, longer, bytes-longer, collected-length, state-again}
 use Rattle.parts.proofs.StateLaws.{padded-is}
@@ -268,14 +268,14 @@ one-is (a ∷ b ∷ part) e = absurd (omega arith)
 
 pub single_taken : (s part : List ℕ) (last : Bool) (out : List ℕ) (r : Bool) (s₂ : List ℕ) → Single r s (get_or part 0 0 ∷ []) false s₂
     → frame_room ≤ length out → r ≡ true → (length part ≡ 1) × (last ≡ false) × (length s ≡ 1504)
-    → part_left (Verdict.Accepted 0) 1 s₂ out ≡ part_of s part last out
+    → part_left (Ok 0) 1 s₂ out ≡ part_of s part last out
 unfolding part_left verdict_listed
 single_taken s part last out r s₂ h wide t (n, l, _) = rw (l, one-is part n) (sym (h.taken t out wide))
 
 module _ {r : Bool} {s p : List ℕ} {l : Bool} {s₂ : List ℕ} (h : Single r s p l s₂) where
   pub outcome-taken : (out : List ℕ) → frame_room ≤ length out → r ≡ true
-      → outcome_left (record { number = 0; value = 0; taken = 1 }) s₂ out ≡ part_of s p l out
-  unfolding outcome_left listed_by
+      → part_left (Ok 0) 1 s₂ out ≡ part_of s p l out
+  unfolding part_left verdict_listed
   outcome-taken out wide t = sym (h.taken t out wide)
 
   module _ (f : r ≡ false) where
@@ -285,8 +285,8 @@ module _ {r : Bool} {s p : List ℕ} {l : Bool} {s₂ : List ℕ} (h : Single r 
     pub long-still : length s ≡ 1504 → length s₂ ≡ 1504
     long-still e = rw (h.still f) e
 
-    pub single_still : (part : List ℕ) (last : Bool) (out : List ℕ) (c : Outcome) (s₃ out₂ : List ℕ)
-        → outcome_left c s₃ out₂ ≡ part_of s₂ part last out → outcome_left c s₃ out₂ ≡ part_of s part last out
+    pub single_still : (part : List ℕ) (last : Bool) (out : List ℕ) (c : Part) (s₃ out₂ : List ℕ)
+        → part_left c.answer c.taken s₃ out₂ ≡ part_of s₂ part last out → part_left c.answer c.taken s₃ out₂ ≡ part_of s part last out
     single_still part last out c s₃ out₂ d = rw (h.still f) at d
 
 -- a good record is whole
@@ -351,12 +351,12 @@ module _ (s part : List ℕ) (last : Bool) (long : length s ≡ 1504) (k : Kept)
     completed_ranged = (record_in s wide).ranged
 
     pub completed_is : (s₂ : List ℕ) → s₂ ≡ bytes_of_state (meant after (drop 28 lent)) → Single true s part last s₂
-    unfolding outcome_left listed_by answer_by standing_of
+    unfolding part_left verdict_listed answer_by standing_of
     completed_is s₂ v =
         record {
           taken =
               λ _ out h. sym
               (part_left_lem s part last out h long k e false (sym good) refl z _ room₂ out (stops out h) s₂ v
-              (record { number = 0; value = 0; taken = 1 }) (refl, refl));
+              (record { answer = Ok 0; taken = 1 }) (refl, refl));
           still = λ x. no_true (sym x);
         }

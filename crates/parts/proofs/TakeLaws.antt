@@ -8,6 +8,10 @@ use lib.Dec.{eqb, ltb}
 use lib.ListN.{length, take, drop, length-append, length-drop}
 use borrow.Author.Tests.{eq-eqb, ne_eqb}
 use lib.Seq.{length-take-le}
+use Rattle.std.specs.Prelude.{Result, Ok, Err}
+use Rattle.std.specs.Result.{is_err}
+use Rattle.lbp16.specs.Answer.{ruled}
+use Rattle.lbp16.specs.declared.Rule.{Rule}
 use Rattle.packet.specs.Step.{Step}
 use Rattle.packet.specs.Command.{pick_kind}
 use Rattle.packet.specs.Rules.{first}
@@ -135,6 +139,7 @@ record_leaves k rest room old rg rm good q n out room₂ t e =
       ranged =
           record {
             stands = omega arith;
+            known = λ h. omega arith;
             collected = omega arith;
             bytes = rg.bytes;
             index = omega (arith, rg.index, w.few);
@@ -142,3 +147,8 @@ record_leaves k rest room old rg rm good q n out room₂ t e =
           };
       rooms = record { held = rw (d, length-wrote) rm.held; lent = rw t.lent rm.lent };
     }
+
+-- a record that no rule refuses
+pub no_err : (r : Result (Unit {0}) Rule) → is_err r ≡ false → ruled r ≡ 0
+no_err (Ok u) e = refl
+no_err (Err rule) e = let z : true ≡ false = e in absurd cc

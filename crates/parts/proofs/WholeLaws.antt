@@ -141,7 +141,7 @@ module _ (index : ℕ) (packet : Held) where
 module _ (p : Packer) (index : ℕ) (rest room : List ℕ) (s : Sound p) (few : index ≤ most_records) (held : length room ≡ 1476) where
   plain-ranged : (bytes : List ℕ) → length bytes ≡ 10 → Ranged (plain bytes p index)
   unfolding plain
-  plain-ranged bytes l = record { stands = omega arith; collected = omega arith; bytes = l; index = few; sound = s }
+  plain-ranged bytes l = record { stands = omega arith; known = λ h. omega arith; collected = omega arith; bytes = l; index = few; sound = s }
 
   pub runs_none : Runs p index rest room (record { taken = 0; packer = p; index = index }) room
   runs_none =

@@ -1,7 +1,7 @@
 -- The inside of private functions' contracts.
-use Rattle.std.specs.Prelude.{ℕ, zero, suc, ◌+◌, ◌*◌, ◌≤◌, ◌<◌, ◌≡◌, List, [], ◌∷◌, ◌++◌}
+use Rattle.std.specs.Prelude.{ℕ, ◌+◌, ◌*◌, ◌≤◌, ◌<◌, ◌≡◌, List, [], ◌∷◌, ◌++◌}
 use Rattle.std.specs.Prelude.{length, take, drop, get_or, eqb, ltb, leb, Bool, true, false, not, ◌&&◌}
-use Rattle.lbp16.specs.Answer.{Answer, accepted, refused}
+use Rattle.lbp16.specs.Answer.{accepted}
 use Rattle.packet.specs.Bytes.{number}
 use Rattle.packet.specs.Command.{limit, pick_kind}
 use Rattle.packet.specs.Step.{Step}
@@ -12,8 +12,7 @@ use Rattle.cue.specs.declared.packer.Packer.{Packer}
 use Rattle.parts.specs.Taking.{State, Taken, Stopped, decided_at, bytes_taken}
 use Rattle.parts.specs.State.{Held, held_packing, held_turned, written, packer_at, pair_at, standing_of}
 use Rattle.cue.specs.Output.{frame_room}
-use Rattle.parts.specs.Parts.{PartCall, part_of}
-use Rattle.parts.specs.declared.call.Outcome.{Outcome}
+use Rattle.parts.specs.Parts.{part_of}
 use Rattle.parts.specs.declared.state.Kept.{Kept}
 use Rattle.parts.specs.declared.take.Stop.{Stop}
 use Rattle.parts.specs.declared.take.Run.{Run}
@@ -58,6 +57,7 @@ pub data Sound (p : Packer) : Type 0 where
 -- what keeps a call's work in range
 pub record Ranged (k : Kept) : Type 0 where
   pub stands : k.stands ≤ 24
+  pub known : 1 < k.stands → 21 ≤ k.stands
   pub collected : k.collected ≤ 9
   pub bytes : length k.bytes ≡ 10
   pub index : k.index ≤ most_records
@@ -123,14 +123,6 @@ pub record Runs (p : Packer) (index : ℕ) (part room : List ℕ) (r : Run) (roo
   pub few : r.index ≤ most_records
   pub going : (bytes old : List ℕ) → length bytes ≡ 10 → Rooms room old
       → Going (start_at (plain bytes p index) room) part old (plain bytes r.packer r.index) 0 r.taken room₂ old
-
--- an answer by its number, 0 if it is no refusal, and its value
-unfoldable pub listed_by : ℕ → ℕ → Answer
-listed_by zero value = accepted (value ∷ [])
-listed_by (suc n) value = refused (suc n) value
-
-unfoldable pub outcome_left : Outcome → List ℕ → List ℕ → PartCall
-outcome_left c state room = record { answer = listed_by c.number c.value; taken = c.taken; state = state; room = room }
 
 -- What keeps a byte from going straight into a state: bytes are not taken, a number is out of its range, or no packet is
 -- open; and a flag that is neither 0 nor 1, which a call would write anew.

@@ -1,8 +1,8 @@
 -- A call of the compiler that is fed in parts, on the lent state and the lent room.
-use Rattle.std.specs.Prelude.{ℕ, List, ◌++◌, Bool, cond, length, drop, ltb}
+use Rattle.std.specs.Prelude.{ℕ, List, ◌++◌, Bool, cond, length, drop, ltb, Result}
 use Rattle.lbp16.specs.Answer.{Answer, refused}
 use Rattle.packet.specs.Verdict.{verdict_listed}
-use Rattle.packet.specs.declared.judge.Verdict.{Verdict}
+use Rattle.lbp16.specs.declared.Refusal.{Refusal}
 use Rattle.parts.specs.Taking.{Stopped, is_going, called, answered}
 use Rattle.parts.specs.State.{Held, held_packing, bad_state, state_of, bytes_of_state}
 use Rattle.cue.specs.Output.{frame_room}
@@ -35,5 +35,5 @@ part_of state part last room =
     (leaves (called held_packing (state_of state) part last) (is_going (state_of state).standing) state room))
 
 -- what the code answers and leaves
-unfoldable pub part_left : Verdict → ℕ → List ℕ → List ℕ → PartCall
+unfoldable pub part_left : Result ℕ Refusal → ℕ → List ℕ → List ℕ → PartCall
 part_left a taken state room = record { answer = verdict_listed a; taken = taken; state = state; room = room }

@@ -3,7 +3,7 @@
 #![tactic(auto)]
 
 use cue::frame;
-use lbp16::Refusal;
+use lbp16::Rule;
 use packet::judge::Verdict;
 
 mod call;
@@ -13,40 +13,17 @@ mod state;
 mod take;
 
 ghost use Rattle.std.specs.Prelude.{◌≡◌};
-ghost use Rattle.packet.specs.Verdict.{verdict_listed};
 ghost use Rattle.parts.specs.Parts.{part_of, part_left};
-ghost use Rattle.parts.specs.Inside.{listed_by};
 ghost use Rattle.parts.specs.Promise.{Promised};
-
-use crate::call::Outcome;
 
 // The state's bytes.
 pub const STATE_BYTES: usize = 1504;
 
 // The bytes written, or why nothing was; `taken` bytes of the part were taken.
-#[derive(Clone, Copy)]
+#[derive(Clone, Copy, Debug, PartialEq, Eq)]
 pub struct Part {
     pub answer: Verdict,
     pub taken: usize,
-}
-
-fn part_of(c: Outcome) -> Part
-    ensures { (verdict_listed result.answer ≡ listed_by c.number c.value) × (result.taken ≡ c.taken) }
-{
-    let taken = c.taken;
-    if c.number == 0 {
-        return Part {
-            answer: Verdict::Accepted(c.value),
-            taken,
-        };
-    }
-    Part {
-        answer: Verdict::Refused(Refusal {
-            number: c.number,
-            place: c.value,
-        }),
-        taken,
-    }
 }
 
 // Takes bytes of a part until a packet is finished and written, a fault shows or the part ends. `last`: the list ends at
@@ -58,21 +35,18 @@ pub fn compile_part(state: &mut [u8], part: &[u8], last: bool, out: &mut [u8]) -
 {
     if out.len() < frame::ROOM {
         return Part {
-            answer: Verdict::Refused(Refusal {
-                number: 26,
-                place: frame::ROOM as u64,
-            }),
+            answer: Err(Rule::OutputRoom.at(frame::ROOM as u64)),
             taken: 0,
         };
     }
     if (part.len() != 1) | (last | (state.len() != STATE_BYTES)) {
-        return part_of(call::called(state, part, last, out));
+        return call::called(state, part, last, out);
     }
     if single::lengthened(state, part[0]) {
         return Part {
-            answer: Verdict::Accepted(0),
+            answer: Ok(0),
             taken: 1,
         };
     }
-    part_of(call::called(state, part, last, out))
+    call::called(state, part, last, out)
 }

@@ -114,7 +114,7 @@ pub(crate) fn completed(k: Kept, part: &[u8], last: bool, s: &mut [u8]) -> bool
     rest[at] = part[0];
     let shown = at + 1;
     let index = k.index;
-    if records::record_refusal(&rest[..shown], index) != 0 {
+    if records::record_refusal(&rest[..shown], index).is_err() {
         return false;
     }
     let packer = untrusted::turned(k.packer, records::record_at(&rest[..shown]));
@@ -122,13 +122,12 @@ pub(crate) fn completed(k: Kept, part: &[u8], last: bool, s: &mut [u8]) -> bool
         return false;
     }
     untrusted::put(packer, &rest[..shown], &mut s[layout::OPEN..]);
-    let bytes = k.bytes;
     let after = Kept {
         stands: 0,
         collected: 0,
-        bytes,
         index: index + 1,
         packer,
+        ..k
     };
     state::save(after, s);
     true

@@ -11,6 +11,7 @@ use crate::state::Kept;
 use cue::packer::Packer;
 use cue::records::{MOST, READ_MARK, WRITE_MARK};
 use cue::{records, untrusted};
+use lbp16::Rule;
 use packet::bytes;
 
 // The state after a byte, and how many bytes were handed out.
@@ -95,15 +96,13 @@ fn record_taken(k: Kept, rest: &[u8], room: &mut [u8], out: &mut [u8]) -> Took
 {
     let t = turned(k.packer, rest, room, out);
     untrusted::put(t.packer, rest, room);
-    let bytes = k.bytes;
-    let packer = t.packer;
     Took {
         kept: Kept {
             stands: 0,
             collected: 0,
-            bytes,
             index: k.index + 1,
-            packer,
+            packer: t.packer,
+            ..k
         },
         written: t.written,
     }
@@ -113,14 +112,10 @@ fn record_taken(k: Kept, rest: &[u8], room: &mut [u8], out: &mut [u8]) -> Took
 fn stopped(k: Kept, stands: u32) -> Kept
     ensures { result ≡ record { stands = stands; collected = 0; bytes = k.bytes; index = k.index; packer = k.packer } }
 {
-    let bytes = k.bytes;
-    let packer = k.packer;
     Kept {
         stands,
         collected: 0,
-        bytes,
-        index: k.index,
-        packer,
+        ..k
     }
 }
 
@@ -136,22 +131,19 @@ fn byte_taken(k: Kept, b: u8, room: &mut [u8], out: &mut [u8]) -> Took
     let shown = at + 1;
     let index = k.index;
     if shown < decided_at(index, &bytes[..shown]) {
-        let packer = k.packer;
         return Took {
             kept: Kept {
                 stands: 0,
                 collected: shown,
                 bytes,
-                index,
-                packer,
+                ..k
             },
             written: 0,
         };
     }
-    let number = records::record_refusal(&bytes[..shown], index);
-    if number != 0 {
+    if let Err(rule) = records::record_refusal(&bytes[..shown], index) {
         return Took {
-            kept: stopped(k, number),
+            kept: stopped(k, rule.number()),
             written: 0,
         };
     }
@@ -163,7 +155,7 @@ fn record_joined(p: Packer, index: usize, rest: &[u8], room: &mut [u8]) -> Run
     requires { Sound p × (index ≤ most_records) × (length room.old ≡ frame_room) }
     ensures { Runs p index rest.now room.old result room.new }
 {
-    if records::record_refusal(rest, index) != 0 {
+    if records::record_refusal(rest, index).is_err() {
         return Run {
             taken: 0,
             packer: p,
@@ -232,16 +224,14 @@ fn stretch_taken(k: Kept, rest: &[u8], room: &mut [u8], out: &mut [u8]) -> Stop
         };
     }
     let run = records_joined(kept.packer, kept.index, &rest[1..], room);
-    let bytes = kept.bytes;
-    let packer = run.packer;
     Stop {
         taken: 1 + run.taken,
         kept: Kept {
             stands: 0,
             collected: 0,
-            bytes,
             index: run.index,
-            packer,
+            packer: run.packer,
+            ..kept
         },
         written: 0,
     }
@@ -278,7 +268,7 @@ fn end_taken(k: Kept, room: &[u8], out: &mut [u8]) -> Took
 {
     if k.collected != 0 {
         return Took {
-            kept: stopped(k, 22),
+            kept: stopped(k, Rule::RecordCut.number()),
             written: 0,
         };
     }

@@ -8,6 +8,13 @@ use native.Mathlib.Nat.{add-zero}
 use native.Mathlib.Numerals.{add-one}
 use lib.ListN.{length, take, drop, drop_of_length-le}
 use lib.Seq.{drop-cons, length-take-le}
+use lib.Dec.{eqb}
+use borrow.Author.Tests.{ne_eqb}
+use Rattle.std.specs.Prelude.{Result, Ok, Err}
+use Rattle.std.specs.Result.{is_ok}
+use Rattle.lbp16.specs.Answer.{rule_number, ruled}
+use Rattle.lbp16.specs.declared.Rule.{Rule}
+use Rattle.lbp16.proofs.RuleLaws.{rule_number_range}
 use Rattle.packet.specs.Command.{pick_kind}
 use Rattle.packet.proofs.SliceLaws.{tail-whole}
 use Rattle.cue.specs.Records.{record_kind, record_bytes, record_at}
@@ -15,6 +22,11 @@ use Rattle.cue.specs.declared.records.Record.{Record}
 use Rattle.salvage.specs.Salvage.{stands, size_at, Stretch, kept, skipped, skip, scan, scan_from}
 use Rattle.salvage.specs.Inside.{gap_of, first_span, span_of}
 use Rattle.salvage.proofs.ScanLaws.{stands-whole, scan-kept, scan-skip}
+
+-- a record that no rule refuses
+pub ok_none : (r : Result (Unit {0}) Rule) → is_ok r ≡ eqb (ruled r) 0
+ok_none (Ok u) = refl
+ok_none (Err rule) = let some = rule_number_range rule in sym (ne_eqb (rule_number rule) 0 (λ z. omega arith))
 
 pub size_is : (rest : List ℕ) (r : Record) (n : ℕ) → r ≡ record_at rest → n ≡ record_bytes (pick_kind r.write) → n ≡ size_at rest
 unfolding record_at record_kind size_at

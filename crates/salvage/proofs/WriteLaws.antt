@@ -4,8 +4,7 @@ use mathlib.Core.Path.{◌≡◌, refl, ap, ◌∙◌}
 use mathlib.Core.List.{List, [], ◌∷◌, ◌++◌}
 use mathlib.Core.Bool.{true, false}
 use native.Mathlib.Omega.{arith}
-use native.Mathlib.Numerals.{add-one}
-use lib.ListN.{length, take, drop, set, length-append, length-drop}
+use lib.ListN.{length, take, drop, length-append, length-drop}
 use lib.Seq.{sets, sets-eq, drop-drop, take-append_seam, drop-append-add, length-take-le}
 use Rattle.packet.proofs.SliceLaws.{tail-whole}
 use Rattle.salvage.specs.Salvage.{Stretch, scan, bytes_of_kept, log_from, entry_count, counted, output, logged, entries}
@@ -40,9 +39,6 @@ module _ (s : Span) (at : ℕ) where
 
   pub entry-fits : (n k : ℕ) → s.kept ≡ false → n + length (entry_part s at) ≤ k → n + 2 ≤ k
   entry-fits n k e f = omega (arith, ap length (entry_skipped e))
-
-  pub entry-put : (log : List ℕ) (n : ℕ) → s.kept ≡ false → set (set log n at) (n + 1) s.bytes ≡ sets log n (entry_part s at)
-  entry-put log n e = rw (entry_skipped e, add-one) refl
 
 -- a part put behind what stands at a room's front
 front-more : (old front part all room : List ℕ) (at : ℕ) → room ≡ front ++ drop (length front) old → at ≡ length front

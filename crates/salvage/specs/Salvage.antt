@@ -1,10 +1,11 @@
 -- Saving what can be saved of a damaged cue list.
-use Rattle.std.specs.Prelude.{ℕ, zero, suc, ◌+◌, ◌/◌, List, [], ◌∷◌, ◌++◌, Bool, cond, length, take, drop, eqb, ltb}
+use Rattle.std.specs.Prelude.{ℕ, zero, suc, ◌+◌, ◌/◌, List, [], ◌∷◌, ◌++◌, Bool, cond, length, take, drop, eqb, ltb, Result, Ok, Err}
 use Rattle.lbp16.specs.Answer.{Answer, refusal}
 use Rattle.packet.specs.Rules.{first}
 use Rattle.cue.specs.Records.{record_refusals, record_kind, record_bytes}
 use Rattle.salvage.specs.declared.scan.Counts.{Counts}
-use Rattle.salvage.specs.declared.SalvageAnswer.{SalvageAnswer}
+use Rattle.lbp16.specs.declared.Refusal.{Refusal}
+use Rattle.salvage.specs.declared.Kept.{Kept}
 
 -- Whether a record that passes 22 to 24 stands at the front. It is judged as a list's first, so that 21 plays no part.
 unfoldable pub stands : List ℕ → Bool
@@ -90,10 +91,10 @@ salvaged list room log =
     }))
 
 -- an answer of the code as the papers list it
-unfoldable pub salvage_listed : SalvageAnswer → Answer
-salvage_listed (SalvageAnswer.Salvaged bytes count) = Answer.accepted (bytes ∷ count ∷ [])
-salvage_listed (SalvageAnswer.Refused r) = refusal r
+unfoldable pub salvage_listed : Result Kept Refusal → Answer
+salvage_listed (Ok k) = Answer.accepted (k.bytes ∷ k.entries ∷ [])
+salvage_listed (Err r) = refusal r
 
 -- what a salvage by the code answers and leaves
-abbrev pub left : SalvageAnswer → List ℕ → List ℕ → Salvaged
+abbrev pub left : Result Kept Refusal → List ℕ → List ℕ → Salvaged
 left a room log = record { answer = salvage_listed a; room = room; log = log }

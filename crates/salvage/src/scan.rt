@@ -6,14 +6,15 @@ ghost use Rattle.salvage.specs.Inside.{gap_of, first_span, tally, Roomy};
 use cue::records;
 
 // A stretch of a list by its length: a record kept, or bytes skipped.
-#[derive(Clone, Copy)]
+// Both kinds have a length, by which the scan goes on, so that it is no field of either.
+#[derive(Clone, Copy, Debug, PartialEq, Eq)]
 pub(crate) struct Span {
     pub(crate) kept: bool,
     pub(crate) bytes: usize,
 }
 
 // What is kept and skipped of a list: records and their bytes, and stretches.
-#[derive(Clone, Copy)]
+#[derive(Clone, Copy, Debug, PartialEq, Eq)]
 pub struct Counts {
     pub records: usize,
     pub bytes: usize,
@@ -21,10 +22,11 @@ pub struct Counts {
 }
 
 // Judged as a list's first record, so that 21 plays no part.
+#[tactic(auto, using(crate::proofs::SpanLaws::ok_none), unfolding(crate::specs::Salvage::stands))]
 fn stands_at(rest: &[u8]) -> bool
     ensures { result ≡ stands rest.now }
 {
-    records::record_refusal(rest, 0) == 0
+    records::record_refusal(rest, 0).is_ok()
 }
 
 fn size_at(rest: &[u8]) -> usize
@@ -38,14 +40,12 @@ fn size_at(rest: &[u8]) -> usize
 fn gap_at(rest: &[u8]) -> usize
     ensures { result ≡ gap_of (scan rest.now) }
 {
-    let mut n: usize = 0;
-    while n < rest.len() {
+    for n in 0..rest.len() {
         if stands_at(&rest[n..]) {
             return n;
         }
-        n += 1;
     }
-    n
+    rest.len()
 }
 
 // The first stretch, of no bytes where the list has none.
@@ -65,7 +65,7 @@ pub(crate) fn span_at(rest: &[u8]) -> Span
 }
 
 impl Counts {
-    pub fn none() -> Counts
+    pub fn none() -> Self
         ensures { result ≡ counted [] }
     {
         Counts {
@@ -85,13 +85,12 @@ pub(crate) fn tallied(c: Counts, s: Span) -> Counts
         return Counts {
             records: c.records + 1,
             bytes: c.bytes + s.bytes,
-            entries: c.entries,
+            ..c
         };
     }
     Counts {
-        records: c.records,
-        bytes: c.bytes,
         entries: c.entries + 1,
+        ..c
     }
 }
 

@@ -27,9 +27,7 @@ fn put_entry(log: &mut [u64], entries: usize, at: usize, s: Span)
         return;
     }
     let first = 2 * entries;
-    log[first] = at as u64;
-    let second = first + 1;
-    log[second] = s.bytes as u64;
+    log[first..first + 2].copy_from_slice(&[at as u64, s.bytes as u64]);
 }
 
 pub(crate) fn write(list: &[u8], out: &mut [u8], log: &mut [u64])

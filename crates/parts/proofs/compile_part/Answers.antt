@@ -2,7 +2,7 @@ use lib.ListN.{length}
 use native.Mathlib.Omega.{arith}
 use Rattle.parts.proofs.SingleLaws.{one-test, single_taken, single_still}
 use Rattle.parts.proofs.Promise.{promise}
-use Rattle.parts.proofs.CallLaws.{no_room, part-is}
+use Rattle.parts.proofs.CallLaws.{no_room}
 use Rattle.parts.proofs.compile_part.Goals as goal
 
 -- a lemma's facts, as the clauses have names
@@ -11,13 +11,13 @@ named2 f h = f h.0 h.1
 
 pub returns-then-out-lt-ROOM : goal.returns-then-out-lt-ROOM
 returns-then-out-lt-ROOM c = record {
-  compiled = no_room _ _ _ _ c.if-out-lt-ROOM.true;
+  compiled = rw c.at.ensures (no_room _ _ _ _ c.if-out-lt-ROOM.true);
   promise = λ list at out s calls. promise calls;
 }
 
 pub returns-then-part-last : goal.returns-then-part-last
 returns-then-part-last c = record {
-  compiled = part-is _ _ _ _ _ _ _ c.called.ensures _ c.part_of.ensures;
+  compiled = c.called.ensures;
   promise = λ list at out s calls. promise calls;
 }
 
@@ -37,8 +37,6 @@ returns-then-lengthened c = named2 (λ h0 h1. record { compiled = h0; promise = 
 
 pub returns : goal.returns
 returns c = named2 (λ h0 h1. record { compiled = h0; promise = h1 }) ((
-  part-is _ _ _ _ _ _ _
-      (single_still c.lengthened.ensures c.if-lengthened.false _ _ _ _ _ _ c.called-2.ensures) _
-      c.part_of-2.ensures,
+  single_still c.lengthened.ensures c.if-lengthened.false _ _ _ _ _ _ c.called-2.ensures,
   λ list at out s calls. promise calls,
 ))

@@ -16,6 +16,11 @@ pub returns-then-kept-ne0 : goal.returns-then-kept-ne0
 returns-then-kept-ne0 c = stands_already _ _ _ _ c.requires c.if-state-ne-STATE_BYTES.false _ c.load-kept.ensures _ c.bad.ensures c.if-bad.false
     c.if-kept-ne0.true _ c.answered.ensures
 
+pub answered-requires : goal.answered-requires
+answered-requires c =
+    kept-ranged c.args.state.now [] false c.args.out.now c.requires c.if-state-ne-STATE_BYTES.false _ c.load-kept.ensures _
+    c.bad.ensures c.if-bad.false
+
 pub completed-requires : goal.completed-requires
 completed-requires c = (c.if-state-ne-STATE_BYTES.false, c.load-kept.ensures, sym c.bad.ensures ∙ c.if-bad.false, c.if-kept-ne0.false)
 

@@ -1,4 +1,5 @@
-use mathlib.Core.Path.{refl}
+use mathlib.Core.Path.{refl, sym, ◌∙◌}
+use Rattle.parts.proofs.TakeLaws.{no_err}
 use mathlib.Core.List.{[]}
 use mathlib.Core.Bool.{false}
 use native.Mathlib.Omega.{arith}
@@ -25,8 +26,8 @@ slice_bounds-rest-end c = shown-fits _ _ (let p = c.requires in completed_kept c
 pub slice_bounds-record_refusal-end : goal.slice_bounds-record_refusal-end
 slice_bounds-record_refusal-end c = shown-length _ _ (let p = c.requires in completed_kept c.args.s.now [] false p.0 _ p.1 p.2)
 
-pub returns-then-record_refusal-ne0 : goal.returns-then-record_refusal-ne0
-returns-then-record_refusal-ne0 c = record { taken = no_true; still = λ e. refl }
+pub returns-then-is_err : goal.returns-then-is_err
+returns-then-is_err c = record { taken = no_true; still = λ e. refl }
 
 pub slice_bounds-rest-end-2 : goal.slice_bounds-rest-end-2
 slice_bounds-rest-end-2 c = shown-fits _ _ (let p = c.requires in completed_kept c.args.s.now [] false p.0 _ p.1 p.2)
@@ -49,15 +50,15 @@ overflow_add-after c = omega (arith, (let p = c.requires in completed_kept c.arg
 pub save-requires : goal.save-requires
 save-requires c = let p = c.requires in (
   completed_fits c.args.s.now c.args.part.now _ p.0 _ p.1 p.2 p.3 c.if-part-last.false _
-      c.record_refusal.ensures c.if-record_refusal-ne0.false _ c.record_at.ensures _ c.turned-packer.ensures
+      c.record_refusal.ensures (no_err _ (sym c.is_err.ensures.value ∙ c.if-is_err.false)) _ c.record_at.ensures _ c.turned-packer.ensures
       c.if-packer-eq2.false _ c.put.ensures,
   completed_ranged c.args.s.now c.args.part.now _ p.0 _ p.1 p.2 p.3 c.if-part-last.false _
-      c.record_refusal.ensures c.if-record_refusal-ne0.false _ c.record_at.ensures _ c.turned-packer.ensures
+      c.record_refusal.ensures (no_err _ (sym c.is_err.ensures.value ∙ c.if-is_err.false)) _ c.record_at.ensures _ c.turned-packer.ensures
       c.if-packer-eq2.false _ c.put.ensures,
 )
 
 pub returns : goal.returns
 returns c = let p = c.requires in
     completed_is c.args.s.now c.args.part.now _ p.0 _ p.1 p.2 p.3 c.if-part-last.false _
-    c.record_refusal.ensures c.if-record_refusal-ne0.false _ c.record_at.ensures _ c.turned-packer.ensures
+    c.record_refusal.ensures (no_err _ (sym c.is_err.ensures.value ∙ c.if-is_err.false)) _ c.record_at.ensures _ c.turned-packer.ensures
     c.if-packer-eq2.false _ c.put.ensures _ c.save.ensures

@@ -3,7 +3,7 @@ use Rattle.parts.proofs.PartLaws.{end-cut, end_whole}
 use Rattle.parts.proofs.take.end_taken.Goals as goal
 
 pub returns-then-k-ne0 : goal.returns-then-k-ne0
-returns-then-k-ne0 c = let p = c.requires in end-cut _ _ _ p.0 p.1 c.if-k-ne0.true _ c.stopped.ensures
+returns-then-k-ne0 c = let p = c.requires in end-cut _ _ _ p.0 p.1 c.if-k-ne0.true _ (rw c.number.ensures at c.stopped.ensures)
 
 pub slice_bounds-put_front-end : goal.slice_bounds-put_front-end
 slice_bounds-put_front-end c = let p = c.requires in front_length _ _ p.0.sound p.1.held
