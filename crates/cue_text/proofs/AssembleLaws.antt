@@ -9,13 +9,14 @@ use lib.ListN.{length, take, drop}
 use lib.Seq.{sets, sets-eq, take-append_seam}
 use lib.Dec.{ltb}
 use borrow.Author.Tests.{lt-ltb, le-ltb}
+use Rattle.std.proofs.Common.{Result}
 use Rattle.lbp16.specs.Answer.{Answer, refusal}
 use Rattle.lbp16.specs.declared.Refusal.{Refusal}
 use Rattle.cue_text.specs.Assembled.{Assembled, bad, cues, assembled, list_of, Left, placed, assembled_to, text_assembled, text_listed, left}
 use Rattle.cue_text.specs.TextShow.{TextShow}
 use Rattle.cue_text.specs.Inside.{answered}
 use Rattle.cue_text.specs.declared.line.Cue.{Cue}
-use Rattle.cue_text.specs.declared.TextAnswer.{TextAnswer}
+use Rattle.cue_text.specs.declared.Written.{Written}
 use Rattle.cue_text.proofs.ShowLaws.{text-show}
 
 -- the answer to a text by that of the walk
@@ -92,7 +93,7 @@ accepted-list text room bytes count e = go (assembled text) refl e
             record { cs = cs; same = f; list-is = rw q (take-append_seam (list_of cs) (drop (length (list_of cs)) room)) }
 
 -- What an accepted text's list does is what its lines say.
-pub shown : (text room room₁ : List ℕ) (r : TextAnswer) → left r room₁ ≡ text_assembled text room
+pub shown : (text room room₁ : List ℕ) (r : Result Written Refusal) → left r room₁ ≡ text_assembled text room
     → (left r room₁ ≡ text_assembled text room)
     × ((bytes count : ℕ) → text_listed r ≡ Answer.accepted (bytes ∷ count ∷ []) → TextShow text (take bytes room₁))
 unfolding left

@@ -8,20 +8,20 @@ use native.Mathlib.Decide.{dec_le}
 use lib.Dec.{eqb, ltb}
 use lib.ListN.{length, get_or, take, drop, drop_of_length-le}
 use lib.Seq.{take-nil, drop-nil, drop-drop, get_or-drop}
-use borrow.Author.Tests.{ltb-true, ltb-false, not-true, not-false, eq-eqb, ne_eqb}
+use borrow.Author.Tests.{ltb-true, ltb-false, ne_eqb}
 use Rattle.text.specs.Find.{bytes_before}
 use Rattle.cue_text.specs.Words.{newline, lines_of, words_of}
 use Rattle.packet.specs.Rules.{first}
 use Rattle.list_reason.specs.ListReason.{element_causes, element_named}
-use Rattle.cue_text.specs.Numbers.{Value, none, value, space_of, address_of, is_name}
+use Rattle.std.proofs.Common.{is_none}
+use Rattle.cue_text.specs.Numbers.{space_of, address_of, is_name}
 use Rattle.cue_text.specs.Text
 use Rattle.cue_text.specs.Text.{Form, form_of}
-use Rattle.cue_text.specs.Fault.{fault, place_fault, write_fault, used_fault, defined_fault, cause_numbered, element_fault}
-use Rattle.cue_text.specs.Fault.{line_numbered, is_none, number_in, defines_name, defined, form_fault, fault_of}
-use Rattle.cue_text.specs.Inside.{line_at, line_bytes, words_here, word_in, HoldsWords, given, shape_of, formed, word_numbered}
+use Rattle.cue_text.specs.Fault.{fault, place_fault, write_fault, used_fault, defined_fault, element_fault}
+use Rattle.cue_text.specs.Fault.{line_numbered, number_in, defines_name, defined, form_fault, fault_of}
+use Rattle.cue_text.specs.Inside.{line_at, line_bytes, words_here, word_in, HoldsWords, shape_of, formed, word_numbered, element_fault_numbered}
 use Rattle.cue_text.specs.declared.word.Words.{Words}
 use Rattle.cue_text.specs.declared.line.Shape.{Shape}
-use Rattle.cue_text.specs.declared.number.Number.{Number}
 use Rattle.cue_text.specs.declared.fault.Cause.{Cause}
 use Rattle.cue_text.specs.declared.fault.Fault.{Fault}
 use Rattle.cue_text.proofs.WordLaws.{lines_next, lines_none, line-some, words-at}
@@ -238,70 +238,15 @@ all-few n line text = pick-few (eqb n 21) (few Cause.Records 0 (omega arith)) (f
 pub fault-few : (n line : ℕ) (text : List ℕ) → (fault_of n line text).word ≤ 3
 fault-few n line text = (all-few n line text).low
 
--- a word that is given as a number
-good-is : (v : Value) → (given v).good ≡ not (is_none v)
-unfolding given is_none
-good-is none = refl
-good-is (value n) = refl
+-- a test of two, each turned twice
+pub either : (a b : Bool) {t : Bool} → (a || b) ≡ t → (not (not a) || not (not b)) ≡ t
+either true b e = e
+either false true e = e
+either false false e = e
 
-number_is : (v : Value) → (given v).value ≡ number_in v
-unfolding given number_in
-number_is none = refl
-number_is (value n) = refl
-
-some_number : {r : Number} (v : Value) → r ≡ given v → r.good ≡ true → is_none v ≡ false
-some_number v e g = not-true _ (sym (ap (λ (q : Number). q.good) e ∙ good-is v) ∙ g)
-
-no_number : {r : Number} (v : Value) → r ≡ given v → r.good ≡ false → is_none v ≡ true
-no_number v e g = not-false _ (sym (ap (λ (q : Number). q.good) e ∙ good-is v) ∙ g)
-
-module _ (i : ℕ) (s : List ℕ) {r : Number} (e : r ≡ given (space_of s)) where
-  pub address_wrong : r.good ≡ true → fault Cause.Address (i + 1) ≡ place_fault i s
-  unfolding place_fault
-  address_wrong g = rw (some_number (space_of s) e g) refl
-
-  pub space_wrong : r.good ≡ false → fault Cause.Space i ≡ place_fault i s
-  unfolding place_fault
-  space_wrong g = rw (no_number (space_of s) e g) refl
-
-module _ (s a : List ℕ) {r q : Number} (e : r ≡ given (space_of s)) (f : q ≡ given (address_of a)) where
-  tests : (r.good && q.good) ≡ (not (is_none (space_of s)) && not (is_none (address_of a)))
-  tests =
-      let x = ap (λ (t : Number). t.good) e ∙ good-is (space_of s) in
-      let y = ap (λ (t : Number). t.good) f ∙ good-is (address_of a) in
-      rw (x, y) refl
-
-  pub value_wrong : (r.good && q.good) ≡ true → fault Cause.Value 3 ≡ write_fault s a
-  unfolding write_fault
-  value_wrong t = go (is_none (space_of s)) (is_none (address_of a)) (sym tests ∙ t)
-    where
-      go : (x y : Bool) → (not x && not y) ≡ true → fault Cause.Value 3 ≡ cond (x || y) (place_fault 1 s) (fault Cause.Value 3)
-      go true y t = let z : ◌≡◌ {A = ℕ} 0 1 = cc in absurd (omega arith)
-      go false true t = let z : ◌≡◌ {A = ℕ} 0 1 = cc in absurd (omega arith)
-      go false false t = refl
-
-  pub place_wrong : (r.good && q.good) ≡ false → place_fault 1 s ≡ write_fault s a
-  unfolding write_fault
-  place_wrong t = go (is_none (space_of s)) (is_none (address_of a)) (sym tests ∙ t)
-    where
-      go : (x y : Bool) → (not x && not y) ≡ false → place_fault 1 s ≡ cond (x || y) (place_fault 1 s) (fault Cause.Value 3)
-      go true y t = refl
-      go false true t = refl
-      go false false t = let z : ◌≡◌ {A = ℕ} 0 1 = cc in absurd (omega arith)
-
-module _ (w : Bool) (i : ℕ) (s a : List ℕ) {r q : Number} (e : r ≡ given (space_of s)) (f : q ≡ given (address_of a)) where
-  space-number : r.value ≡ number_in (space_of s)
-  space-number = ap (λ (t : Number). t.value) e ∙ number_is (space_of s)
-
-  address-number : q.value ≡ number_in (address_of a)
-  address-number = ap (λ (t : Number). t.value) f ∙ number_is (address_of a)
-
-  module _ {n : ℕ} (h : n ≡ first (element_causes (element_named w r.value q.value))) where
-    pub absent_wrong : n ≡ 1 → fault Cause.NoSpace i ≡ element_fault w i (number_in (space_of s)) (number_in (address_of a))
-    unfolding element_fault cause_numbered
-    absent_wrong t = rw (← space-number, ← address-number, ← h, eq-eqb n 1 t) refl
-
-    pub element_wrong : (n ≡ 1 → ⊥) → {c : Cause} → c ≡ cause_numbered n
-        → fault c (i + 1) ≡ element_fault w i (number_in (space_of s)) (number_in (address_of a))
-    unfolding element_fault
-    element_wrong t g = rw (← space-number, ← address-number, ← h, g, ne_eqb n 1 t) refl
+-- the words of SPACE and ADDRESS as the code takes them
+module _ (w : Bool) (i : ℕ) (s a : List ℕ) {x y : ℕ} (e : x ≡ number_in (space_of s)) (f : y ≡ number_in (address_of a)) where
+  pub element_wrong : {n : ℕ} → n ≡ first (element_causes (element_named w x y))
+      → element_fault_numbered i n ≡ element_fault w i (number_in (space_of s)) (number_in (address_of a))
+  unfolding element_fault element_fault_numbered
+  element_wrong h = rw (← e, ← f, h) refl

@@ -1,6 +1,6 @@
 -- Laws of names.
 use Prim.Native.Nat.{ℕ, suc, ◌+◌, ◌-◌, ◌/◌, ◌%◌, ◌≤◌, ◌<◌}
-use mathlib.Core.Path.{◌≡◌, refl, ap, ◌∙◌}
+use mathlib.Core.Path.{◌≡◌, refl, sym, ap, ◌∙◌}
 use mathlib.Core.List.{List, [], ◌∷◌, ◌++◌}
 use mathlib.Core.Bool.{Bool, true, false, ◌&&◌, cond}
 use native.Mathlib.Omega.{arith}
@@ -10,37 +10,35 @@ use borrow.Author.Tests.{lt-ltb, le-ltb, ltb-true}
 use Rattle.lbp16.proofs.BoolLaws.{and_true}
 use lib.Seq.{drop-cons}
 use Rattle.text.specs.Find.{same_bytes}
-use Rattle.cue_text.specs.Numbers.{Value, none, value, space_of, address_of, is_letter, is_name_byte, all_name_bytes, starts_with_letter}
+use Rattle.std.proofs.Common.{Option, Some, None, is_some, slice_get, option_copied, Bor}
+use Rattle.std.proofs.lemmas.Option.{none-some, same_Some}
+use Rattle.cue_text.specs.Fault.{number_in}
+use Rattle.cue_text.specs.Numbers.{Value, space_of, address_of, is_letter, starts_with_letter}
 use Rattle.cue_text.specs.Text.{Place, nowhere, place, place_by, place_of, is_known, Name}
-use Rattle.cue_text.specs.Inside.{words_here, word_from, word_in, HoldsWords, given, located, place_in, name_by, defined_at}
+use Rattle.cue_text.specs.Inside.{words_here, word_from, word_in, HoldsWords, located, stands, place_in, name_by, defined_at}
 use Rattle.cue_text.specs.Inside.{near, far, kept_near, is_near, kept, near_name, name_at, names_at}
 use Rattle.cue_text.specs.declared.word.Word.{Word}
 use Rattle.cue_text.specs.declared.word.Words.{Words}
 use Rattle.cue_text.specs.declared.known.Located.{Located}
-use Rattle.cue_text.specs.declared.number.Number.{Number}
 use Rattle.cue_text.proofs.WordLaws.{first_word}
 
 -- a place by its two numbers
-module _ (s a : Value) where
-  pub by_both : ((given s).good && (given a).good) ≡ true
-      → ◌≡◌ {A = Located} (record { found = true; space = (given s).value; address = (given a).value }) (located (place_by s a))
-  unfolding given located place_by
-  by_both e = go s a e
-    where
-      go : (s a : Value) → ((given s).good && (given a).good) ≡ true
-          → ◌≡◌ {A = Located} (record { found = true; space = (given s).value; address = (given a).value }) (located (place_by s a))
-      go none a e = let z : ◌≡◌ {A = ℕ} 0 1 = cc in absurd (omega arith)
-      go (value s) none e = let z : ◌≡◌ {A = ℕ} 0 1 = cc in absurd (omega arith)
-      go (value s) (value a) e = refl
+module _ (x y : Value) where
+  pub by_both : {s a : ℕ} → x ≡ Some s → y ≡ Some a → ◌≡◌ {A = Option Located} (Some (record { space = s; address = a })) (located (place_by x y))
+  unfolding located place_by
+  by_both e f = rw (e, f) refl
 
-  pub by-none : ((given s).good && (given a).good) ≡ false → located nowhere ≡ located (place_by s a)
-  unfolding given place_by
-  by-none e = go s a e
+  pub by-first : x ≡ None → ◌≡◌ {A = Option Located} None (located (place_by x y))
+  unfolding located place_by
+  by-first e = rw e refl
+
+  pub by-second : y ≡ None → ◌≡◌ {A = Option Located} None (located (place_by x y))
+  unfolding located place_by
+  by-second e = rw e (go x)
     where
-      go : (s a : Value) → ((given s).good && (given a).good) ≡ false → located nowhere ≡ located (place_by s a)
-      go none a e = refl
-      go (value s) none e = refl
-      go (value s) (value a) e = let z : ◌≡◌ {A = ℕ} 0 1 = cc in absurd (omega arith)
+      go : (x : Value) → ◌≡◌ {A = Option Located} None (located (place_by x None))
+      go None = refl
+      go (Some s) = refl
 
 -- a place that is given, read back
 pub place_in_lem : (p : Place) → place_in (located p) ≡ p
@@ -48,7 +46,7 @@ unfolding place_in located
 place_in_lem nowhere = refl
 place_in_lem (place s a) = refl
 
-pub known_is : (p : Place) → (located p).found ≡ is_known p
+pub known_is : (p : Place) → is_some (located p) ≡ is_known p
 unfolding located is_known
 known_is nowhere = refl
 known_is (place s a) = refl
@@ -61,12 +59,11 @@ defined-is text rest k w e f g =
     let q : word_in rest w ≡ get_or (words_here [] (drop k text)) 0 [] = rw (f, ← e) (first_word rest) in
     g ∙ q
 
-pub defined-place : (text rest p q : List ℕ) (k : ℕ) (w : Words) (s a : Number) → rest ≡ drop k text → HoldsWords rest w → p ≡ word_in rest w.second
-    → q ≡ word_in rest w.third → s ≡ given (space_of p) → a ≡ given (address_of q)
-    → ◌≡◌ {A = Located} (record { found = true; space = s.value; address = a.value })
-    (located (place (defined_at text k).space (defined_at text k).address))
-unfolding located defined_at name_by
-defined-place text rest p q k w s a e h f g i j = rw (i, j, f, g, h.second, h.third, ← e) refl
+pub defined-place : (text rest p q : List ℕ) (k : ℕ) (w : Words) {s a : ℕ} → rest ≡ drop k text → HoldsWords rest w → p ≡ word_in rest w.second
+    → q ≡ word_in rest w.third → s ≡ number_in (space_of p) → a ≡ number_in (address_of q)
+    → ◌≡◌ {A = Located} (record { space = s; address = a }) (stands (defined_at text k))
+unfolding stands defined_at name_by
+defined-place text rest p q k w e h f g i j = rw (i, j, f, g, h.second, h.third, ← e) refl
 
 -- a name by the number that it is kept as
 module _ (text : List ℕ) (x : ℕ) where
@@ -85,18 +82,15 @@ module _ (text : List ℕ) (x : ℕ) where
       let n : x / 16777216 + x / 524288 % 32 + 1 - x / 16777216 ≡ x / 524288 % 32 + 1 = omega arith in
       rw (kept_near_lem h) (rw n at e)
 
-  pub near-place : x < far
-      → ◌≡◌ {A = Located} (record { found = true; space = x / 65536 % 8; address = x % 65536 })
-      (located (place (name_at text x).space (name_at text x).address))
-  unfolding located near_name
+  pub near-place : x < far → ◌≡◌ {A = Located} (record { space = x / 65536 % 8; address = x % 65536 }) (stands (name_at text x))
+  unfolding stands near_name
   near-place h = rw (kept_near_lem h) refl
 
   pub far-bytes : (rest : List ℕ) (w : Word) → far ≤ x → rest ≡ drop (x - far) text → w ≡ word_from rest 0 → {part : List ℕ} → part ≡ word_in rest w
       → part ≡ (name_at text x).name
   far-bytes rest w h e f g = rw (kept-far h) (defined-is text rest (x - far) w e f g)
 
-  pub far-place : far ≤ x → {p : Located} → p ≡ located (place (defined_at text (x - far)).space (defined_at text (x - far)).address)
-      → p ≡ located (place (name_at text x).space (name_at text x).address)
+  pub far-place : far ≤ x → {p : Located} → p ≡ stands (defined_at text (x - far)) → p ≡ stands (name_at text x)
   far-place h e = rw (kept-far h) e
 
 module _ (k n s a : ℕ) where
@@ -164,26 +158,23 @@ unfolding names_at
 names_more text [] k = refl
 names_more text (j ∷ table) k = ap (λ (xs : List Name). name_at text j ∷ xs) (names_more text table k)
 
--- a word's bytes, byte by byte
-module _ (word : List ℕ) (i : ℕ) where
-  pub bytes_next : i < length word → is_name_byte (get_or word i 0) ≡ true → all_name_bytes (drop i word) ≡ all_name_bytes (drop (i + 1) word)
-  unfolding all_name_bytes
-  bytes_next h e = rw (drop-cons word i 0 h, e, add-one) refl
+module _ (word : List ℕ) {o : Option (Bor ℕ)} (e : option_copied o ≡ slice_get word 0) where
+  pub letter_none : o ≡ None → false ≡ starts_with_letter word
+  unfolding starts_with_letter
+  letter_none f = go word (sym e ∙ ap option_copied f)
+    where
+      go : (word : List ℕ) → slice_get word 0 ≡ None → false ≡ starts_with_letter word
+      go [] e = refl
+      go (b ∷ word) e = absurd (none-some b (sym e))
 
-  pub bytes-bad : i < length word → is_name_byte (get_or word i 0) ≡ false → all_name_bytes (drop i word) ≡ false
-  unfolding all_name_bytes
-  bytes-bad h e = rw (drop-cons word i 0 h, e) refl
+  pub letter_first : {b : Bor ℕ} → o ≡ Some b → is_letter b.now ≡ starts_with_letter word
+  unfolding starts_with_letter
+  letter_first {b} f = go word (sym e ∙ ap option_copied f)
+    where
+      go : (word : List ℕ) → slice_get word 0 ≡ Some b.now → is_letter b.now ≡ starts_with_letter word
+      go [] e = absurd (none-some b.now e)
+      go (c ∷ word) e = ap is_letter (same_Some b.now c (sym e))
 
-  pub bytes-end : length word ≤ i → all_name_bytes (drop i word) ≡ true
-  unfolding all_name_bytes
-  bytes-end h = rw (drop_of_length-le word h) refl
-
-pub letter_none : (word : List ℕ) → length word ≡ 0 → false ≡ starts_with_letter word
-unfolding starts_with_letter
-letter_none [] h = refl
-letter_none (b ∷ word) h = absurd (omega arith)
-
-pub letter_first : (word : List ℕ) → 0 < length word → is_letter (get_or word 0 0) ≡ starts_with_letter word
-unfolding starts_with_letter
-letter_first [] h = absurd (omega arith)
-letter_first (b ∷ word) h = refl
+pub stands-at : (x : Name) → Some (stands x) ≡ located (place x.space x.address)
+unfolding stands located
+stands-at x = refl

@@ -1,8 +1,8 @@
 -- Laws of words as numbers.
 use Prim.Native.Nat.{ℕ, zero, suc, ◌+◌, ◌*◌, min, ◌≤◌, ◌<◌}
-use mathlib.Core.Path.{◌≡◌, refl, ◌∙◌}
+use mathlib.Core.Path.{◌≡◌, refl}
 use mathlib.Core.List.{List, [], ◌∷◌}
-use mathlib.Core.Bool.{Bool, true, false, ◌&&◌, ◌||◌, cond, and-false}
+use mathlib.Core.Bool.{Bool, true, false, not, ◌&&◌, ◌||◌, cond, and-false}
 use native.Mathlib.Omega.{arith}
 use native.Mathlib.Nat.{mul-le-mul}
 use native.Mathlib.Numerals.{add-one}
@@ -11,11 +11,12 @@ use lib.ListN.{length, get_or, drop, length-drop, drop_of_length-le}
 use lib.Seq.{drop-cons}
 use lib.Dec.{eqb, ltb}
 use borrow.Author.Tests.{lt-ltb, le-ltb, ne_eqb}
+use Rattle.std.proofs.Common.{Option, Some, None, Result, Ok, Err, OkIff}
+use Rattle.std.specs.Result.{result_ok}
 use Rattle.text.specs.Number.{ascii}
 use Rattle.text.specs.Find.{hex_value, same_bytes}
-use Rattle.cue_text.specs.Numbers.{Value, none, value, all_digits, digits_from, digits_value, is_hex, number_of, up_to, address_of, value_of, space_of}
-use Rattle.cue_text.specs.Inside.{most_held, held_at, given, kept_to, value_in}
-use Rattle.cue_text.specs.declared.number.Number.{Number}
+use Rattle.cue_text.specs.Numbers.{Value, all_digits, digits_from, digits_value, is_hex, number_of, up_to, address_of, value_of, space_of}
+use Rattle.cue_text.specs.Inside.{most_held}
 
 -- digits make a number no smaller
 digits_up : (base n : ℕ) (cs : List ℕ) → 1 ≤ base → n ≤ digits_from base n cs
@@ -24,71 +25,58 @@ digits_up base n [] h = omega arith
 digits_up zero n (c ∷ cs) h = absurd (omega arith)
 digits_up (suc k) n (c ∷ cs) h = let g = digits_up (suc k) (suc k * n + hex_value c) cs h in omega arith
 
--- A number may be held on the way.
-held-digits : (base n : ℕ) (cs : List ℕ) → 1 ≤ base
-    → min (digits_from base (min n most_held) cs) most_held ≡ min (digits_from base n cs) most_held
-held-digits base n cs h = go (dec_le n most_held)
-  where
-    go : Dec (n ≤ most_held) → min (digits_from base (min n most_held) cs) most_held ≡ min (digits_from base n cs) most_held
-    go (yes l) = let e : min n most_held ≡ n = omega arith in rw e refl
-    go (no l) =
-        let e : min n most_held ≡ most_held = omega arith in
-        rw e (omega (arith, digits_up base most_held cs h, digits_up base n cs h))
-
--- the digits so far, held
-pub record Reading (word : List ℕ) (from base n i : ℕ) : Type 0 where
-  pub number : min (digits_from base n (drop i word)) most_held ≡ min (digits_from base 0 (drop from word)) most_held
-  pub all : all_digits base (drop i word) ≡ all_digits base (drop from word)
+-- the digits so far
+pub record Reading (word : List ℕ) (base n i : ℕ) : Type 0 where
+  pub number : digits_from base n (drop i word) ≡ digits_from base 0 word
+  pub all : all_digits base (drop i word) ≡ all_digits base word
   pub held : n ≤ most_held
 
-pub read_first : (word : List ℕ) (from base : ℕ) → Reading word from base 0 from
-read_first word from base = record { number = refl; all = refl; held = omega arith }
+pub read_first : (word : List ℕ) (base : ℕ) → Reading word base 0 0
+read_first word base = record { number = refl; all = refl; held = omega arith }
 
-module _ (word : List ℕ) (from base n i : ℕ) (r : Reading word from base n i) where
-  pub held_fits : base ≤ 16 → {d : ℕ} → d < base → base * n + d < 18446744073709551616
-  held_fits h {d} k = let m = mul-le-mul {n₁ = base} {m₁ = n} {n₂ = 16} {m₂ = most_held} h r.held in omega arith
+-- a number that is too large
+too_large : (t : Bool) (n : ℕ) → most_held < n → None ≡ up_to most_held (cond t (Some n) None)
+unfolding up_to
+too_large true n h = rw (lt-ltb most_held n h) refl
+too_large false n h = refl
 
-  pub read-bad : i < length word → base ≤ hex_value (get_or word i 0)
-      → given none ≡ given (held_at (digits_value base (drop from word)))
-  unfolding all_digits digits_value held_at
+module _ (word : List ℕ) (base n i : ℕ) (r : Reading word base n i) where
+  pub read-bad : i < length word → base ≤ hex_value (get_or word i 0) → None ≡ up_to most_held (digits_value base word)
+  unfolding all_digits digits_value up_to
   read-bad h l =
-      let e : false ≡ all_digits base (drop from word) =
-      rw (drop-cons word i 0 h, le-ltb (hex_value (get_or word i 0)) base l) at r.all in
+      let e : false ≡ all_digits base word = rw (drop-cons word i 0 h, le-ltb (hex_value (get_or word i 0)) base l) at r.all in
       rw (← e) refl
 
-  pub read_next : 1 ≤ base → i < length word → hex_value (get_or word i 0) < base → {m : ℕ}
-      → m ≡ min (base * n + hex_value (get_or word i 0)) most_held → Reading word from base m (i + 1)
+  pub read-over : 1 ≤ base → i < length word → most_held < base * n + hex_value (get_or word i 0)
+      → None ≡ up_to most_held (digits_value base word)
+  unfolding digits_from digits_value
+  read-over b h l =
+      let d = hex_value (get_or word i 0) in
+      let e : digits_from base (base * n + d) (drop (suc i) word) ≡ digits_from base 0 word = rw (drop-cons word i 0 h) at r.number in
+      let g = digits_up base (base * n + d) (drop (suc i) word) b in
+      too_large (all_digits base word && not (eqb (length word) 0)) (digits_from base 0 word) (omega (arith, e, g, l))
+
+  pub read_next : i < length word → hex_value (get_or word i 0) < base → {m : ℕ} → m ≡ base * n + hex_value (get_or word i 0)
+      → m ≤ most_held → Reading word base m (i + 1)
   unfolding all_digits digits_from
-  read_next b h l {m} e =
+  read_next h l {m} e few =
       record {
-        number =
-            rw (e, add-one)
-            (held-digits base (base * n + hex_value (get_or word i 0)) (drop (suc i) word) b ∙ rw (drop-cons word i 0 h) at r.number);
+        number = rw (e, add-one) (rw (drop-cons word i 0 h) at r.number);
         all = rw add-one (rw (drop-cons word i 0 h, lt-ltb (hex_value (get_or word i 0)) base l) at r.all);
-        held = omega arith;
+        held = few;
       }
 
-  pub read-last : length word ≤ i
-      → ◌≡◌ {A = Number} (record { good = ltb from (length word); value = n }) (given (held_at (digits_value base (drop from word))))
-  unfolding all_digits digits_from digits_value held_at given
-  read-last l = go (dec_le (length word) from)
-    where
-      number : min n most_held ≡ min (digits_from base 0 (drop from word)) most_held
-      number = rw (drop_of_length-le word l) at r.number
+  pub read-last : length word ≤ i → 0 < length word → Some n ≡ up_to most_held (digits_value base word)
+  unfolding all_digits digits_from digits_value up_to
+  read-last l some =
+      let number : n ≡ digits_from base 0 word = rw (drop_of_length-le word l) at r.number in
+      let all : true ≡ all_digits base word = rw (drop_of_length-le word l) at r.all in
+      rw (← all, ne_eqb (length word) 0 (omega arith), ← number, le-ltb most_held n r.held) refl
 
-      all : true ≡ all_digits base (drop from word)
-      all = rw (drop_of_length-le word l) at r.all
-
-      go : Dec (length word ≤ from) → ◌≡◌ {A = Number} (record { good = ltb from (length word); value = n })
-          (given (held_at (digits_value base (drop from word))))
-      go (yes h) =
-          let q : min n most_held ≡ 0 = rw (drop_of_length-le word h) at number in
-          let z : n ≡ 0 = omega (arith, r.held) in
-          rw (drop_of_length-le word h, le-ltb from (length word) h, z) refl
-      go (no h) =
-          let k : length (drop from word) ≡ 0 → ⊥ = λ q. omega (arith, length-drop from word) in
-          let v : n ≡ min (digits_from base 0 (drop from word)) most_held = omega (arith, r.held, number) in
-          rw (← all, ne_eqb (length (drop from word)) 0 k, lt-ltb from (length word) (omega arith), ← v) refl
+pub read-none : (word : List ℕ) (base : ℕ) → length word ≡ 0 → None ≡ up_to most_held (digits_value base word)
+unfolding all_digits digits_value up_to
+read-none [] base h = refl
+read-none (c ∷ word) base h = absurd (omega arith)
 
 -- 0x and 0X
 pub hex_short : (w : List ℕ) → length w < 2 → false ≡ is_hex w
@@ -109,52 +97,21 @@ hex_two (a ∷ b ∷ w) h = go (eqb a 48) (eqb b 120) (eqb b 88)
     go true false false = refl
     go false u v = refl
 
--- a held number is as good as the number, where the most is below what it is held at
-pub kept-is : (most : ℕ) (v : Value) → most ≤ 4294967295 → kept_to most (given (held_at v)) ≡ given (up_to most v)
-unfolding kept_to held_at given up_to
-kept-is most none h = refl
-kept-is most (value n) h = go (dec_le n most)
+-- what 32 bits hold is as good as the number, where the most is below it
+up_to-less : (m : ℕ) (v : Value) → m ≤ most_held → up_to m (up_to most_held v) ≡ up_to m v
+unfolding up_to
+up_to-less m None h = refl
+up_to-less m (Some n) h = go (dec_le n most_held)
   where
-    go : Dec (n ≤ most) → cond (ltb (min n most_held) (most + 1)) (given (value (min n most_held))) (given none)
-        ≡ given (cond (ltb most n) none (value n))
-    go (yes l) =
-        let e : min n most_held ≡ n = omega arith in
-        rw (e, lt-ltb n (most + 1) (omega arith), le-ltb most n l) refl
-    go (no l) = rw (le-ltb (min n most_held) (most + 1) (omega arith), lt-ltb most n (omega arith)) refl
+    go : Dec (n ≤ most_held) → up_to m (cond (ltb most_held n) None (Some n)) ≡ cond (ltb m n) None (Some n)
+    go (yes l) = rw (le-ltb most_held n l) refl
+    go (no l) = rw (lt-ltb most_held n (omega arith), lt-ltb m n (omega arith)) refl
 
--- and as it is given
-pub value_in_lem : (v : Value) → value_in (given v) ≡ v
-unfolding value_in given
-value_in_lem none = refl
-value_in_lem (value n) = refl
+-- a number as a narrower one
+pub narrow : {E : Type 0} (m n : ℕ) (t : Result ℕ E) {r : Option ℕ} → r ≡ result_ok t → OkIff t (n < m + 1) n → r ≡ cond (ltb m n) None (Some n)
+narrow m n (Ok x) e h = rw (e, h.1, le-ltb m n (omega (arith, h.0))) refl
+narrow m n (Err x) e h = rw (e, lt-ltb m n (omega (arith, h))) refl
 
--- what is kept is no larger than the most
-up_to-small : (most : ℕ) (v : Value) → (given (up_to most v)).value ≤ most
-unfolding up_to given
-up_to-small most none = omega arith
-up_to-small most (value n) = go (dec_le n most)
-  where
-    go : Dec (n ≤ most) → (given (cond (ltb most n) none (value n))).value ≤ most
-    go (yes l) = rw (le-ltb most n l) l
-    go (no l) = rw (lt-ltb most n (omega arith)) (omega arith)
-
-pub address-small : (w : List ℕ) → (given (address_of w)).value ≤ 65535
-unfolding address_of
-address-small w = up_to-small 65535 (number_of w)
-
-pub value-small : (w : List ℕ) → (given (value_of w)).value ≤ 4294967295
+pub narrowed : (m : ℕ) (w : List ℕ) → m ≤ most_held → {v : Value} → v ≡ value_of w → up_to m v ≡ up_to m (number_of w)
 unfolding value_of
-value-small w = up_to-small 4294967295 (number_of w)
-
-pub space-small : (w : List ℕ) → (given (space_of w)).value ≤ 255
-unfolding space_of given
-space-small w =
-    go (same_bytes w (ascii "registers")) (same_bytes w (ascii "eeprom")) (same_bytes w (ascii "status")) (same_bytes w (ascii "information"))
-  where
-    go : (a b c d : Bool)
-        → (given (cond a (value 0) (cond b (value 2) (cond c (value 6) (cond d (value 7) (up_to 255 (number_of w))))))).value ≤ 255
-    go true b c d = omega arith
-    go false true c d = omega arith
-    go false false true d = omega arith
-    go false false false true = omega arith
-    go false false false false = up_to-small 255 (number_of w)
+narrowed m w h e = rw e (up_to-less m (number_of w) h)

@@ -14,7 +14,8 @@ use Rattle.packet.specs.Bytes.{bytes_of, number}
 use Rattle.packet.specs.Step.{is_write}
 use Rattle.packet.specs.Rules.{first}
 use Rattle.cue.specs.Records.{mark_at, read_mark, write_mark, record_kind, record_bytes, record_step, bad_element, upper_half, most_records, record_refusals}
-use Rattle.cue_text.specs.Numbers.{Value, none, value, space_of, address_of, value_of, is_name}
+use Rattle.std.proofs.Common.{Some, None}
+use Rattle.cue_text.specs.Numbers.{Value, space_of, address_of, value_of, is_name}
 use Rattle.cue_text.specs.Words.{lines_of, words_of}
 use Rattle.cue_text.specs.Text.{Form, empty, reads, writes, names, unknown, at, called, form_of, Place, nowhere, place, place_by, place_of, is_known}
 use Rattle.cue_text.specs.Text.{Name, most_names, bytes_of_cue, read_of, write_of, Meaning, refused, nothing, defines, does, unless}
@@ -85,9 +86,9 @@ module _ (known : List Name) (index : ℕ) where
 
   write-means : (n : ℕ) (p : Place) (v : Value) → OfLine n → Means known index (write_meaning n p v index)
   unfolding write_meaning
-  write-means n p none o = OfLine.no_number
-  write-means n nowhere (value v) o = o
-  write-means n (place s a) (value v) o = record_means (write_of s a v)
+  write-means n p None o = OfLine.no_number
+  write-means n nowhere (Some v) o = o
+  write-means n (place s a) (Some v) o = record_means (write_of s a v)
 
   name-means : (w : List ℕ) (p : Place) → Means known index (name_meaning w p known)
   unfolding name_meaning

@@ -15,21 +15,25 @@ use Rattle.packet.specs.Step.{is_write}
 use Rattle.packet.specs.Rules.{first}
 use Rattle.packet.specs.Command.{pick_kind}
 use Rattle.cue.specs.Records.{read_mark, write_mark, record_bytes, record_refusals}
-use Rattle.cue_text.specs.Numbers.{Value, none, value, space_of, address_of, is_name}
+use Rattle.std.proofs.Common.{Option, Some, None, Result, Ok, Err}
+use Rattle.lbp16.specs.Answer.{rule_number, ruled}
+use Rattle.lbp16.specs.declared.Rule.{Rule}
+use Rattle.lbp16.proofs.RuleLaws.{rule_number_range}
+use Rattle.cue_text.specs.declared.line.Said.{Said}
+use Rattle.cue_text.specs.Fault.{number_in}
+use Rattle.cue_text.specs.Numbers.{Value, space_of, address_of, is_name}
 use Rattle.cue_text.specs.Text.{Form, unknown, form_of, read_form, write_form, name_form, Place, nowhere, place, place_by, place_of, is_known}
 use Rattle.cue_text.specs.Text.{Name, most_names, bytes_of_cue, read_of, write_of, Meaning, refused, defines, does, unless, record_meaning}
 use Rattle.cue_text.specs.Text.{read_meaning, write_meaning, name_meaning, form_meaning, line_meaning}
-use Rattle.cue_text.specs.Inside.{line_at, words_here, word_in, HoldsWords, LineHere, given, value_in, located, place_in, name_by}
-use Rattle.cue_text.specs.Inside.{defined_at, far, kept, name_at}
+use Rattle.cue_text.specs.Inside.{line_at, words_here, word_in, HoldsWords, LineHere, located, place_in, name_by}
+use Rattle.cue_text.specs.Inside.{defined_at, far, kept, name_at, meaning_of}
 use Rattle.cue_text.specs.Inside.{read_shape, write_shape, name_shape, shape_of, formed, ten_bytes}
 use Rattle.cue_text.specs.declared.word.Words.{Words}
-use Rattle.cue_text.specs.declared.number.Number.{Number}
 use Rattle.cue_text.specs.declared.known.Located.{Located}
 use Rattle.cue_text.specs.declared.line.Cue.{Cue}
 use Rattle.cue_text.specs.declared.line.Shape.{Shape}
 use Rattle.cue_text.proofs.WordLaws.{words-at}
-use Rattle.cue_text.proofs.NumberLaws.{address-small}
-use Rattle.cue_text.proofs.KnownLaws.{kept-name}
+use Rattle.cue_text.proofs.KnownLaws.{kept-name, place_in_lem}
 
 -- one of three first words, or none of them
 pick_form : (r w n : Bool) (b c d : List ℕ) (p q s : Shape) {x y z : Form} → x ≡ formed p b c d → y ≡ formed q b c d → z ≡ formed s b c d
@@ -68,32 +72,23 @@ line-here text k rest w e h l = record { rest-is = e; words = h; within = l }
 
 -- a place that was found has its two numbers
 module _ (s a : Value) where
-  pub found_none : (located (place_by s a)).found ≡ false → place_by s a ≡ nowhere
-  unfolding located
-  found_none e = go (place_by s a) e
-    where
-      go : (p : Place) → (located p).found ≡ false → p ≡ nowhere
-      go nowhere e = refl
-      go (place x y) e = let z : ◌≡◌ {A = ℕ} 0 1 = cc in absurd (omega arith)
+  pub found_none : None ≡ located (place_by s a) → place_by s a ≡ nowhere
+  unfolding place_in
+  found_none e = sym (place_in_lem (place_by s a)) ∙ ap place_in (sym e)
 
-  pub found_some : (located (place_by s a)).found ≡ true → place_by s a ≡ place (located (place_by s a)).space (located (place_by s a)).address
-  unfolding located
-  found_some e = go (place_by s a) e
-    where
-      go : (p : Place) → (located p).found ≡ true → p ≡ place (located p).space (located p).address
-      go nowhere e = let z : ◌≡◌ {A = ℕ} 0 1 = cc in absurd (omega arith)
-      go (place x y) e = refl
+  module _ {p : Located} (e : Some p ≡ located (place_by s a)) where
+    pub found_some : place_by s a ≡ place p.space p.address
+    unfolding place_in
+    found_some = sym (place_in_lem (place_by s a)) ∙ ap place_in (sym e)
 
-  pub found-numbers : (located (place_by s a)).found ≡ true
-      → ((located (place_by s a)).space ≡ (given s).value) × ((located (place_by s a)).address ≡ (given a).value)
-  unfolding located place_by given
-  found-numbers e = go s a e
-    where
-      go : (s a : Value) → (located (place_by s a)).found ≡ true
-          → ((located (place_by s a)).space ≡ (given s).value) × ((located (place_by s a)).address ≡ (given a).value)
-      go none a e = let z : ◌≡◌ {A = ℕ} 0 1 = cc in absurd (omega arith)
-      go (value s) none e = let z : ◌≡◌ {A = ℕ} 0 1 = cc in absurd (omega arith)
-      go (value s) (value a) e = (refl, refl)
+    pub found-numbers : (p.space ≡ number_in s) × (p.address ≡ number_in a)
+    unfolding place_by
+    found-numbers = go s a found_some
+      where
+        go : (s a : Value) → place_by s a ≡ place p.space p.address → (p.space ≡ number_in s) × (p.address ≡ number_in a)
+        go None a e = let z : ◌≡◌ {A = ℕ} 0 1 = cc in absurd (omega arith)
+        go (Some s) None e = let z : ◌≡◌ {A = ℕ} 0 1 = cc in absurd (omega arith)
+        go (Some s) (Some a) e = (cc, cc)
 
 take-taken : (m : ℕ) (l : List ℕ) → take (length (take m l)) l ≡ take m l
 take-taken m l = sym (take-take (length (take m l)) m l (omega (arith, length-take m l))) ∙ take-length (take m l)
@@ -107,8 +102,8 @@ module _ (text : List ℕ) (k : ℕ) (rest : List ℕ) (w : Words) (h : LineHere
   defined-name : defined_at text (k + w.second.from)
       ≡ record {
         name = word_in rest w.second;
-        space = (given (space_of (word_in rest w.third))).value;
-        address = (given (address_of (word_in rest w.fourth))).value;
+        space = number_in (space_of (word_in rest w.third));
+        address = number_in (address_of (word_in rest w.fourth));
       }
   unfolding defined_at name_by
   defined-name =
@@ -131,26 +126,23 @@ module _ (text : List ℕ) (k : ℕ) (rest : List ℕ) (w : Words) (h : LineHere
       omega (arith, h.words.within, h.within)
 
   -- and as it is kept
-  pub kept-defined : length text < far → (p : Located) → p ≡ located (place_by (space_of (word_in rest w.third)) (address_of (word_in rest w.fourth)))
-      → p.found ≡ true → (name : List ℕ) → name ≡ word_in rest w.second → {x : ℕ}
+  pub kept-defined : length text < far → {p : Located} → Some p ≡ located (place_by (space_of (word_in rest w.third)) (address_of (word_in rest w.fourth)))
+      → p.address < 65536 → (name : List ℕ) → name ≡ word_in rest w.second → {x : ℕ}
       → x ≡ kept (k + w.second.from) (length name) p.space p.address
       → name_at text x
       ≡ record {
         name = word_in rest w.second;
-        space = (given (space_of (word_in rest w.third))).value;
-        address = (given (address_of (word_in rest w.fourth))).value;
+        space = number_in (space_of (word_in rest w.third));
+        address = number_in (address_of (word_in rest w.fourth));
       }
   unfolding word_in
-  kept-defined l p e f name g i =
-      let v = found-numbers (space_of (word_in rest w.third)) (address_of (word_in rest w.fourth)) (rw e at f) in
+  kept-defined l {p} e f name g i =
+      let v = found-numbers (space_of (word_in rest w.third)) (address_of (word_in rest w.fourth)) e in
       let part : take (length name) (drop (k + w.second.from) text) ≡ word_in rest w.second =
       rw (behind, g) (take-taken (w.second.to - w.second.from) (drop w.second.from rest)) in
       let at : k + w.second.from < far = omega (arith, name-within) in
-      rw (i, e, v.0, v.1)
-      (kept-name text (word_in rest w.second) (k + w.second.from) (length name) _ _ at
-      (omega (arith, address-small (word_in rest w.fourth)))
-      part
-      defined-name)
+      rw (i, ← v.0, ← v.1)
+      (kept-name text (word_in rest w.second) (k + w.second.from) (length name) p.space p.address at f part (rw (← v.0, ← v.1) at defined-name))
 
 module _ (text : List ℕ) (k : ℕ) (rest : List ℕ) (w : Words) (h : LineHere text k rest w) (known : List Name) (index : ℕ) where
   held_form : formed (shape_of (get_or (words_here [] rest) 0 []) (min 5 (length (words_here [] rest)))) (get_or (words_here [] rest) 1 [])
@@ -218,65 +210,92 @@ module _ (n : ℕ) (m : Meaning) where
   unless-none : n ≡ 0 → m ≡ unless n m
   unless-none e = rw e refl
 
+-- a rule's number is not 0
+rule-some : (rule : Rule) → rule_number rule ≢ 0
+rule-some rule = omega (arith, rule_number_range rule)
+
 module _ (c : Cue) (index n : ℕ) (e : n ≡ first (record_refusals index (bytes_of_cue c))) where
-  pub record_refused : n ≢ 0 → refused n ≡ record_meaning index c
+  record_refused : n ≢ 0 → refused n ≡ record_meaning index c
   unfolding record_meaning
   record_refused h = rw (← e) (unless-some n (does c) h)
 
-  pub record_does : n ≡ 0 → does c ≡ record_meaning index c
+  record_does : n ≡ 0 → does c ≡ record_meaning index c
   unfolding record_meaning
   record_does h = rw (← e) (unless-none n (does c) h)
 
+pub none_is : {A : Type 0} (o : Option A) → ((x : A) → o ≡ Some x → ⊥) → o ≡ None
+none_is None h = refl
+none_is (Some x) h = absurd (h x refl)
+
+-- a record by its ruling
+module _ (text : List ℕ) (c : Cue) (index : ℕ) {r : Result (Unit {0}) Rule} (e : ruled r ≡ first (record_refusals index (bytes_of_cue c))) where
+  pub said-good : {u : Unit {0}} → r ≡ Ok u → meaning_of text (Ok (Said.Does c)) ≡ record_meaning index c
+  unfolding meaning_of
+  said-good f = record_does c index (ruled r) e (rw f refl)
+
+  pub said-bad : {rule : Rule} → r ≡ Err rule → meaning_of text (Err rule) ≡ record_meaning index c
+  unfolding meaning_of
+  said-bad {rule} f = record_refused c index (rule_number rule) (rw f at e) (rule-some rule)
+
 -- a read and a write by a place that was found, or not
-module _ (n : ℕ) (p : Located) (index : ℕ) where
-  pub read-nowhere : p.found ≡ false → refused n ≡ read_meaning n (place_in p) index
+module _ (n index : ℕ) (p : Option Located) where
+  pub read-nowhere : p ≡ None → refused n ≡ read_meaning n (place_in p) index
   unfolding place_in read_meaning
   read-nowhere e = rw e refl
 
-  pub read-there : p.found ≡ true → record_meaning index (read_of p.space p.address) ≡ read_meaning n (place_in p) index
+  pub read-there : {q : Located} → p ≡ Some q → record_meaning index (read_of q.space q.address) ≡ read_meaning n (place_in p) index
   unfolding place_in read_meaning
   read-there e = rw e refl
 
-  module _ (v : Number) where
-    pub write-none : v.good ≡ false → refused 82 ≡ write_meaning n (place_in p) (value_in v) index
-    unfolding value_in write_meaning
+  module _ (v : Option ℕ) where
+    pub write-none : v ≡ None → refused 82 ≡ write_meaning n (place_in p) v index
+    unfolding write_meaning
     write-none e = rw e refl
 
-    pub write-nowhere : v.good ≡ true → p.found ≡ false → refused n ≡ write_meaning n (place_in p) (value_in v) index
-    unfolding place_in value_in write_meaning
+    pub write-nowhere : {x : ℕ} → v ≡ Some x → p ≡ None → refused n ≡ write_meaning n (place_in p) v index
+    unfolding place_in write_meaning
     write-nowhere e f = rw (e, f) refl
 
-    pub write-there : v.good ≡ true → p.found ≡ true
-        → record_meaning index (write_of p.space p.address v.value) ≡ write_meaning n (place_in p) (value_in v) index
-    unfolding place_in value_in write_meaning
+    pub write-there : {x : ℕ} {q : Located} → v ≡ Some x → p ≡ Some q
+        → record_meaning index (write_of q.space q.address x) ≡ write_meaning n (place_in p) v index
+    unfolding place_in write_meaning
     write-there e f = rw (e, f) refl
 
 -- a definition, rule by rule
-module _ (n s a : List ℕ) (known : List Name) (p : Located) (e : p ≡ located (place_by (space_of s) (address_of a))) where
-  there : p.found ≡ true → place_by (space_of s) (address_of a) ≡ place p.space p.address
-  there f = rw e (found_some (space_of s) (address_of a) (rw e at f))
-
-  pub name-nowhere : p.found ≡ false → refused 82 ≡ name_meaning n (place_by (space_of s) (address_of a)) known
+module _ (n s a : List ℕ) (known : List Name) where
+  pub name-nowhere : None ≡ located (place_by (space_of s) (address_of a)) → refused 82 ≡ name_meaning n (place_by (space_of s) (address_of a)) known
   unfolding name_meaning
-  name-nowhere f = rw (found_none (space_of s) (address_of a) (rw e at f)) refl
+  name-nowhere e = rw (found_none (space_of s) (address_of a) e) refl
 
-  pub name-bad : p.found ≡ true → (not (is_name n) || is_known (place_of n known) || eqb (length known) most_names) ≡ true
-      → refused 83 ≡ name_meaning n (place_by (space_of s) (address_of a)) known
-  unfolding name_meaning
-  name-bad f b = rw (there f, b) refl
+  module _ {p : Located} (e : Some p ≡ located (place_by (space_of s) (address_of a))) where
+    there : place_by (space_of s) (address_of a) ≡ place p.space p.address
+    there = found_some (space_of s) (address_of a) e
 
-  module _ (f : p.found ≡ true) (b : (not (is_name n) || is_known (place_of n known) || eqb (length known) most_names) ≡ false)
-      (k : ℕ) (g : k ≡ first (record_refusals 0 (bytes_of_cue (read_of p.space p.address)))) where
-    pub name-refused : k ≢ 0 → refused k ≡ name_meaning n (place_by (space_of s) (address_of a)) known
+    pub name-bad : (not (is_name n) || is_known (place_of n known) || eqb (length known) most_names) ≡ true
+        → refused 83 ≡ name_meaning n (place_by (space_of s) (address_of a)) known
     unfolding name_meaning
-    name-refused h = rw (there f, b, ← g) (unless-some k _ h)
+    name-bad b = rw (there, b) refl
 
-    pub name-defines : k ≡ 0 → (x : Name)
-        → x ≡ record { name = n; space = (given (space_of s)).value; address = (given (address_of a)).value }
-        → defines x ≡ name_meaning n (place_by (space_of s) (address_of a)) known
-    unfolding name_meaning
-    name-defines h x q =
-        let v = found-numbers (space_of s) (address_of a) (rw e at f) in
-        let sp : p.space ≡ (given (space_of s)).value = rw e v.0 in
-        let ad : p.address ≡ (given (address_of a)).value = rw e v.1 in
-        rw (there f, b, ← g, q, ← sp, ← ad) (unless-none k _ h)
+    module _ (b : (not (is_name n) || is_known (place_of n known) || eqb (length known) most_names) ≡ false)
+        (k : ℕ) (g : k ≡ first (record_refusals 0 (bytes_of_cue (read_of p.space p.address)))) where
+      name-refused' : k ≢ 0 → refused k ≡ name_meaning n (place_by (space_of s) (address_of a)) known
+      unfolding name_meaning
+      name-refused' h = rw (there, b, ← g) (unless-some k _ h)
+
+      name-defines' : k ≡ 0 → (x : Name) → x ≡ record { name = n; space = number_in (space_of s); address = number_in (address_of a) }
+          → defines x ≡ name_meaning n (place_by (space_of s) (address_of a)) known
+      unfolding name_meaning
+      name-defines' h x q =
+          let v = found-numbers (space_of s) (address_of a) e in
+          rw (there, b, ← g, q, ← v.0, ← v.1) (unless-none k _ h)
+
+      pub name-refused : {r : Result (Unit {0}) Rule} → ruled r ≡ k → {rule : Rule} → r ≡ Err rule
+          → refused (rule_number rule) ≡ name_meaning n (place_by (space_of s) (address_of a)) known
+      name-refused {r} f {rule} h =
+          let q : rule_number rule ≡ k = rw h at f in
+          rw q (name-refused' (omega (arith, q, rule_number_range rule)))
+
+      pub name-defines : {r : Result (Unit {0}) Rule} → ruled r ≡ k → {u : Unit {0}} → r ≡ Ok u → (x : Name)
+          → x ≡ record { name = n; space = number_in (space_of s); address = number_in (address_of a) }
+          → defines x ≡ name_meaning n (place_by (space_of s) (address_of a)) known
+      name-defines {r} f h x q = name-defines' (rw h at (sym f)) x q

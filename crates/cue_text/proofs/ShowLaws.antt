@@ -21,7 +21,8 @@ use Rattle.cue.proofs.CompileLaws.{accepted_exactly}
 use Rattle.cue.proofs.Demand3.{packets_hold, apart-packed}
 use Rattle.cue.proofs.RunAll.{run_all}
 use Rattle.text.specs.Find.{same_bytes}
-use Rattle.cue_text.specs.Numbers.{Value, none, value, number_of, up_to, space_of, address_of, value_of, is_name}
+use Rattle.std.proofs.Common.{Some, None}
+use Rattle.cue_text.specs.Numbers.{Value, number_of, up_to, space_of, address_of, value_of, is_name}
 use Rattle.cue_text.specs.Text
 use Rattle.cue_text.specs.Text.{Name, Place, nowhere, place, place_by, place_of, is_known, most_names, Meaning, unless, bytes_of_cue, read_of, write_of}
 use Rattle.cue_text.specs.Text.{at, called, Form, record_meaning, read_meaning, write_meaning, name_meaning, form_of, form_meaning, line_meaning}
@@ -58,14 +59,14 @@ place-near : (v : Value) (w : List ℕ) → PlaceNear (place_by v (address_of w)
 unfolding place_by address_of up_to
 place-near v w = go v (number_of w)
   where
-    few : (s n : ℕ) (b : Bool) → ltb 65535 n ≡ b → PlaceNear (place_by (value s) (cond b none (value n)))
+    few : (s n : ℕ) (b : Bool) → ltb 65535 n ≡ b → PlaceNear (place_by (Some s) (cond b None (Some n)))
     few s n true e = tt
     few s n false e = let h = ltb-false 65535 n e in omega arith
 
     go : (v u : Value) → PlaceNear (place_by v (up_to 65535 u))
-    go none u = tt
-    go (value s) none = tt
-    go (value s) (value n) = few s n (ltb 65535 n) refl
+    go None u = tt
+    go (Some s) None = tt
+    go (Some s) (Some n) = few s n (ltb 65535 n) refl
 
 name-near : (w : List ℕ) (known : List Name) → Near known → PlaceNear (place_of w known)
 unfolding place_of
@@ -91,10 +92,10 @@ read-sound n index (place s a) h = record_sound index (read_of s a) h
 
 write-sound : (n index : ℕ) (p : Place) (v : Value) → PlaceNear p → Sound index (write_meaning n p v index)
 unfolding write_meaning
-write-sound n index nowhere none h = tt
-write-sound n index (place s a) none h = tt
-write-sound n index nowhere (value v) h = tt
-write-sound n index (place s a) (value v) h = record_sound index (write_of s a v) h
+write-sound n index nowhere None h = tt
+write-sound n index (place s a) None h = tt
+write-sound n index nowhere (Some v) h = tt
+write-sound n index (place s a) (Some v) h = record_sound index (write_of s a v) h
 
 name-sound : (index : ℕ) (n : List ℕ) (p : Place) (known : List Name) → PlaceNear p → Sound index (name_meaning n p known)
 unfolding name_meaning

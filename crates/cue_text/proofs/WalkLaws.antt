@@ -10,8 +10,10 @@ use native.Mathlib.Nat.{zero-add}
 use lib.ListN.{length, take, drop, length-append, length-set}
 use lib.Seq.{sets, length-sets, length-take-le, take-suc-set}
 use borrow.Author.Tests.{eqb-false}
+use Rattle.std.proofs.Common.{Ok, Err}
 use Rattle.text.specs.Room.{Filled, filled, put_at}
-use Rattle.lbp16.specs.Answer.{Answer}
+use Rattle.lbp16.specs.Answer.{Answer, rule_number}
+use Rattle.lbp16.specs.declared.Rule.{Rule}
 use Rattle.lbp16.proofs.ListLaws.{sets_append}
 use Rattle.packet.specs.Command.{pick_kind}
 use Rattle.packet.specs.Step.{is_write}
@@ -22,14 +24,14 @@ use Rattle.cue.specs.Records.{record_bytes, record_refusals, most_records}
 use Rattle.cue_text.specs.Words.{lines_of}
 use Rattle.cue_text.specs.Text.{most_names, bytes_of_cue, Meaning, refused, nothing, defines, does, line_meaning}
 use Rattle.cue_text.specs.Assembled.{Assembled, bad, cues, with_cue, known_after, index_after, with_line, assembled_from, assembled, list_of}
-use Rattle.cue_text.specs.Inside.{line_at, line_bytes, names_at, name_at, meaning_of, ten_bytes, said_number, tallied, table_after, room_after, Roomy, answered}
+use Rattle.cue_text.specs.Inside.{line_at, line_bytes, names_at, name_at, meaning_of, ten_bytes, tallied, table_after, room_after, Roomy, answered}
 use Rattle.cue_text.specs.declared.line.Cue.{Cue}
 use Rattle.cue_text.specs.declared.line.Said.{Said}
 use Rattle.cue_text.specs.declared.walk.Tally.{Tally}
 use Rattle.cue_text.proofs.WordLaws.{lines_next, lines_none, line-some}
 use Rattle.cue_text.proofs.KnownLaws.{names-length, names_more}
 use Rattle.cue_text.proofs.SaidLaws.{cue-length, taken-bytes}
-use Rattle.cue_text.proofs.RefusalLaws.{Means, line-means, of-line_some}
+use Rattle.cue_text.proofs.RefusalLaws.{Means, line-means}
 
 -- the records so far in front of what the lines from here on give
 unfoldable pub ahead : List Cue → Assembled → Assembled
@@ -123,8 +125,7 @@ module _ (text room₀ : List ℕ) (k : ℕ) (t : Tally) (table room : List ℕ)
       w.room-is ∙ ap (λ (xs : List Cue). sets room₀ 0 (list_of xs)) q
 
   -- one line more
-  module _ (l : k < length text) (said : Said)
-      (e : meaning_of text said ≡ line_meaning (names_at text (take t.names table)) t.records (line_at text k)) where
+  module _ (l : k < length text) where
     turn : (m : Meaning) → m ≡ line_meaning (names_at text (take t.names table)) t.records (line_at text k)
         → assembled text
         ≡ ahead w.done
@@ -134,31 +135,26 @@ module _ (text room₀ : List ℕ) (k : ℕ) (t : Tally) (table room : List ℕ)
     unfolding assembled_from
     turn m f = rw f (rw (lines_next text k l) at w.same)
 
-    walk-bad : {n : ℕ} → n ≡ said_number said → n ≢ 0 → assembled text ≡ bad n (suc t.lines)
-    unfolding said_number meaning_of with_line ahead
-    walk-bad {n} f h = go said f e
-      where
-        go : (s : Said) → n ≡ said_number s → meaning_of text s ≡ line_meaning (names_at text (take t.names table)) t.records (line_at text k)
-            → assembled text ≡ bad n (suc t.lines)
-        go (Said.Refused m) f e = rw f (turn (refused m) e)
-        go Said.Nothing f e = absurd (h f)
-        go (Said.Defines j) f e = absurd (h f)
-        go (Said.Does c) f e = absurd (h f)
-
     -- a line that is refused refuses the text
-    pub walk_refused : {n : ℕ} → n ≡ said_number said → n ≢ 0
-        → (Answer.refused n (t.lines + 1) ≡ answered (assembled text))
-        × ((cs : List Cue) → assembled text ≡ cues cs → room ≡ sets room₀ 0 (list_of cs))
-    unfolding answered
-    walk_refused {n} f h = (
-      rw (walk-bad f h, add-one) refl,
-      λ cs q.
-          let p : bad n (suc t.lines) ≡ cues cs = sym (walk-bad f h) ∙ q in
-          let z : ◌≡◌ {A = ℕ} 0 1 = cc in
-          absurd (omega arith),
-    )
+    module _ (rule : Rule) (e : meaning_of text (Err rule) ≡ line_meaning (names_at text (take t.names table)) t.records (line_at text k)) where
+      walk-bad : assembled text ≡ bad (rule_number rule) (suc t.lines)
+      unfolding meaning_of with_line ahead
+      walk-bad = turn (refused (rule_number rule)) e
 
-    means : Means (names_at text (take t.names table)) t.records (meaning_of text said)
+      pub walk_refused : (Answer.refused (rule_number rule) (t.lines + 1) ≡ answered (assembled text))
+          × ((cs : List Cue) → assembled text ≡ cues cs → room ≡ sets room₀ 0 (list_of cs))
+      unfolding answered
+      walk_refused = (
+        rw (walk-bad, add-one) refl,
+        λ cs q.
+            let p : bad (rule_number rule) (suc t.lines) ≡ cues cs = sym walk-bad ∙ q in
+            let z : ◌≡◌ {A = ℕ} 0 1 = cc in
+            absurd (omega arith),
+      )
+
+  module _ (l : k < length text) (said : Said)
+      (e : meaning_of text (Ok said) ≡ line_meaning (names_at text (take t.names table)) t.records (line_at text k)) where
+    means : Means (names_at text (take t.names table)) t.records (meaning_of text (Ok said))
     means = rw e (line-means (names_at text (take t.names table)) t.records (line_at text k))
 
     names-many : length (names_at text (take t.names table)) ≡ t.names
@@ -205,7 +201,7 @@ module _ (text room₀ : List ℕ) (k : ℕ) (t : Tally) (table room : List ℕ)
           bytes = w.bytes;
           small = w.small;
           room-is = w.room-is;
-          same = rw add-one (turn nothing e);
+          same = rw add-one (turn l nothing e);
         }
 
     walk-defines : (j : ℕ) → defines (name_at text j) ≡ line_meaning (names_at text (take t.names table)) t.records (line_at text k)
@@ -227,7 +223,7 @@ module _ (text room₀ : List ℕ) (k : ℕ) (t : Tally) (table room : List ℕ)
           room-is = w.room-is;
           same =
               rw (add-one, add-one, take-suc-set table t.names j h, names_more text (take t.names table) j)
-              (turn (defines (name_at text j)) e);
+              (turn l (defines (name_at text j)) e);
         }
 
     walk-does : (c : Cue) → does c ≡ line_meaning (names_at text (take t.names table)) t.records (line_at text k)
@@ -248,20 +244,17 @@ module _ (text room₀ : List ℕ) (k : ℕ) (t : Tally) (table room : List ℕ)
           small = omega (arith, w.small, cue-small c);
           room-is =
               rw (list-more w.done c, w.bytes, ← sets_append room₀ 0 (list_of w.done) (bytes_of_cue c), ← w.room-is, zero-add) refl;
-          same = rw (add-one, add-one) (turn (does c) e ∙ ahead_more w.done c _);
+          same = rw (add-one, add-one) (turn l (does c) e ∙ ahead_more w.done c _);
         }
 
     -- the walk behind the line
-    pub walk-next : 0 ≡ said_number said
-        → Walking text room₀ (k + line_bytes (drop k text)) (tallied t said) (table_after said t.names table) (room_after said t.bytes room)
-    unfolding said_number meaning_of
-    walk-next f = go said f e means name_free record_free
+    pub walk-next : Walking text room₀ (k + line_bytes (drop k text)) (tallied t said) (table_after said t.names table) (room_after said t.bytes room)
+    unfolding meaning_of
+    walk-next = go said e name_free record_free
       where
-        go : (s : Said) → 0 ≡ said_number s → meaning_of text s ≡ line_meaning (names_at text (take t.names table)) t.records (line_at text k)
-            → Means (names_at text (take t.names table)) t.records (meaning_of text s) → ((j : ℕ) → s ≡ Said.Defines j → t.names < length table)
-            → ((c : Cue) → s ≡ Said.Does c → t.records < most_records)
+        go : (s : Said) → meaning_of text (Ok s) ≡ line_meaning (names_at text (take t.names table)) t.records (line_at text k)
+            → ((j : ℕ) → s ≡ Said.Defines j → t.names < length table) → ((c : Cue) → s ≡ Said.Does c → t.records < most_records)
             → Walking text room₀ (k + line_bytes (drop k text)) (tallied t s) (table_after s t.names table) (room_after s t.bytes room)
-        go (Said.Refused n) f e m d r = absurd (of-line_some m (sym f))
-        go Said.Nothing f e m d r = walk-nothing e
-        go (Said.Defines j) f e m d r = walk-defines j e (d j refl)
-        go (Said.Does c) f e m d r = walk-does c e (r c refl)
+        go Said.Nothing e d r = walk-nothing e
+        go (Said.Defines j) e d r = walk-defines j e (d j refl)
+        go (Said.Does c) e d r = walk-does c e (r c refl)

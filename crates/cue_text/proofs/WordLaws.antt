@@ -12,6 +12,7 @@ use lib.Seq.{drop-cons, drop-drop, append_snoc, get_or-drop, take_all}
 use lib.Dec.{eqb}
 use borrow.Author.Tests.{eqb-true, lt-ltb, le-ltb}
 use Rattle.text.specs.Find.{bytes_before}
+use Rattle.std.specs.List.{prefix_len}
 use Rattle.cue_text.specs.Words.{newline, comment_mark, is_blank, with_byte, lines_of, uncommented, closed, words_from, words_of}
 use Rattle.cue_text.specs.Inside.{line_at, line_bytes, ends_line, words_here, front_bytes, ends_word, in_word, blanks, word_bytes}
 use Rattle.cue_text.specs.Inside.{word_from, word_in, word_count, HoldsWords}
@@ -97,7 +98,7 @@ words-at text k = words-first [] (drop k text)
 
 -- bytes at the front, byte by byte
 module _ (f : ℕ → Bool) where
-  pub front-within : (s : List ℕ) → front_bytes f s ≤ length s
+  front-within : (s : List ℕ) → front_bytes f s ≤ length s
   unfolding front_bytes
   front-within [] = omega arith
   front-within (b ∷ s) = go (f b) (front-within s)
@@ -106,26 +107,22 @@ module _ (f : ℕ → Bool) where
       go true h = omega arith
       go false h = omega arith
 
-  module _ (s : List ℕ) (i : ℕ) where
-    pub front-more : i < length s → f (get_or s i 0) ≡ true → front_bytes f (drop i s) ≡ suc (front_bytes f (drop (i + 1) s))
-    unfolding front_bytes
-    front-more h e = rw (drop-cons s i 0 h, e, add-one) refl
+  front_is : (s : List ℕ) → prefix_len f s ≡ front_bytes f s
+  unfolding front_bytes
+  front_is [] = refl
+  front_is (b ∷ s) = rw (front_is s) (go (f b))
+    where
+      go : (t : Bool) → cond t (1 + front_bytes f s) 0 ≡ cond t (suc (front_bytes f s)) 0
+      go true = omega arith
+      go false = refl
 
-    pub front-here : i < length s → f (get_or s i 0) ≡ false → front_bytes f (drop i s) ≡ 0
-    unfolding front_bytes
-    front-here h e = rw (drop-cons s i 0 h, e) refl
+pub blanks_is : (s : List ℕ) → prefix_len is_blank s ≡ blanks s
+unfolding blanks
+blanks_is s = front_is is_blank s
 
-    pub front-end : length s ≤ i → front_bytes f (drop i s) ≡ 0
-    unfolding front_bytes
-    front-end h = rw (drop_of_length-le s h) refl
-
-pub word_over : (b : ℕ) → ends_word b ≡ true → in_word b ≡ false
-unfolding in_word
-word_over b e = rw e refl
-
-pub word_on : (b : ℕ) → ends_word b ≡ false → in_word b ≡ true
-unfolding in_word
-word_on b e = rw e refl
+pub word-bytes_is : (s : List ℕ) → prefix_len in_word s ≡ word_bytes s
+unfolding word_bytes
+word-bytes_is s = front_is in_word s
 
 pub blanks-within : (s : List ℕ) (k : ℕ) → k ≤ length s → k + blanks (drop k s) ≤ length s
 unfolding blanks

@@ -1,12 +1,13 @@
 -- A text assembled into a cue list.
-use Rattle.std.specs.Prelude.{ℕ, suc, List, [], ◌∷◌, ◌++◌, map, cond, length, drop, ltb}
+use Rattle.std.specs.Prelude.{ℕ, suc, List, [], ◌∷◌, ◌++◌, map, cond, length, drop, ltb, Result, Ok, Err}
 use Rattle.lbp16.specs.Answer.{Answer, refusal}
 use Rattle.packet.specs.Step.{Step}
 use Rattle.cue.specs.Packing.{join_all}
 use Rattle.cue_text.specs.Words.{lines_of}
 use Rattle.cue_text.specs.Text.{Name, Meaning, refused, nothing, defines, does, line_meaning, bytes_of_cue, step_of}
 use Rattle.cue_text.specs.declared.line.Cue.{Cue}
-use Rattle.cue_text.specs.declared.TextAnswer.{TextAnswer}
+use Rattle.cue_text.specs.declared.Written.{Written}
+use Rattle.lbp16.specs.declared.Refusal.{Refusal}
 
 -- A text's records, or the refusal of its earliest bad line.
 pub data Assembled : Type 0 where
@@ -74,9 +75,9 @@ unfoldable pub text_assembled : List ℕ → List ℕ → Left
 text_assembled text room = assembled_to (assembled text) room
 
 -- an answer of the code as the papers list it
-unfoldable pub text_listed : TextAnswer → Answer
-text_listed (TextAnswer.Written bytes count) = Answer.accepted (bytes ∷ count ∷ [])
-text_listed (TextAnswer.Refused r) = refusal r
+unfoldable pub text_listed : Result Written Refusal → Answer
+text_listed (Ok w) = Answer.accepted (w.bytes ∷ w.count ∷ [])
+text_listed (Err r) = refusal r
 
-unfoldable pub left : TextAnswer → List ℕ → Left
+unfoldable pub left : Result Written Refusal → List ℕ → Left
 left a room = record { answer = text_listed a; room = room }

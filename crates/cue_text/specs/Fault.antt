@@ -1,10 +1,11 @@
 -- What is wrong with a bad line, and with which of its words.
-use Rattle.std.specs.Prelude.{ℕ, ◌+◌, ◌-◌, List, [], ◌∷◌, Bool, true, false, ◌||◌, cond, get_or, take, eqb}
+use Rattle.std.specs.Prelude.{ℕ, ◌+◌, ◌-◌, List, [], ◌∷◌, Bool, true, false, ◌||◌, cond, get_or, take, eqb, is_none}
+use Rattle.std.specs.Option.{unwrap_or}
 use Rattle.text.specs.Find.{same_bytes}
 use Rattle.packet.specs.Rules.{first}
 use Rattle.list_reason.specs.ListReason.{element_causes, element_named}
 use Rattle.cue_text.specs.Words.{lines_of, words_of}
-use Rattle.cue_text.specs.Numbers.{Value, none, value, space_of, address_of, is_name}
+use Rattle.cue_text.specs.Numbers.{Value, space_of, address_of, is_name}
 use Rattle.cue_text.specs.Text.{Form, empty, reads, writes, names, unknown, at, called, form_of}
 use Rattle.cue_text.specs.declared.fault.Cause.{Cause}
 use Rattle.cue_text.specs.declared.fault.Fault.{Fault}
@@ -17,13 +18,8 @@ fault cause word = record { cause = cause; word = word }
 unfoldable pub line_numbered : ℕ → List ℕ → List ℕ
 line_numbered line text = get_or (lines_of text) (line - 1) []
 
-unfoldable pub is_none : Value → Bool
-is_none none = true
-is_none (value n) = false
-
-unfoldable pub number_in : Value → ℕ
-number_in none = 0
-number_in (value n) = n
+abbrev pub number_in : Value → ℕ
+number_in v = unwrap_or v 0
 
 -- 82, of a SPACE that is the word i and an ADDRESS behind it, and of a VALUE behind both
 unfoldable pub place_fault : ℕ → List ℕ → Fault

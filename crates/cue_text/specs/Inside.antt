@@ -1,21 +1,23 @@
 -- The inside of private functions' contracts.
 use Rattle.std.specs.Prelude.{ℕ, suc, ◌+◌, ◌-◌, ◌*◌, ◌/◌, ◌%◌, min, ◌≤◌, ◌<◌, ◌^◌, ◌≡◌, List, [], ◌∷◌}
-use Rattle.std.specs.Prelude.{◌++◌, map, Bool, true, false, not, ◌||◌, ◌&&◌, cond, length, get_or, set, take, drop, eqb, ltb}
+use Rattle.std.specs.Prelude.{◌++◌, map, Bool, true, false, not, ◌||◌, ◌&&◌, cond, length, get_or, set, take, drop, eqb, ltb, Option, Some, None, Result, Ok, Err}
 use Rattle.std.proofs.lemmas.List.Edits.{sets}
 use Rattle.text.specs.Number.{ascii}
 use Rattle.text.specs.Find.{bytes_before, same_bytes}
-use Rattle.lbp16.specs.Answer.{Answer}
+use Rattle.lbp16.specs.Answer.{Answer, rule_number}
+use Rattle.lbp16.specs.declared.Rule.{Rule}
 use Rattle.packet.specs.Bytes.{bytes_of}
 use Rattle.packet.specs.Command.{pick_kind}
 use Rattle.cue.specs.Records.{read_mark, write_mark, record_bytes}
 use Rattle.cue_text.specs.Words.{newline, comment_mark, is_blank, closed}
-use Rattle.cue_text.specs.Numbers.{Value, none, value, space_of, address_of}
+use Rattle.cue_text.specs.Numbers.{space_of, address_of}
 use Rattle.cue_text.specs.Text.{Place, nowhere, place, Name, Form, empty, reads, writes, names, unknown, at, called}
 use Rattle.cue_text.specs.Text.{most_names, Meaning, refused, nothing, defines, does, bytes_of_cue}
 use Rattle.cue_text.specs.Assembled.{Assembled, bad, cues, list_of}
+use Rattle.cue_text.specs.Fault.{number_in, fault, cause_numbered}
+use Rattle.cue_text.specs.declared.fault.Fault.{Fault}
 use Rattle.cue_text.specs.declared.word.Word.{Word}
 use Rattle.cue_text.specs.declared.word.Words.{Words}
-use Rattle.cue_text.specs.declared.number.Number.{Number}
 use Rattle.cue_text.specs.declared.known.Located.{Located}
 use Rattle.cue_text.specs.declared.line.Cue.{Cue}
 use Rattle.cue_text.specs.declared.line.Shape.{Shape}
@@ -78,37 +80,23 @@ pub record HoldsWords (rest : List ℕ) (w : Words) : Type 0 where
   pub behind : words_here [] (drop w.second.from rest) ≡ drop 1 (words_here [] rest)
   pub within : w.second.from ≤ length rest
 
--- a number held at the most, and a number as it is given: 0 where there is none
+-- the most that 32 bits hold
 abbrev pub most_held : ℕ
-most_held = 4294967296
+most_held = 4294967295
 
-unfoldable pub held_at : Value → Value
-held_at none = none
-held_at (value n) = value (min n most_held)
-
-unfoldable pub given : Value → Number
-given none = record { good = false; value = 0 }
-given (value n) = record { good = true; value = n }
-
-unfoldable pub value_in : Number → Value
-value_in n = cond n.good (value n.value) none
-
--- the number where it is no larger than the most
-unfoldable pub kept_to : ℕ → Number → Number
-kept_to most n = cond (n.good && ltb n.value (most + 1)) n (given none)
-
-unfoldable pub located : Place → Located
-located nowhere = record { found = false; space = 0; address = 0 }
-located (place s a) = record { found = true; space = s; address = a }
+unfoldable pub located : Place → Option Located
+located nowhere = None
+located (place s a) = Some (record { space = s; address = a })
 
 -- a place that was found, as a place
-unfoldable pub place_in : Located → Place
-place_in p = cond p.found (place p.space p.address) nowhere
+unfoldable pub place_in : Option Located → Place
+place_in None = nowhere
+place_in (Some p) = place p.space p.address
 
 -- The name whose definition's second word stands at a place of the text.
 unfoldable pub name_by : List (List ℕ) → Name
 name_by ws =
-    record { name = get_or ws 0 []; space = (given (space_of (get_or ws 1 []))).value; address = (given (address_of (get_or ws 2 []))).value }
+    record { name = get_or ws 0 []; space = number_in (space_of (get_or ws 1 [])); address = number_in (address_of (get_or ws 2 [])) }
 
 unfoldable pub defined_at : List ℕ → ℕ → Name
 defined_at text k = name_by (words_here [] (drop k text))
@@ -136,6 +124,10 @@ near_name text x =
 
 unfoldable pub name_at : List ℕ → ℕ → Name
 name_at text x = cond (ltb x far) (near_name text x) (defined_at text (x - far))
+
+-- where a name stands
+unfoldable pub stands : Name → Located
+stands x = record { space = x.space; address = x.address }
 
 unfoldable pub names_at : List ℕ → List ℕ → List Name
 names_at text table = map (name_at text) table
@@ -166,11 +158,11 @@ formed Shape.Names b c d = names b c d
 formed Shape.Unknown b c d = unknown
 
 -- what the code says of a line, as the line's meaning
-unfoldable pub meaning_of : List ℕ → Said → Meaning
-meaning_of text (Said.Refused n) = refused n
-meaning_of text Said.Nothing = nothing
-meaning_of text (Said.Defines k) = defines (name_at text k)
-meaning_of text (Said.Does c) = does c
+unfoldable pub meaning_of : List ℕ → Result Said Rule → Meaning
+meaning_of text (Err rule) = refused (rule_number rule)
+meaning_of text (Ok Said.Nothing) = nothing
+meaning_of text (Ok (Said.Defines k)) = defines (name_at text k)
+meaning_of text (Ok (Said.Does c)) = does c
 
 -- a record's bytes with room for a value behind a read
 unfoldable pub ten_bytes : Cue → List ℕ
@@ -182,29 +174,19 @@ pub record LineHere (text : List ℕ) (k : ℕ) (rest : List ℕ) (w : Words) : 
   pub words : HoldsWords rest w
   pub within : k ≤ length text
 
--- the refusal's number, 0 of a line that is not refused
-unfoldable pub said_number : Said → ℕ
-said_number (Said.Refused n) = n
-said_number Said.Nothing = 0
-said_number (Said.Defines k) = 0
-said_number (Said.Does c) = 0
-
 -- the counts, the table of names and the room behind a line
 unfoldable pub tallied : Tally → Said → Tally
-tallied t (Said.Refused n) = t
 tallied t Said.Nothing = record { lines = t.lines + 1; names = t.names; bytes = t.bytes; records = t.records }
 tallied t (Said.Defines k) = record { lines = t.lines + 1; names = t.names + 1; bytes = t.bytes; records = t.records }
 tallied t (Said.Does c) =
     record { lines = t.lines + 1; names = t.names; bytes = t.bytes + record_bytes (pick_kind c.write); records = t.records + 1 }
 
 unfoldable pub table_after : Said → ℕ → List ℕ → List ℕ
-table_after (Said.Refused n) count table = table
 table_after Said.Nothing count table = table
 table_after (Said.Defines k) count table = set table count k
 table_after (Said.Does c) count table = table
 
 unfoldable pub room_after : Said → ℕ → List ℕ → List ℕ
-room_after (Said.Refused n) bytes room = room
 room_after Said.Nothing bytes room = room
 room_after (Said.Defines k) bytes room = room
 room_after (Said.Does c) bytes room = sets room bytes (bytes_of_cue c)
@@ -225,3 +207,7 @@ answered (cues cs) = Answer.accepted (length (list_of cs) ∷ length cs ∷ [])
 -- a line's word by its index, of the four that are held
 unfoldable pub word_numbered : Words → ℕ → Word
 word_numbered w k = cond (eqb k 0) w.first (cond (eqb k 1) w.second (cond (eqb k 2) w.third w.fourth))
+
+-- 23, by its cause's number
+unfoldable pub element_fault_numbered : ℕ → ℕ → Fault
+element_fault_numbered i n = fault (cause_numbered n) (cond (eqb n 1) i (i + 1))

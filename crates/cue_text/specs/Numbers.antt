@@ -1,12 +1,13 @@
 -- Numbers, spaces and names as words.
-use Rattle.std.specs.Prelude.{ℕ, ◌+◌, ◌*◌, List, [], ◌∷◌, Bool, true, false, not, ◌&&◌, ◌||◌, cond, length, take, drop, eqb, ltb}
+use Rattle.std.specs.Prelude.{ℕ, ◌+◌, ◌*◌, List, [], ◌∷◌, Bool, true, false, not, ◌&&◌, ◌||◌, cond, length, take, drop, eqb, ltb, Option, Some, None}
+use Rattle.std.specs.Int.{is_in_range}
+use Rattle.std.specs.List.{list_all}
 use Rattle.text.specs.Number.{ascii}
 use Rattle.text.specs.Find.{hex_value, same_bytes}
 
 -- what a word says as a number
-pub data Value : Type 0 where
-  none : Value
-  value : ℕ → Value
+abbrev pub Value : Type 0
+Value = Option ℕ
 
 unfoldable pub all_digits : ℕ → List ℕ → Bool
 all_digits base [] = true
@@ -19,7 +20,7 @@ digits_from base n (c ∷ cs) = digits_from base (base * n + hex_value c) cs
 
 -- at least one digit, and digits alone
 unfoldable pub digits_value : ℕ → List ℕ → Value
-digits_value base w = cond (all_digits base w && not (eqb (length w) 0)) (value (digits_from base 0 w)) none
+digits_value base w = cond (all_digits base w && not (eqb (length w) 0)) (Some (digits_from base 0 w)) None
 
 -- decimal digits, or 0x or 0X and hexadecimal ones
 unfoldable pub is_hex : List ℕ → Bool
@@ -29,8 +30,8 @@ unfoldable pub number_of : List ℕ → Value
 number_of w = cond (is_hex w) (digits_value 16 (drop 2 w)) (digits_value 10 w)
 
 unfoldable pub up_to : ℕ → Value → Value
-up_to most none = none
-up_to most (value n) = cond (ltb most n) none (value n)
+up_to most None = None
+up_to most (Some n) = cond (ltb most n) None (Some n)
 
 unfoldable pub address_of : List ℕ → Value
 address_of w = up_to 65535 (number_of w)
@@ -41,13 +42,13 @@ value_of w = up_to 4294967295 (number_of w)
 -- a space by its name, or by its number
 unfoldable pub space_of : List ℕ → Value
 space_of w =
-    cond (same_bytes w (ascii "registers")) (value 0)
-    (cond (same_bytes w (ascii "eeprom")) (value 2)
-    (cond (same_bytes w (ascii "status")) (value 6)
-    (cond (same_bytes w (ascii "information")) (value 7) (up_to 255 (number_of w)))))
+    cond (same_bytes w (ascii "registers")) (Some 0)
+    (cond (same_bytes w (ascii "eeprom")) (Some 2)
+    (cond (same_bytes w (ascii "status")) (Some 6)
+    (cond (same_bytes w (ascii "information")) (Some 7) (up_to 255 (number_of w)))))
 
-unfoldable pub within : ℕ → ℕ → ℕ → Bool
-within low high c = not (ltb c low) && not (ltb high c)
+abbrev pub within : ℕ → ℕ → ℕ → Bool
+within low high c = is_in_range low high c
 
 -- A to Z and a to z
 unfoldable pub is_letter : ℕ → Bool
@@ -57,9 +58,8 @@ is_letter c = within 65 90 c || within 97 122 c
 unfoldable pub is_name_byte : ℕ → Bool
 is_name_byte c = is_letter c || within 48 57 c || eqb c 95 || eqb c 45 || eqb c 46
 
-unfoldable pub all_name_bytes : List ℕ → Bool
-all_name_bytes [] = true
-all_name_bytes (c ∷ cs) = is_name_byte c && all_name_bytes cs
+abbrev pub all_name_bytes : List ℕ → Bool
+all_name_bytes w = list_all is_name_byte w
 
 unfoldable pub starts_with_letter : List ℕ → Bool
 starts_with_letter [] = false

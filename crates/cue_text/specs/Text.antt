@@ -1,5 +1,5 @@
 -- What a line of a text says.
-use Rattle.std.specs.Prelude.{ℕ, zero, suc, List, [], ◌∷◌, ◌++◌, Bool, true, false, not, ◌||◌, cond, length, eqb}
+use Rattle.std.specs.Prelude.{ℕ, zero, suc, List, [], ◌∷◌, ◌++◌, Bool, true, false, not, ◌||◌, cond, length, eqb, Some, None}
 use Rattle.text.specs.Number.{ascii}
 use Rattle.text.specs.Find.{same_bytes}
 use Rattle.lbp16.specs.Space.{space_of as space}
@@ -8,7 +8,7 @@ use Rattle.packet.specs.Step.{Step, carried}
 use Rattle.packet.specs.Rules.{first}
 use Rattle.packet.specs.Command.{pick_kind}
 use Rattle.cue.specs.Records.{read_mark, write_mark, record_refusals}
-use Rattle.cue_text.specs.Numbers.{Value, none, value, space_of, address_of, value_of, is_name}
+use Rattle.cue_text.specs.Numbers.{Value, space_of, address_of, value_of, is_name}
 use Rattle.cue_text.specs.Words.{words_of}
 use Rattle.cue_text.specs.declared.line.Cue.{Cue}
 
@@ -57,9 +57,9 @@ pub data Place : Type 0 where
   place : ℕ → ℕ → Place
 
 unfoldable pub place_by : Value → Value → Place
-place_by none a = nowhere
-place_by (value s) none = nowhere
-place_by (value s) (value a) = place s a
+place_by None a = nowhere
+place_by (Some s) None = nowhere
+place_by (Some s) (Some a) = place s a
 
 -- a name that is defined
 pub record Name : Type 0 where
@@ -119,9 +119,9 @@ read_meaning n nowhere index = refused n
 read_meaning n (place s a) index = record_meaning index (read_of s a)
 
 unfoldable pub write_meaning : ℕ → Place → Value → ℕ → Meaning
-write_meaning n p none index = refused 82
-write_meaning n nowhere (value v) index = refused n
-write_meaning n (place s a) (value v) index = record_meaning index (write_of s a v)
+write_meaning n p None index = refused 82
+write_meaning n nowhere (Some v) index = refused n
+write_meaning n (place s a) (Some v) index = record_meaning index (write_of s a v)
 
 -- A name is held against 23 as a read, and as a list's first record, so that 21 plays no part.
 unfoldable pub name_meaning : List ℕ → Place → List Name → Meaning

@@ -4,16 +4,18 @@ ghost use Rattle.cue_text.specs.Words.{lines_of, words_of};
 ghost use Rattle.cue_text.specs.Numbers.{space_of, address_of};
 ghost use Rattle.cue_text.specs.Text.{reads, writes, names, at, called, form_of};
 ghost use Rattle.cue_text.specs.Fault.{fault, number_in, place_fault, write_fault, defines_name, defined, used_fault, defined_fault};
-ghost use Rattle.cue_text.specs.Fault.{cause_numbered, element_fault, form_fault, fault_of, fault_word};
-ghost use Rattle.cue_text.specs.Inside.{line_at, word_in, word_numbered};
+ghost use Rattle.list_reason.specs.Listing.{cause_number};
+ghost use Rattle.cue_text.specs.Fault.{element_fault, form_fault, fault_of, fault_word};
+ghost use Rattle.cue_text.specs.Inside.{line_at, word_in, word_numbered, element_fault_numbered};
 
 use crate::line::Shape;
 use crate::word::{Word, Words};
 use crate::{known, line, number, walk, word};
+use list_reason::Cause as Listed;
 use text::find;
 
 // The rule that the line breaks, or what a word of it is not.
-#[derive(Clone, Copy)]
+#[derive(Clone, Copy, Debug, PartialEq, Eq)]
 pub enum Cause {
     Form,
     Space,
@@ -34,7 +36,7 @@ pub enum Cause {
 }
 
 // The word is counted from 0 in its line.
-#[derive(Clone, Copy)]
+#[derive(Clone, Copy, Debug, PartialEq, Eq)]
 pub struct Fault {
     pub cause: Cause,
     pub word: usize,
@@ -53,7 +55,7 @@ fn line_place(text: &[u8], line: u64) -> usize
     let mut at: usize = 0;
     let mut k: u64 = 1;
     while (k < line) & (at < text.len()) {
-        at += walk::line_bytes(known::rest_at(text, at));
+        at += walk::line_bytes(find::rest(text, at));
         k += 1;
     }
     at
@@ -63,22 +65,19 @@ fn place_fault(i: usize, space: &[u8]) -> Fault
     requires { i ≤ 2 }
     ensures { result ≡ place_fault i space.now }
 {
-    let s = number::space_of(space);
-    if s.good {
-        return told(Cause::Address, i + 1);
+    if number::space_of(space).is_none() {
+        return told(Cause::Space, i);
     }
-    told(Cause::Space, i)
+    told(Cause::Address, i + 1)
 }
 
 fn value_fault(space: &[u8], address: &[u8]) -> Fault
     ensures { result ≡ write_fault space.now address.now }
 {
-    let s = number::space_of(space);
-    let a = number::address_of(address);
-    if s.good & a.good {
-        return told(Cause::Value, 3);
+    if number::space_of(space).is_none() | number::address_of(address).is_none() {
+        return place_fault(1, space);
     }
-    place_fault(1, space)
+    told(Cause::Value, 3)
 }
 
 fn used_fault(name: &[u8]) -> Fault
@@ -95,7 +94,7 @@ fn defines_name(text: &[u8], place: usize, name: &[u8]) -> bool
     requires { place ≤ length text.now }
     ensures { result ≡ defines_name name.now (form_of (words_of (line_at text.now place))) }
 {
-    let rest = known::rest_at(text, place);
+    let rest = find::rest(text, place);
     let w = word::words_of(rest);
     let shape = line::shape_of(word::part(rest, w.first), w.count);
     let Shape::Names = shape else {
@@ -114,7 +113,7 @@ fn is_defined(text: &[u8], line: u64, name: &[u8]) -> bool
         if defines_name(text, at, name) {
             return true;
         }
-        at += walk::line_bytes(known::rest_at(text, at));
+        at += walk::line_bytes(find::rest(text, at));
         k += 1;
     }
     false
@@ -132,17 +131,18 @@ fn defined_fault(text: &[u8], line: u64, name: &[u8]) -> Fault
     told(Cause::TooMany, 1)
 }
 
-// Of 23.
-fn cause_numbered(n: u32) -> Cause
-    ensures { result ≡ cause_numbered n }
+// Of 23: of the SPACE, which is the word i, or of the ADDRESS behind it. Causes of 22 and 24 never come here; they are told as their numbers say.
+fn listed_fault(cause: Listed, i: usize) -> Fault
+    requires { i ≤ 2 }
+    ensures { result ≡ element_fault_numbered i (cause_number cause) }
 {
-    match n {
-        1 => Cause::NoSpace,
-        2 => Cause::Misaligned,
-        3 => Cause::PastEnd,
-        4 => Cause::ReadOnly,
-        5 => Cause::Unlock,
-        _ => Cause::PacketCount,
+    match cause {
+        Listed::AbsentSpace | Listed::UnknownMark | Listed::SpareByte => told(Cause::NoSpace, i),
+        Listed::Misaligned | Listed::RecordCut | Listed::TooWide => told(Cause::Misaligned, i + 1),
+        Listed::PastEnd => told(Cause::PastEnd, i + 1),
+        Listed::ReadOnly => told(Cause::ReadOnly, i + 1),
+        Listed::UnlockCell => told(Cause::Unlock, i + 1),
+        Listed::PacketCount => told(Cause::PacketCount, i + 1),
     }
 }
 
@@ -150,13 +150,12 @@ fn element_fault(write: bool, i: usize, space: &[u8], address: &[u8]) -> Fault
     requires { i ≤ 2 }
     ensures { result ≡ element_fault write i (number_in (space_of space.now)) (number_in (address_of address.now)) }
 {
-    let s = number::space_of(space).value as u8;
-    let a = number::address_of(address).value as u16;
-    let n = list_reason::element_cause(write, s, a);
-    if n == 1 {
-        return told(Cause::NoSpace, i);
+    let s = number::space_of(space).unwrap_or(0);
+    let a = number::address_of(address).unwrap_or(0);
+    match list_reason::element_cause(write, s, a) {
+        Some(cause) => listed_fault(cause, i),
+        None => told(Cause::PacketCount, i + 1),
     }
-    told(cause_numbered(n), i + 1)
 }
 
 fn read_fault(number: u32, space: &[u8], address: &[u8]) -> Fault
@@ -171,46 +170,34 @@ fn read_fault(number: u32, space: &[u8], address: &[u8]) -> Fault
 fn write_fault(number: u32, space: &[u8], address: &[u8]) -> Fault
     ensures { (above : List (List ℕ)) (v : List ℕ) → result ≡ form_fault number above (writes (at space.now address.now) v) }
 {
-    if number == 82 {
-        return value_fault(space, address);
+    match number {
+        82 => value_fault(space, address),
+        24 => told(Cause::TooWide, 3),
+        _ => element_fault(true, 1, space, address),
     }
-    if number == 24 {
-        return told(Cause::TooWide, 3);
-    }
-    element_fault(true, 1, space, address)
 }
 
 fn named_fault(number: u32, name: &[u8]) -> Fault
     ensures { (above : List (List ℕ)) (v : List ℕ) → result ≡ form_fault number above (writes (called name.now) v) }
 {
-    if number == 82 {
-        return told(Cause::Value, 2);
+    match number {
+        82 => told(Cause::Value, 2),
+        83 => used_fault(name),
+        24 => told(Cause::TooWide, 2),
+        _ => told(Cause::ReadOnly, 1),
     }
-    if number == 83 {
-        return used_fault(name);
-    }
-    if number == 24 {
-        return told(Cause::TooWide, 2);
-    }
-    told(Cause::ReadOnly, 1)
 }
 
 fn name_fault(number: u32, line: u64, text: &[u8], rest: &[u8], w: Words) -> Fault
     ensures { result ≡ form_fault number (take (line - 1) (lines_of text.now))
         (names (word_in rest.now w.second) (word_in rest.now w.third) (word_in rest.now w.fourth)) }
 {
-    if number == 82 {
-        return place_fault(2, word::part(rest, w.third));
+    let space = word::part(rest, w.third);
+    match number {
+        82 => place_fault(2, space),
+        83 => defined_fault(text, line, word::part(rest, w.second)),
+        _ => element_fault(false, 2, space, word::part(rest, w.fourth)),
     }
-    if number == 83 {
-        return defined_fault(text, line, word::part(rest, w.second));
-    }
-    element_fault(
-        false,
-        2,
-        word::part(rest, w.third),
-        word::part(rest, w.fourth),
-    )
 }
 
 // Of a line that is refused with this number.
@@ -220,7 +207,7 @@ pub fn fault_of(number: u32, line: u64, text: &[u8]) -> Fault
     if number == 21 {
         return told(Cause::Records, 0);
     }
-    let rest = known::rest_at(text, line_place(text, line));
+    let rest = find::rest(text, line_place(text, line));
     let w = word::words_of(rest);
     let shape = line::shape_of(word::part(rest, w.first), w.count);
     match shape {
@@ -245,16 +232,12 @@ pub fn fault_of(number: u32, line: u64, text: &[u8]) -> Fault
 fn word_numbered(w: Words, k: usize) -> Word
     ensures { result ≡ word_numbered w k }
 {
-    if k == 0 {
-        return w.first;
+    match k {
+        0 => w.first,
+        1 => w.second,
+        2 => w.third,
+        _ => w.fourth,
     }
-    if k == 1 {
-        return w.second;
-    }
-    if k == 2 {
-        return w.third;
-    }
-    w.fourth
 }
 
 // The word at fault.
@@ -262,7 +245,7 @@ pub fn word_of(number: u32, line: u64, text: &[u8]) -> &[u8]
     ensures { result.now ≡ fault_word number line text.now }
 {
     let f = fault_of(number, line, text);
-    let rest = known::rest_at(text, line_place(text, line));
+    let rest = find::rest(text, line_place(text, line));
     let w = word::words_of(rest);
     word::part(rest, word_numbered(w, f.word))
 }

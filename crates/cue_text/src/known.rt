@@ -1,17 +1,16 @@
 // Names. A text's names are kept as a number each, so that a use of one costs no more than all the names' bytes.
-ghost use Rattle.std.specs.Prelude.{◌≡◌, not, ◌||◌, ◌<◌, eqb, length, drop};
+ghost use Rattle.std.specs.Prelude.{◌≡◌, not, ◌||◌, ◌<◌, eqb, length};
 ghost use Rattle.cue_text.specs.Numbers.{space_of, address_of, is_letter, is_name_byte, all_name_bytes, starts_with_letter, is_keyword, is_name};
-ghost use Rattle.cue_text.specs.Text.{place, place_by, place_of, is_known, most_names};
-ghost use Rattle.cue_text.specs.Inside.{located, defined_at, near, far, kept_near, kept, name_at, names_at};
+ghost use Rattle.cue_text.specs.Text.{place_by, place_of, is_known, most_names};
+ghost use Rattle.cue_text.specs.Inside.{located, stands, defined_at, near, far, kept_near, kept, name_at, names_at};
 
 use crate::word::Word;
 use crate::{number, word};
-use text::{find, least};
+use text::find;
 
-// Where a line reads or writes, or nowhere, and then 0.
-#[derive(Clone, Copy)]
+// Where a line reads or writes.
+#[derive(Clone, Copy, Debug, PartialEq, Eq)]
 pub(crate) struct Located {
-    pub(crate) found: bool,
     pub(crate) space: u8,
     pub(crate) address: u16,
 }
@@ -19,32 +18,14 @@ pub(crate) struct Located {
 // The most names that a text may define.
 pub(crate) const MOST_NAMES: usize = 1000;
 
-// The text from a place on.
-pub(crate) fn rest_at(text: &[u8], at: usize) -> &[u8]
-    ensures { result.now ≡ drop at text.now }
-{
-    let from = least(at, text.len());
-    &text[from..]
-}
-
 // A space and an address by their words.
-pub(crate) fn place_by(space: &[u8], address: &[u8]) -> Located
+pub(crate) fn place_by(space: &[u8], address: &[u8]) -> Option<Located>
     ensures { result ≡ located (place_by (space_of space.now) (address_of address.now)) }
 {
-    let s = number::space_of(space);
-    let a = number::address_of(address);
-    if s.good & a.good {
-        return Located {
-            found: true,
-            space: s.value as u8,
-            address: a.value as u16,
-        };
-    }
-    Located {
-        found: false,
-        space: 0,
-        address: 0,
-    }
+    Some(Located {
+        space: number::space_of(space)?,
+        address: number::address_of(address)?,
+    })
 }
 
 // A name is kept as its place in the text, its bytes less one, its space and its address: 39, 5, 3 and 16 bits. The few that do not fit are
@@ -80,32 +61,28 @@ fn name_kept(text: &[u8], x: usize) -> &[u8]
         let to = from + x / 524288 % 32 + 1;
         return word::part(text, Word { from, to });
     }
-    let rest = rest_at(text, x - FAR);
+    let rest = find::rest(text, x - FAR);
     word::part(rest, word::word_at(rest, 0))
 }
 
 // What a name stands for, read from its definition.
 fn defined_at(text: &[u8], at: usize) -> Located
-    ensures { result ≡ located (place (defined_at text.now at).space (defined_at text.now at).address) }
+    ensures { result ≡ stands (defined_at text.now at) }
 {
-    let rest = rest_at(text, at);
+    let rest = find::rest(text, at);
     let w = word::words_of(rest);
-    let s = number::space_of(word::part(rest, w.second));
-    let a = number::address_of(word::part(rest, w.third));
     Located {
-        found: true,
-        space: s.value as u8,
-        address: a.value as u16,
+        space: number::space_of(word::part(rest, w.second)).unwrap_or(0),
+        address: number::address_of(word::part(rest, w.third)).unwrap_or(0),
     }
 }
 
 // What a name that is kept stands for.
 fn place_kept(text: &[u8], x: usize) -> Located
-    ensures { result ≡ located (place (name_at text.now x).space (name_at text.now x).address) }
+    ensures { result ≡ stands (name_at text.now x) }
 {
     if x < FAR {
         return Located {
-            found: true,
             space: (x / 65536 % 8) as u8,
             address: (x % 65536) as u16,
         };
@@ -113,56 +90,43 @@ fn place_kept(text: &[u8], x: usize) -> Located
     defined_at(text, x - FAR)
 }
 
-// What a name stands for, of those that are kept.
-pub(crate) fn place_of(text: &[u8], table: &[usize], name: &[u8]) -> Located
+// What a name stands for, of those that are kept. A map of them would need a heap.
+pub(crate) fn place_of(text: &[u8], table: &[usize], name: &[u8]) -> Option<Located>
     ensures { result ≡ located (place_of name.now (names_at text.now table.now)) }
 {
-    let mut i: usize = 0;
-    while i < table.len() {
-        if find::same(name_kept(text, table[i]), name) {
-            return place_kept(text, table[i]);
+    for &x in table {
+        if find::same(name_kept(text, x), name) {
+            return Some(place_kept(text, x));
         }
-        i += 1;
     }
-    Located {
-        found: false,
-        space: 0,
-        address: 0,
-    }
+    None
 }
 
 fn is_letter(b: u8) -> bool
     ensures { result ≡ is_letter b }
 {
-    (!(b < 65) & !(90 < b)) | (!(b < 97) & !(122 < b))
+    b.is_ascii_alphabetic()
 }
 
 fn is_name_byte(b: u8) -> bool
     ensures { result ≡ is_name_byte b }
 {
-    is_letter(b) | (!(b < 48) & !(57 < b)) | (b == b'_') | (b == b'-') | (b == b'.')
+    is_letter(b) | b.is_ascii_digit() | (b == b'_') | (b == b'-') | (b == b'.')
 }
 
 fn all_name_bytes(word: &[u8]) -> bool
     ensures { result ≡ all_name_bytes word.now }
 {
-    let mut i: usize = 0;
-    while i < word.len() {
-        if !is_name_byte(word[i]) {
-            return false;
-        }
-        i += 1;
-    }
-    true
+    word.iter().all(|&b| is_name_byte(b))
 }
 
 fn starts_with_letter(word: &[u8]) -> bool
     ensures { result ≡ starts_with_letter word.now }
 {
-    if word.len() == 0 {
-        return false;
+    match word.first() {
+        Some(&b) => is_letter(b),
+        None => false,
     }
-    is_letter(word[0])
 }
 
 fn is_keyword(word: &[u8]) -> bool
@@ -189,6 +153,5 @@ pub(crate) fn bad_name(text: &[u8], table: &[usize], name: &[u8]) -> bool
         || is_known (place_of name.now (names_at text.now table.now))
         || eqb (length (names_at text.now table.now)) most_names) }
 {
-    let p = place_of(text, table, name);
-    !is_name(name) | p.found | (table.len() == MOST_NAMES)
+    !is_name(name) | place_of(text, table, name).is_some() | (table.len() == MOST_NAMES)
 }

@@ -1,21 +1,22 @@
 // What a line says.
-ghost use Rattle.std.specs.Prelude.{◌≡◌, List, cond, ℕ, ◌+◌, ◌≤◌, length};
+ghost use Rattle.std.specs.Prelude.{◌≡◌, List, cond, ℕ, ◌≤◌, length};
+ghost use Rattle.lbp16.specs.Answer.{rule_number, ruled};
 ghost use Rattle.packet.specs.Rules.{first};
 ghost use Rattle.cue.specs.Records.{record_refusals, read_mark, write_mark};
 ghost use Rattle.cue_text.specs.Text.{Name, reads, writes, names, at, called, bytes_of_cue, record_meaning, read_meaning, write_meaning};
 ghost use Rattle.cue_text.specs.Text.{form_meaning, line_meaning};
 ghost use Rattle.cue_text.specs.Inside.{read_shape, write_shape, name_shape, shape_of, place_in, word_in, ten_bytes, meaning_of};
-ghost use Rattle.cue_text.specs.Inside.{names_at, line_at, value_in, LineHere};
+ghost use Rattle.cue_text.specs.Inside.{names_at, line_at, LineHere};
 
 use crate::known::Located;
-use crate::number::Number;
 use crate::word::Words;
 use crate::{known, number, word};
 use cue::records;
+use lbp16::Rule;
 use text::find;
 
 // A record as a line says it. A read has the value 0.
-#[derive(Clone, Copy)]
+#[derive(Clone, Copy, Debug, PartialEq, Eq)]
 pub struct Cue {
     pub write: bool,
     pub space: u8,
@@ -24,7 +25,7 @@ pub struct Cue {
 }
 
 // The forms of a line.
-#[derive(Clone, Copy)]
+#[derive(Clone, Copy, Debug, PartialEq, Eq)]
 pub(crate) enum Shape {
     Empty,
     ReadAt,
@@ -36,9 +37,8 @@ pub(crate) enum Shape {
 }
 
 // A name is defined by the number that it is kept as.
-#[derive(Clone, Copy)]
+#[derive(Clone, Copy, Debug, PartialEq, Eq)]
 pub(crate) enum Said {
-    Refused(u32),
     Nothing,
     Defines(usize),
     Does(Cue),
@@ -127,32 +127,31 @@ pub(crate) fn bytes_of(c: Cue) -> [u8; 10]
     ]
 }
 
-// Refusals 21 to 24 of a record, 0 for none.
-fn refusal_of(c: Cue, index: usize) -> u32
-    ensures { result ≡ first (record_refusals index (bytes_of_cue c)) }
+// Refusals 21 to 24 of a record.
+fn ruling_of(c: Cue, index: usize) -> Result<(), Rule>
+    ensures { ruled result ≡ first (record_refusals index (bytes_of_cue c)) }
 {
     let b = bytes_of(c);
     let n = records::record_bytes(c.write);
     records::record_refusal(&b[..n], index)
 }
 
-fn record_said(c: Cue, index: usize) -> Said
+fn record_said(c: Cue, index: usize) -> Result<Said, Rule>
     ensures { (text : List ℕ) → meaning_of text result ≡ record_meaning index c }
 {
-    let number = refusal_of(c, index);
-    if number != 0 {
-        return Said::Refused(number);
+    match ruling_of(c, index) {
+        Ok(()) => Ok(Said::Does(c)),
+        Err(rule) => Err(rule),
     }
-    Said::Does(c)
 }
 
-// `n` is the refusal of a place that was not found.
-fn read_said(n: u32, p: Located, index: usize) -> Said
-    ensures { (text : List ℕ) → meaning_of text result ≡ read_meaning n (place_in p) index }
+// By `rule` a place is refused that was not found.
+fn read_said(rule: Rule, p: Option<Located>, index: usize) -> Result<Said, Rule>
+    ensures { (text : List ℕ) → meaning_of text result ≡ read_meaning (rule_number rule) (place_in p) index }
 {
-    if !p.found {
-        return Said::Refused(n);
-    }
+    let Some(p) = p else {
+        return Err(rule);
+    };
     let c = Cue {
         write: false,
         space: p.space,
@@ -162,75 +161,85 @@ fn read_said(n: u32, p: Located, index: usize) -> Said
     record_said(c, index)
 }
 
-fn write_said(n: u32, p: Located, v: Number, index: usize) -> Said
-    requires { v.value ≤ 4294967295 }
-    ensures { (text : List ℕ) → meaning_of text result ≡ write_meaning n (place_in p) (value_in v) index }
+fn write_said(rule: Rule, p: Option<Located>, v: Option<u32>, index: usize) -> Result<Said, Rule>
+    ensures { (text : List ℕ) → meaning_of text result ≡ write_meaning (rule_number rule) (place_in p) v index }
 {
-    if !v.good {
-        return Said::Refused(82);
-    }
-    if !p.found {
-        return Said::Refused(n);
-    }
+    let Some(value) = v else {
+        return Err(Rule::LineNumber);
+    };
+    let Some(p) = p else {
+        return Err(rule);
+    };
     let c = Cue {
         write: true,
         space: p.space,
         address: p.address,
-        value: v.value as u32,
+        value,
     };
     record_said(c, index)
 }
 
-fn read_at(rest: &[u8], w: Words, index: usize) -> Said
+fn read_at(rest: &[u8], w: Words, index: usize) -> Result<Said, Rule>
     ensures { (text : List ℕ) (known : List Name) → meaning_of text result
         ≡ form_meaning known index (reads (at (word_in rest.now w.second) (word_in rest.now w.third))) }
 {
     let p = known::place_by(word::part(rest, w.second), word::part(rest, w.third));
-    read_said(82, p, index)
+    read_said(Rule::LineNumber, p, index)
 }
 
-fn read_name(text: &[u8], table: &[usize], rest: &[u8], w: Words, index: usize) -> Said
+fn read_name(
+    text: &[u8],
+    table: &[usize],
+    rest: &[u8],
+    w: Words,
+    index: usize,
+) -> Result<Said, Rule>
     ensures { meaning_of text.now result
         ≡ form_meaning (names_at text.now table.now) index (reads (called (word_in rest.now w.second))) }
 {
     let p = known::place_of(text, table, word::part(rest, w.second));
-    read_said(83, p, index)
+    read_said(Rule::LineName, p, index)
 }
 
-fn write_at(rest: &[u8], w: Words, index: usize) -> Said
+fn write_at(rest: &[u8], w: Words, index: usize) -> Result<Said, Rule>
     ensures { (text : List ℕ) (known : List Name) → meaning_of text result
         ≡ form_meaning known index
         (writes (at (word_in rest.now w.second) (word_in rest.now w.third)) (word_in rest.now w.fourth)) }
 {
     let p = known::place_by(word::part(rest, w.second), word::part(rest, w.third));
     let v = number::value_of(word::part(rest, w.fourth));
-    write_said(82, p, v, index)
+    write_said(Rule::LineNumber, p, v, index)
 }
 
-fn write_name(text: &[u8], table: &[usize], rest: &[u8], w: Words, index: usize) -> Said
+fn write_name(
+    text: &[u8],
+    table: &[usize],
+    rest: &[u8],
+    w: Words,
+    index: usize,
+) -> Result<Said, Rule>
     ensures { meaning_of text.now result
         ≡ form_meaning (names_at text.now table.now) index
         (writes (called (word_in rest.now w.second)) (word_in rest.now w.third)) }
 {
     let p = known::place_of(text, table, word::part(rest, w.second));
     let v = number::value_of(word::part(rest, w.third));
-    write_said(83, p, v, index)
+    write_said(Rule::LineName, p, v, index)
 }
 
 // A definition is held against refusal 23 as a read.
-fn name_at(text: &[u8], place: usize, table: &[usize], rest: &[u8], w: Words) -> Said
+fn name_at(text: &[u8], place: usize, table: &[usize], rest: &[u8], w: Words) -> Result<Said, Rule>
     requires { LineHere text.now place rest.now w }
     ensures { (index : ℕ) → meaning_of text.now result
         ≡ form_meaning (names_at text.now table.now) index
         (names (word_in rest.now w.second) (word_in rest.now w.third) (word_in rest.now w.fourth)) }
 {
-    let p = known::place_by(word::part(rest, w.third), word::part(rest, w.fourth));
-    if !p.found {
-        return Said::Refused(82);
-    }
+    let Some(p) = known::place_by(word::part(rest, w.third), word::part(rest, w.fourth)) else {
+        return Err(Rule::LineNumber);
+    };
     let name = word::part(rest, w.second);
     if known::bad_name(text, table, name) {
-        return Said::Refused(83);
+        return Err(Rule::LineName);
     }
     let c = Cue {
         write: false,
@@ -238,29 +247,33 @@ fn name_at(text: &[u8], place: usize, table: &[usize], rest: &[u8], w: Words) ->
         address: p.address,
         value: 0,
     };
-    let number = refusal_of(c, 0);
-    if number != 0 {
-        return Said::Refused(number);
+    match ruling_of(c, 0) {
+        Ok(()) => Ok(Said::Defines(known::kept(place + w.second.from, name.len(), p))),
+        Err(rule) => Err(rule),
     }
-    Said::Defines(known::kept(place + w.second.from, name.len(), p))
 }
 
 // The line at a place of the text, with the names that are known above it and so many records above it.
-pub(crate) fn said_at(text: &[u8], place: usize, table: &[usize], index: usize) -> Said
+pub(crate) fn said_at(
+    text: &[u8],
+    place: usize,
+    table: &[usize],
+    index: usize,
+) -> Result<Said, Rule>
     requires { place ≤ length text.now }
     ensures { meaning_of text.now result
         ≡ line_meaning (names_at text.now table.now) index (line_at text.now place) }
 {
-    let rest = known::rest_at(text, place);
+    let rest = find::rest(text, place);
     let w = word::words_of(rest);
     let shape = shape_of(word::part(rest, w.first), w.count);
     match shape {
-        Shape::Empty => Said::Nothing,
+        Shape::Empty => Ok(Said::Nothing),
         Shape::ReadAt => read_at(rest, w, index),
         Shape::ReadName => read_name(text, table, rest, w, index),
         Shape::WriteAt => write_at(rest, w, index),
         Shape::WriteName => write_name(text, table, rest, w, index),
         Shape::Names => name_at(text, place, table, rest, w),
-        Shape::Unknown => Said::Refused(81),
+        Shape::Unknown => Err(Rule::LineForm),
     }
 }

@@ -4,12 +4,11 @@ ghost use Rattle.std.proofs.lemmas.List.Edits.{sets};
 ghost use Rattle.cue_text.specs.Text.{most_names, bytes_of_cue};
 ghost use Rattle.cue_text.specs.Assembled.{assembled, cues, list_of, text_listed};
 ghost use Rattle.cue_text.specs.declared.line.Cue.{Cue};
-ghost use Rattle.cue_text.specs.Inside.{line_bytes, said_number, tallied, table_after, room_after, Roomy, answered};
+ghost use Rattle.cue_text.specs.Inside.{line_bytes, tallied, table_after, room_after, Roomy, answered};
 
 use crate::line::{Cue, Said};
-use crate::{TextAnswer, known, line};
+use crate::{TextAnswer, Written, known, line};
 use cue::records;
-use lbp16::Refusal;
 use text::find;
 
 // Lines, names, the list's bytes and records so far.
@@ -19,17 +18,6 @@ pub(crate) struct Tally {
     pub(crate) names: usize,
     pub(crate) bytes: usize,
     pub(crate) records: usize,
-}
-
-fn number_of(said: Said) -> u32
-    ensures { result ≡ said_number said }
-{
-    match said {
-        Said::Refused(n) => n,
-        Said::Nothing => 0,
-        Said::Defines(_) => 0,
-        Said::Does(_) => 0,
-    }
 }
 
 // What does not fit is cut off at the room's end.
@@ -47,31 +35,25 @@ fn turned(t: Tally, said: Said, table: &mut [usize], out: &mut [u8]) -> Tally
     ensures { (result ≡ tallied t said) × (table.new ≡ table_after said t.names table.old)
         × (out.new ≡ room_after said t.bytes out.old) }
 {
+    let lines = t.lines + 1;
     match said {
-        Said::Refused(_) => t,
-        Said::Nothing => Tally {
-            lines: t.lines + 1,
-            names: t.names,
-            bytes: t.bytes,
-            records: t.records,
-        },
+        Said::Nothing => Tally { lines, ..t },
         Said::Defines(place) => {
             let free = t.names;
             table[free] = place;
             Tally {
-                lines: t.lines + 1,
+                lines,
                 names: free + 1,
-                bytes: t.bytes,
-                records: t.records,
+                ..t
             }
         }
         Said::Does(c) => {
             put_cue(out, t.bytes, c);
             Tally {
-                lines: t.lines + 1,
-                names: t.names,
+                lines,
                 bytes: t.bytes + records::record_bytes(c.write),
                 records: t.records + 1,
+                ..t
             }
         }
     }
@@ -102,23 +84,19 @@ fn walk_with(text: &[u8], table: &mut [usize], out: &mut [u8]) -> TextAnswer
         records: 0,
     };
     let mut at: usize = 0;
+    // What a line says depends on the names above it, and their places in the text.
     while at < text.len() {
         let n = t.names;
-        let said = line::said_at(text, at, &table[..n], t.records);
-        let number = number_of(said);
-        if number != 0 {
-            return TextAnswer::Refused(Refusal {
-                number,
-                place: (t.lines + 1) as u64,
-            });
+        match line::said_at(text, at, &table[..n], t.records) {
+            Ok(said) => t = turned(t, said, table, out),
+            Err(rule) => return Err(rule.at((t.lines + 1) as u64)),
         }
-        t = turned(t, said, table, out);
-        at += line_bytes(known::rest_at(text, at));
+        at += line_bytes(find::rest(text, at));
     }
-    TextAnswer::Written {
+    Ok(Written {
         bytes: t.bytes,
         count: t.records,
-    }
+    })
 }
 
 pub(crate) fn walk(text: &[u8], out: &mut [u8]) -> TextAnswer

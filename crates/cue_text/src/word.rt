@@ -1,19 +1,20 @@
 // A line's words, found in the text from the line on.
-ghost use Rattle.std.specs.Prelude.{◌≡◌, ◌+◌, ◌≤◌, length, drop};
+ghost use Rattle.std.specs.Prelude.{◌≡◌, ◌≤◌, length};
+ghost use Rattle.std.specs.List.{prefix_len};
 ghost use Rattle.cue_text.specs.Words.{is_blank};
-ghost use Rattle.cue_text.specs.Inside.{ends_word, blanks, word_bytes, word_from, word_in, word_count, HoldsWords};
+ghost use Rattle.cue_text.specs.Inside.{in_word, word_from, word_in, word_count, HoldsWords};
 
-use text::least;
+use text::{find, least};
 
 // From its first byte to behind its last; both are one place where there is no word.
-#[derive(Clone, Copy)]
+#[derive(Clone, Copy, Debug, PartialEq, Eq)]
 pub(crate) struct Word {
     pub(crate) from: usize,
     pub(crate) to: usize,
 }
 
 // A line's first four words, and how many it has; five are five or more.
-#[derive(Clone, Copy)]
+#[derive(Clone, Copy, Debug, PartialEq, Eq)]
 pub(crate) struct Words {
     pub(crate) first: Word,
     pub(crate) second: Word,
@@ -25,43 +26,27 @@ pub(crate) struct Words {
 fn is_blank(b: u8) -> bool
     ensures { result ≡ is_blank b }
 {
-    (b == 32) | (b == 9) | (b == 13)
+    (b == b' ') | (b == b'\t') | (b == b'\r')
 }
 
-fn ends_word(b: u8) -> bool
-    ensures { result ≡ ends_word b }
+fn in_word(b: u8) -> bool
+    ensures { result ≡ in_word b }
 {
-    is_blank(b) | ((b == 10) | (b == 35))
+    !(is_blank(b) | ((b == b'\n') | (b == b'#')))
 }
 
-// The first place from `at` on that has no blank.
-fn past_blanks(rest: &[u8], at: usize) -> usize
-    requires { at ≤ length rest.now }
-    ensures { (result ≡ at + blanks (drop at rest.now)) × (result ≤ length rest.now) }
+// How many blanks the line begins with.
+fn blanks(rest: &[u8]) -> usize
+    ensures { result ≡ prefix_len is_blank rest.now }
 {
-    let mut i = at;
-    while i < rest.len() {
-        if !is_blank(rest[i]) {
-            return i;
-        }
-        i += 1;
-    }
-    i
+    rest.iter().take_while(|&&b| is_blank(b)).count()
 }
 
-// The end of the word at `from`.
-fn past_word(rest: &[u8], from: usize) -> usize
-    requires { from ≤ length rest.now }
-    ensures { (result ≡ from + word_bytes (drop from rest.now)) × (result ≤ length rest.now) }
+// The bytes of the word that the line begins with.
+fn word_bytes(rest: &[u8]) -> usize
+    ensures { result ≡ prefix_len in_word rest.now }
 {
-    let mut i = from;
-    while i < rest.len() {
-        if ends_word(rest[i]) {
-            return i;
-        }
-        i += 1;
-    }
-    i
+    rest.iter().take_while(|&&b| in_word(b)).count()
 }
 
 // The next word from `at` on.
@@ -69,8 +54,8 @@ pub(crate) fn word_at(rest: &[u8], at: usize) -> Word
     requires { at ≤ length rest.now }
     ensures { (result ≡ word_from rest.now at) × (result.to ≤ length rest.now) }
 {
-    let from = past_blanks(rest, at);
-    let to = past_word(rest, from);
+    let from = at + blanks(find::rest(rest, at));
+    let to = from + word_bytes(find::rest(rest, from));
     Word { from, to }
 }
 

@@ -17,7 +17,7 @@ use Rattle.text.specs.Number.{ascii, hex_digit, hexadecimal}
 use Rattle.text.specs.Find.{bytes_before, capital, hex_value, same_bytes}
 use Rattle.text.proofs.HexLaws.{hex_length}
 use Rattle.cue_text.specs.Words.{is_blank, with_byte, lines_of, uncommented, closed, words_from, words_of}
-use Rattle.cue_text.specs.Numbers.{value, all_digits, digits_from, digits_value, is_hex, number_of, up_to, address_of, value_of, space_of}
+use Rattle.cue_text.specs.Numbers.{all_digits, digits_from, digits_value, is_hex, number_of, up_to, address_of, value_of, space_of}
 use Rattle.space_text.specs.SpaceText.{space_word}
 
 -- bytes of a word: digits and letters
@@ -149,18 +149,18 @@ unfolding hexadecimal
 hex_plain zero v = tt
 hex_plain (suc k) v = let d = digit-plain (v / 16 ^ k % 16) (omega arith) in (d.0, d.1, hex_plain k v)
 
-number-back : (k v : ℕ) → 0 < k → v < 16 ^ k → number_of (hex_of k v) ≡ value v
+number-back : (k v : ℕ) → 0 < k → v < 16 ^ k → number_of (hex_of k v) ≡ Some v
 unfolding number_of is_hex digits_value same_bytes ascii
 number-back k v some h =
     let e : 16 ^ k * 0 + v % 16 ^ k ≡ v = rw (mod-eq_of_lt h) (omega arith) in
     rw (all_digits_lem k v, hex_length k v, ne_eqb k 0 (λ z. omega arith), digits-back k 0 v, e) refl
 
-pub address-back : (a : ℕ) → a < 65536 → address_of (hex_of 4 a) ≡ value a
+pub address-back : (a : ℕ) → a < 65536 → address_of (hex_of 4 a) ≡ Some a
 unfolding address_of up_to
 address-back a h = rw (number-back 4 a (omega arith) (omega arith), le-ltb 65535 a (omega arith)) refl
 
--- a value with as many digits as its element
-pub value-back : (s : Space) (v : ℕ) → is_absent s ≡ false → v < 256 ^ (row s).element → value_of (hex_of (2 * (row s).element) v) ≡ value v
+-- a Some with as many digits as its element
+pub value-back : (s : Space) (v : ℕ) → is_absent s ≡ false → v < 256 ^ (row s).element → value_of (hex_of (2 * (row s).element) v) ≡ Some v
 unfolding value_of up_to row is_absent
 value-back registers v p h = rw (number-back 8 v (omega arith) (omega arith), le-ltb 4294967295 v (omega arith)) refl
 value-back eeprom v p h = rw (number-back 4 v (omega arith) (omega arith), le-ltb 4294967295 v (omega arith)) refl
@@ -168,10 +168,10 @@ value-back status v p h = rw (number-back 4 v (omega arith) (omega arith), le-lt
 value-back information v p h = rw (number-back 4 v (omega arith) (omega arith), le-ltb 4294967295 v (omega arith)) refl
 value-back absent v p h = let z : ◌≡◌ {A = ℕ} 0 1 = cc in absurd (omega arith)
 
-pub space-back : (n : ℕ) → is_absent (space n) ≡ false → space_of (space_word (space n)) ≡ value n
+pub space-back : (n : ℕ) → is_absent (space n) ≡ false → space_of (space_word (space n)) ≡ Some n
 unfolding space_of space_word same_bytes ascii is_absent
 space-back n =
-    space-cases n (λ m s. is_absent s ≡ false → space_of (space_word s) ≡ value m) (λ h. refl) (λ h. refl) (λ h. refl) (λ h. refl)
+    space-cases n (λ m s. is_absent s ≡ false → space_of (space_word s) ≡ Some m) (λ h. refl) (λ h. refl) (λ h. refl) (λ h. refl)
     (λ a b c d h. let z : ◌≡◌ {A = ℕ} 0 1 = cc in absurd (omega arith))
 
 pub space-plain : (s : Space) → Plain (space_word s)

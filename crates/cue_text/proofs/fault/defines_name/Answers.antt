@@ -22,10 +22,10 @@ defines-none Shape.Unknown name b c d h = refl
 
 pub returns-in_default : goal.returns-in_default
 returns-in_default c = defines-none c.shape_of-shape.result _ _ _ _ c.in_default.not-Names
-    ∙ defines_as _ _ c.rest_at-rest.ensures _ c.words_of-w.ensures c.part.ensures c.shape_of-shape.ensures _ _ refl
+    ∙ defines_as _ _ c.rest-rest.ensures _ c.words_of-w.ensures c.part.ensures c.shape_of-shape.ensures _ _ refl
 
 pub returns : goal.returns
 unfolding defines_name formed
 returns c = rw c.part-2.ensures at c.same.ensures
-    ∙ defines_as _ _ c.rest_at-rest.ensures _ c.words_of-w.ensures c.part.ensures c.shape_of-shape.ensures _ Shape.Names
+    ∙ defines_as _ _ c.rest-rest.ensures _ c.words_of-w.ensures c.part.ensures c.shape_of-shape.ensures _ Shape.Names
     c.in-Names.is

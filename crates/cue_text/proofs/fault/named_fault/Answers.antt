@@ -1,23 +1,20 @@
-use mathlib.Core.Path.{◌∙◌}
-use mathlib.Core.Path.{refl}
-use borrow.Author.Tests.{eq-eqb, ne_eqb}
+use Rattle.std.proofs.Common.{refl, arith, rules, ne_eqb, ◌∙◌}
 use Rattle.cue_text.specs.Fault.{form_fault}
 use Rattle.cue_text.proofs.fault.named_fault.Goals as goal
 
-pub returns-then-number-eq82 : goal.returns-then-number-eq82
+pub returns-in-82 : goal.returns-in-82
 unfolding form_fault
-returns-then-number-eq82 c = λ above v. c.told.ensures ∙ rw (eq-eqb _ _ c.if-number-eq82.true) refl
+returns-in-82 c above v = c.told.ensures ∙ rw c.in-82.is refl
 
-pub returns-then-number-eq83 : goal.returns-then-number-eq83
+pub returns-in-83 : goal.returns-in-83
 unfolding form_fault
-returns-then-number-eq83 c = λ above v. c.used_fault.ensures ∙ rw (ne_eqb _ _ c.if-number-eq82.false, eq-eqb _ _ c.if-number-eq83.true) refl
+returns-in-83 c above v = c.used_fault.ensures ∙ rw c.in-83.is refl
 
-pub returns-then-number-eq24 : goal.returns-then-number-eq24
+pub returns-in-24 : goal.returns-in-24
 unfolding form_fault
-returns-then-number-eq24 c = λ above v.
-    c.told-then-number-eq24.ensures ∙ rw (ne_eqb _ _ c.if-number-eq82.false, ne_eqb _ _ c.if-number-eq83.false, eq-eqb _ _ c.if-number-eq24.true) refl
+returns-in-24 c above v = c.told-in-24.ensures ∙ rw c.in-24.is refl
 
-pub returns : goal.returns
+pub returns-in_default : goal.returns-in_default
 unfolding form_fault
-returns c = λ above v.
-    c.told-2.ensures ∙ rw (ne_eqb _ _ c.if-number-eq82.false, ne_eqb _ _ c.if-number-eq83.false, ne_eqb _ _ c.if-number-eq24.false) refl
+returns-in_default c above v = c.told-in_default.ensures
+    ∙ rw (ne_eqb c.args.number 82 (search rules), ne_eqb c.args.number 83 (search rules), ne_eqb c.args.number 24 (search rules)) refl

@@ -1,13 +1,17 @@
-use mathlib.Core.Path.{◌∙◌}
-use native.Mathlib.Omega.{arith}
-use Rattle.cue_text.proofs.FaultLaws.{value_wrong, place_wrong}
+use Rattle.std.proofs.Common.{Bool, true, false, not, ◌||◌, ◌≡◌, cond, refl, arith, ◌∙◌}
+use Rattle.cue_text.specs.Fault.{write_fault, place_fault, fault}
+use Rattle.cue_text.proofs.FaultLaws.{either}
 use Rattle.cue_text.proofs.fault.value_fault.Goals as goal
-
-pub returns-then-s-a : goal.returns-then-s-a
-returns-then-s-a c = c.told.ensures ∙ value_wrong _ _ c.space_of-s.ensures c.address_of-a.ensures c.if-s-a.true
 
 pub place_fault-requires : goal.place_fault-requires
 place_fault-requires c = omega arith
 
+pub returns-then-is_none : goal.returns-then-is_none
+unfolding write_fault
+returns-then-is_none c = c.place_fault.ensures
+    ∙ rw (← c.space_of.ensures, ← c.address_of.ensures, c.is_none.ensures, c.is_none-2.ensures, either _ _ c.if-is_none.true) refl
+
 pub returns : goal.returns
-returns c = c.place_fault.ensures ∙ place_wrong _ _ c.space_of-s.ensures c.address_of-a.ensures c.if-s-a.false
+unfolding write_fault
+returns c = c.told.ensures
+    ∙ rw (← c.space_of.ensures, ← c.address_of.ensures, c.is_none.ensures, c.is_none-2.ensures, either _ _ c.if-is_none.false) refl

@@ -1,20 +1,20 @@
-use mathlib.Core.Path.{refl}
-use borrow.Author.Tests.{eq-eqb, ne_eqb}
+use Rattle.std.proofs.Common.{refl, rules, ne_eqb}
 use Rattle.cue_text.specs.Inside.{word_numbered}
 use Rattle.cue_text.proofs.fault.word_numbered.Goals as goal
 
-pub returns-then-k-eq0 : goal.returns-then-k-eq0
+pub returns-in-0 : goal.returns-in-0
 unfolding word_numbered
-returns-then-k-eq0 c = rw (eq-eqb _ _ c.if-k-eq0.true) refl
+returns-in-0 c = rw c.in-0.is refl
 
-pub returns-then-k-eq1 : goal.returns-then-k-eq1
+pub returns-in-1 : goal.returns-in-1
 unfolding word_numbered
-returns-then-k-eq1 c = rw (ne_eqb _ _ c.if-k-eq0.false, eq-eqb _ _ c.if-k-eq1.true) refl
+returns-in-1 c = rw c.in-1.is refl
 
-pub returns-then-k-eq2 : goal.returns-then-k-eq2
+pub returns-in-2 : goal.returns-in-2
 unfolding word_numbered
-returns-then-k-eq2 c = rw (ne_eqb _ _ c.if-k-eq0.false, ne_eqb _ _ c.if-k-eq1.false, eq-eqb _ _ c.if-k-eq2.true) refl
+returns-in-2 c = rw c.in-2.is refl
 
-pub returns : goal.returns
+pub returns-in_default : goal.returns-in_default
 unfolding word_numbered
-returns c = rw (ne_eqb _ _ c.if-k-eq0.false, ne_eqb _ _ c.if-k-eq1.false, ne_eqb _ _ c.if-k-eq2.false) refl
+returns-in_default c =
+    rw (ne_eqb c.args.k 0 (search rules), ne_eqb c.args.k 1 (search rules), ne_eqb c.args.k 2 (search rules)) refl

@@ -1,21 +1,15 @@
-use mathlib.Core.Path.{◌∙◌}
-use mathlib.Core.Path.{refl}
-use native.Mathlib.Omega.{arith}
-use borrow.Author.Tests.{eq-eqb, ne_eqb}
+use Rattle.std.proofs.Common.{refl, arith, rules, ne_eqb, ◌∙◌}
 use Rattle.cue_text.specs.Fault.{form_fault}
 use Rattle.cue_text.proofs.fault.write_fault.Goals as goal
 
-pub returns-then-number-eq82 : goal.returns-then-number-eq82
+pub returns-in-82 : goal.returns-in-82
 unfolding form_fault
-returns-then-number-eq82 c = λ above v. c.value_fault.ensures ∙ rw (eq-eqb _ _ c.if-number-eq82.true) refl
+returns-in-82 c above v = c.value_fault.ensures ∙ rw c.in-82.is refl
 
-pub returns-then-number-eq24 : goal.returns-then-number-eq24
+pub returns-in-24 : goal.returns-in-24
 unfolding form_fault
-returns-then-number-eq24 c = λ above v. c.told.ensures ∙ rw (ne_eqb _ _ c.if-number-eq82.false, eq-eqb _ _ c.if-number-eq24.true) refl
+returns-in-24 c above v = c.told.ensures ∙ rw c.in-24.is refl
 
-pub element_fault-requires : goal.element_fault-requires
-element_fault-requires c = omega arith
-
-pub returns : goal.returns
+pub returns-in_default : goal.returns-in_default
 unfolding form_fault
-returns c = λ above v. c.element_fault.ensures ∙ rw (ne_eqb _ _ c.if-number-eq82.false, ne_eqb _ _ c.if-number-eq24.false) refl
+returns-in_default c above v = c.element_fault.ensures ∙ rw (ne_eqb c.args.number 82 (search rules), ne_eqb c.args.number 24 (search rules)) refl

@@ -1,27 +1,12 @@
-use native.Mathlib.Omega.{arith}
-use Prim.Native.Nat.{◌≤◌}
-use Rattle.cue_text.specs.Inside.{located}
-use Rattle.cue_text.proofs.NumberLaws.{space-small, address-small}
-use Rattle.cue_text.proofs.KnownLaws.{by_both, by-none}
+use Rattle.std.proofs.Common.{refl, sym, ◌∙◌}
+use Rattle.cue_text.proofs.KnownLaws.{by_both, by-first, by-second}
 use Rattle.cue_text.proofs.known.place_by.Goals as goal
 
-pub overflow_cast-result : goal.overflow_cast-result
-overflow_cast-result c = let s = c.space_of-s in
-    let h : s.result.value ≤ 255 = rw s.ensures (space-small _) in
-    omega arith
+pub returns-in_err-space_of : goal.returns-in_err-space_of
+returns-in_err-space_of c = c.from_residual.ensures ∙ by-first _ _ (sym c.space_of.ensures ∙ c.in_err-space_of.was)
 
-pub overflow_cast-result-then-s-a : goal.overflow_cast-result-then-s-a
-overflow_cast-result-then-s-a c = let a = c.address_of-a in
-    let h : a.result.value ≤ 65535 = rw a.ensures (address-small _) in
-    omega arith
-
-pub returns-then-s-a : goal.returns-then-s-a
-returns-then-s-a c = let a = c.address_of-a.ensures in
-    let s = c.space_of-s.ensures in
-    rw (s, a) (by_both _ _ (rw (s, a) at c.if-s-a.true))
+pub returns-in_err-address_of : goal.returns-in_err-address_of
+returns-in_err-address_of c = c.from_residual-in_err-address_of.ensures ∙ by-second _ _ (sym c.address_of.ensures ∙ c.in_err-address_of.was)
 
 pub returns : goal.returns
-unfolding located
-returns c = let a = c.address_of-a.ensures in
-    let s = c.space_of-s.ensures in
-    by-none _ _ (rw (s, a) at c.if-s-a.false)
+returns c = by_both _ _ (sym c.space_of.ensures ∙ c.in_ok-space_of.was) (sym c.address_of.ensures ∙ c.in_ok-address_of.was)

@@ -2,14 +2,10 @@ use mathlib.Core.Path.{refl}
 use mathlib.Core.Path.{◌∙◌}
 use Rattle.cue_text.specs.Text.{form_meaning}
 use Rattle.cue_text.proofs.KnownLaws.{place_in_lem}
-use Rattle.cue_text.proofs.NumberLaws.{value_in_lem, value-small}
 use Rattle.cue_text.proofs.line.write_at.Goals as goal
-
-pub write_said-requires : goal.write_said-requires
-write_said-requires c = rw c.value_of-v.ensures (value-small _)
 
 pub returns : goal.returns
 unfolding form_meaning
 returns c text known = c.write_said.ensures text
-    ∙ rw (c.place_by-p.ensures, place_in_lem, c.value_of-v.ensures, value_in_lem)
+    ∙ rw (c.place_by-p.ensures, place_in_lem, c.value_of-v.ensures)
     (rw (c.part-3.ensures, c.part-2.ensures, c.part.ensures) refl)

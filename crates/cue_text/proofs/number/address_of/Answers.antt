@@ -1,9 +1,13 @@
-use native.Mathlib.Omega.{arith}
-use mathlib.Core.Path.{◌∙◌}
-use Rattle.cue_text.specs.Numbers.{address_of}
-use Rattle.cue_text.proofs.NumberLaws.{kept-is}
+use Rattle.std.proofs.Common.{refl, arith, sym, ◌∙◌}
+use Rattle.cue_text.specs.Numbers.{up_to, address_of}
+use Rattle.cue_text.proofs.NumberLaws.{narrowed, narrow}
 use Rattle.cue_text.proofs.number.address_of.Goals as goal
 
+pub returns-in_err-value_of : goal.returns-in_err-value_of
+unfolding up_to address_of
+returns-in_err-value_of c =
+    rw (← narrowed 65535 _ (omega arith) c.value_of.ensures, c.in_err-value_of.was) c.from_residual.ensures
+
 pub returns : goal.returns
-unfolding address_of
-returns c = c.up_to.ensures ∙ rw c.number_of.ensures (kept-is 65535 _ (omega arith))
+unfolding up_to address_of
+returns c = rw (← narrowed 65535 _ (omega arith) c.value_of.ensures, c.in_ok-value_of.was) (narrow 65535 _ c.try_from.result c.ok.ensures.value c.try_from.ensures)

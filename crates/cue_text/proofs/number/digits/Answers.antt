@@ -1,27 +1,30 @@
-use Rattle.cue_text.specs.Inside.{given}
-use native.Mathlib.Omega.{arith}
-use borrow.Author.Rules.{rules}
-use Rattle.cue_text.proofs.NumberLaws.{read_first, read-bad, read_next, read-last, held_fits}
+use Rattle.std.proofs.Common.{arith, rules, ◌∙◌}
+use Rattle.cue_text.proofs.NumberLaws.{read_first, read-bad, read-over, read_next, read-last, read-none}
 use Rattle.cue_text.proofs.number.digits.Goals as goal
 
-pub loop-i-init : goal.loop-i-init
-loop-i-init c = read_first _ _ _
+pub loop-c-init : goal.loop-c-init
+loop-c-init c = read_first _ _
 
-pub returns-in_default : goal.returns-in_default
-unfolding given
-returns-in_default c = read-bad _ _ _ _ _ c.loop-i.invariant (search rules) c.in_default.ensures
+pub returns-in_err-d : goal.returns-in_err-d
+returns-in_err-d c = c.from_residual.ensures ∙ read-bad _ _ _ _ c.loop-c.invariant (search rules) c.in_err-d.ensures
 
-pub overflow_mul-base : goal.overflow_mul-base
-overflow_mul-base c = let h = held_fits _ _ _ _ _ c.loop-i.invariant c.requires.1 c.in-Some.ensures.1 in
-    omega arith
+pub returns-in_err-checked_mul : goal.returns-in_err-checked_mul
+returns-in_err-checked_mul c = c.from_residual-in_err-checked_mul.ensures
+    ∙ read-over _ _ _ _ c.loop-c.invariant c.requires.0 (search rules) (omega (arith, c.in_err-checked_mul.ensures))
 
-pub overflow_add-base : goal.overflow_add-base
-overflow_add-base c = let h = held_fits _ _ _ _ _ c.loop-i.invariant c.requires.1 c.in-Some.ensures.1 in
-    omega arith
+pub returns-in_err-n : goal.returns-in_err-n
+returns-in_err-n c = c.from_residual-in_err-n.ensures
+    ∙ read-over _ _ _ _ c.loop-c.invariant c.requires.0 (search rules)
+    (omega (arith, c.in_err-n.ensures, c.in_ok-checked_mul.ensures, c.in_ok-d.ensures))
 
-pub loop-i-preserved : goal.loop-i-preserved
-loop-i-preserved c = let d = c.in-Some.ensures in
-    read_next _ _ _ _ _ c.loop-i.invariant c.requires.0 (search rules) (rw d.0 at d.1) (rw d.0 at c.held-n.ensures)
+pub loop-c-preserved : goal.loop-c-preserved
+loop-c-preserved c = read_next _ _ _ _ c.loop-c.invariant (search rules)
+    (rw c.in_ok-d.ensures.0 at c.in_ok-d.ensures.1)
+    (omega (arith, c.in_ok-n.ensures, c.in_ok-checked_mul.ensures, c.in_ok-d.ensures))
+    (omega (arith, c.in_ok-n.ensures))
 
-pub returns : goal.returns
-returns c = read-last _ _ _ _ _ c.loop-i.invariant (omega arith)
+pub returns-then-is_empty : goal.returns-then-is_empty
+returns-then-is_empty c = read-none _ _ (search rules)
+
+pub returns-else-is_empty : goal.returns-else-is_empty
+returns-else-is_empty c = read-last _ _ _ _ c.loop-c.invariant (search rules) (search rules)

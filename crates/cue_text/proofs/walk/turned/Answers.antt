@@ -9,10 +9,6 @@ offset_bounds-table-free c = let n = c.requires.names in omega arith
 pub bounds-table-free : goal.bounds-table-free
 bounds-table-free c = c.requires.free _ c.in-Defines.is
 
-pub returns-in-Refused : goal.returns-in-Refused
-unfolding tallied table_after room_after
-returns-in-Refused c = let e = c.in-Refused.is in (rw e refl, rw e refl, rw e refl)
-
 pub returns-in-Nothing : goal.returns-in-Nothing
 unfolding tallied table_after room_after
 returns-in-Nothing c = let e = c.in-Nothing.is in (rw e refl, rw e refl, rw e refl)
