@@ -23,6 +23,7 @@ pub enum Fault {
 
 impl From<Refusal> for Fault {
     ghost use Rattle.tight.specs.declared.Fault.TheVariants.{List};
+
     ghost from_gives = { λ r f. f ≡ List r };
 
     fn from(r: Refusal) -> Self {
