@@ -12,7 +12,10 @@ use Rattle.cue.specs.Records.{Listed, refused, records, records_of}
 use Rattle.cue.proofs.RecordLaws.{refused_record}
 use Rattle.cue_text.specs.Assembled.{Left, placed, text_assembled, text_listed, left}
 use Rattle.list_text.specs.Written.{text_of, written_to, list_written}
-use Rattle.cue_text.specs.declared.TextAnswer.{TextAnswer}
+use Rattle.std.specs.Prelude.{Result, Ok, Err}
+use Rattle.lbp16.specs.Answer.{rule_number}
+use Rattle.lbp16.specs.declared.Refusal.{Refusal}
+use Rattle.cue_text.specs.declared.Written.{Written}
 use Rattle.cue_text.proofs.RefusalLaws.{of-line_some, OfText, text-refusal}
 use Rattle.head.specs.Exports.{number_of, value_of, count_of, numbers_of}
 use Rattle.head.specs.CueTextExports.{text_left, of_left}
@@ -45,7 +48,7 @@ list-some list room n k e = go (records_of list) refl e
         fits false e = let z : ◌≡◌ {A = ℕ} 0 1 = cc in absurd (omega arith)
 
 -- what the code returns and leaves, and its promise
-module _ (a : TextAnswer) (room : List ℕ) (l : Left) (n : Numbers) (e : left a room ≡ l) (g : n ≡ numbers_of (text_listed a)) where
+module _ (a : Result Written Refusal) (room : List ℕ) (l : Left) (n : Numbers) (e : left a room ≡ l) (g : n ≡ numbers_of (text_listed a)) where
   text-left : text_left n.0 n.1 n.2 room ≡ of_left l
   unfolding of_left numbers_of left
   text-left = rw g (ap of_left e)
@@ -56,8 +59,8 @@ module _ (a : TextAnswer) (room : List ℕ) (l : Left) (n : Numbers) (e : left a
   unfolding left text_listed numbers_of number_of value_of count_of
   text-answered some P h = (text-left, go a e g h)
     where
-      go : (a : TextAnswer) → left a room ≡ l → n ≡ numbers_of (text_listed a)
+      go : (a : Result Written Refusal) → left a room ≡ l → n ≡ numbers_of (text_listed a)
           → ((b k : ℕ) → text_listed a ≡ Answer.accepted (b ∷ k ∷ []) → P b) → n.0 ≡ 0 → P n.1
-      go (TextAnswer.Written b k) e g h z = rw g (h b k refl)
-      go (TextAnswer.Refused r) e g h z =
-          absurd (some r.number r.place (sym (ap (λ (x : Left). x.answer) e)) (sym (ap (λ (m : Numbers). m.0) g) ∙ z))
+      go (Ok w) e g h z = rw g (h w.bytes w.count refl)
+      go (Err r) e g h z =
+          absurd (some (rule_number r.rule) r.place (sym (ap (λ (x : Left). x.answer) e)) (sym (ap (λ (m : Numbers). m.0) g) ∙ z))

@@ -1,3 +1,4 @@
+pub mod ListingLaws
 pub mod ExportLaws
 pub mod SpiExportLaws
 pub mod SserialExportLaws

@@ -8,7 +8,9 @@ use lib.ListN.{length, take}
 use lib.Dec.{eqb}
 use borrow.Author.Tests.{eq-eqb, ne_eqb}
 use Rattle.lbp16.specs.declared.pointer.Pointers.{Pointers}
-use Rattle.reason.specs.Reason.{unnamed, explained}
+use Rattle.std.specs.Prelude.{Option, None, Some}
+use Rattle.std.specs.Option.{unwrap_or}
+use Rattle.reason.specs.Reason.{unnamed, explained, reason_listed}
 use Rattle.reason.specs.declared.Reason.{Reason}
 use Rattle.head.specs.Exports.{bytes_of_fields}
 use Rattle.lbp16.specs.Pointer.{pointers_of}
@@ -16,6 +18,12 @@ use Rattle.packet.specs.Judge.{Carried, accepted}
 use Rattle.card.specs.Run.{checked_lent}
 use Rattle.reason.proofs.ReasonLaws.{front-accepted}
 use Rattle.head.specs.ReasonExports.{why_left, reason_for, export_why, WhyFront}
+
+-- Where there is no reason all is 0.
+pub listed_or : (o : Option Reason) → unwrap_or o (unnamed 0 0) ≡ reason_listed o
+unfolding reason_listed
+listed_or None = refl
+listed_or (Some r) = refl
 
 module _ (packet store pointers : List ℕ) where
   pub why-not_eight : (length pointers ≡ 8 → ⊥) → (r : Reason) → r ≡ unnamed 1 0 → r ≡ reason_for packet store pointers

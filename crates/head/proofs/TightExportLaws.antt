@@ -14,7 +14,8 @@ use Rattle.cue.specs.Compile.{output}
 use Rattle.cue.proofs.RecordLaws.{refused_record}
 use Rattle.tight.specs.Tight.{Doing, none, steps, packets_do, without_unlocks, same_steps, Checked, accepted, rejected, refused}
 use Rattle.tight.specs.Tight.{steps_checked, frames_checked, proposal_checked, checked, check_listed}
-use Rattle.tight.specs.declared.TightAnswer.{TightAnswer}
+use Rattle.std.specs.Prelude.{Result}
+use Rattle.tight.specs.declared.Fault.{Fault}
 use Rattle.head.specs.Exports.{given}
 use Rattle.head.specs.TightExports.{tight_given, export_tight_check}
 
@@ -44,7 +45,7 @@ own-refusal list proposal n i = go (records_of list)
     go (Records.records xs) e = absurd (short (ltb (length (output xs)) (length proposal)) xs e)
 
 -- what the code returns and leaves, and its promise
-module _ (list output : List ℕ) (a : TightAnswer) (e : check_listed a ≡ checked list output) (number value : ℕ)
+module _ (list output : List ℕ) (a : Result ℕ Fault) (e : check_listed a ≡ checked list output) (number value : ℕ)
     (g : given number value ≡ tight_given (check_listed a)) where
   pub tight_given_lem : given number value ≡ export_tight_check list output
   unfolding export_tight_check

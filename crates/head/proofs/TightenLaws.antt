@@ -6,7 +6,9 @@ use native.Mathlib.Omega.{arith}
 use lib.ListN.{take, get_or}
 use Rattle.lbp16.specs.Answer.{Answer}
 use Rattle.cue.specs.Compile.{Compiled, compiled, compile_listed, left}
-use Rattle.cue.specs.declared.CompileAnswer.{CompileAnswer}
+use Rattle.std.specs.Prelude.{Result}
+use Rattle.lbp16.specs.declared.Refusal.{Refusal}
+use Rattle.cue.specs.declared.Packed.{Packed}
 use Rattle.cue.proofs.CompileLaws.{refused-numbers, refusal_changes_nothing}
 use Rattle.tight.specs.Demand3.{TightDemand3}
 use Rattle.tight.proofs.Demand3Laws.{tight_demand3}
@@ -59,7 +61,7 @@ tightened_demand3 list room c t z = go (export_compile list room).number refl
     go (suc n) e = let same = ap (λ x. x.number) (t.refuses (λ y. omega arith)) in absurd (omega arith)
 
 -- what the code returns and leaves, and its promises
-module _ (list room : List ℕ) (a : CompileAnswer) (n : Numbers) (room'' : List ℕ) (g : n ≡ numbers_of (compile_listed a)) where
+module _ (list room : List ℕ) (a : Result Packed Refusal) (n : Numbers) (room'' : List ℕ) (g : n ≡ numbers_of (compile_listed a)) where
   is-exported : compile_left n.0 n.1 n.2 room'' ≡ exported (left a room'')
   unfolding exported left numbers_of
   is-exported = rw g refl

@@ -1,4 +1,5 @@
 pub mod Exports
+pub mod Listing
 pub mod SpiExports
 pub mod SserialExports
 pub mod PanelExports

@@ -1,20 +1,8 @@
 // A capture made into a recording, as C programs call it.
 ghost use Rattle.std.specs.Prelude.{◌≡◌};
-ghost use Rattle.capture.specs.Capture.{capture_listed};
-ghost use Rattle.head.specs.Exports.{numbers_of};
 ghost use Rattle.head.specs.CaptureExports.{capture_left, export_capture, SameExport};
 
-use crate::numbers::Numbers;
-use capture::CaptureAnswer;
-
-fn numbers_of(answer: CaptureAnswer) -> Numbers
-    ensures { result ≡ numbers_of (capture_listed answer) }
-{
-    match answer {
-        CaptureAnswer::Read { bytes, packets } => Numbers(0, bytes as u64, packets as u64),
-        CaptureAnswer::Refused(r) => Numbers(r.number, r.place, 0),
-    }
-}
+use crate::numbers::numbers_of;
 
 // `bytes` is the recording's length, or the refusal's place; `packets` is 0 if refused.
 #[unsafe(no_mangle)]

@@ -1,22 +1,10 @@
 // Cue lists as text, as C programs call it.
 ghost use Rattle.std.specs.Prelude.{◌≡◌, take};
-ghost use Rattle.cue_text.specs.Assembled.{text_listed};
 ghost use Rattle.cue_text.specs.TextShow.{TextShow};
 ghost use Rattle.list_text.specs.SameList.{SameList};
-ghost use Rattle.head.specs.Exports.{numbers_of};
 ghost use Rattle.head.specs.CueTextExports.{text_left, export_assemble, export_list_text};
 
-use crate::numbers::Numbers;
-use cue_text::TextAnswer;
-
-fn numbers_of(answer: TextAnswer) -> Numbers
-    ensures { result ≡ numbers_of (text_listed answer) }
-{
-    match answer {
-        TextAnswer::Written { bytes, count } => Numbers(0, bytes as u64, count as u64),
-        TextAnswer::Refused(r) => Numbers(r.number, r.place, 0),
-    }
-}
+use crate::numbers::numbers_of;
 
 // `bytes` is the list's length, or the refusal's place; `records` is 0 if refused.
 #[unsafe(no_mangle)]

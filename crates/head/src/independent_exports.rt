@@ -12,7 +12,11 @@ fn numbers_of(answer: Independence) -> Numbers
 {
     match answer {
         Independence::Independent => Numbers(0, 0, 0),
-        Independence::Refused { list, refusal } => Numbers(refusal.number, list, refusal.place),
+        Independence::Refused { list, refusal } => Numbers(
+            refusal.rule.number(),
+            list,
+            refusal.place,
+        ),
         Independence::Clash(index) => Numbers(51, 1, index),
     }
 }

@@ -6,14 +6,14 @@ ghost use Rattle.interlock.specs.Spared.{Spares};
 ghost use Rattle.head.specs.Exports.{given, run_left, spi_left};
 ghost use Rattle.head.specs.InterlockExports.{export_guard, export_guarded_check, export_guarded_run, export_guarded_spi, export_guarded_list};
 
-use crate::numbers;
+use crate::numbers::numbers_of;
 
 // Whether a guard is sound. `value` is the number of its ranges, or the index of the earliest pair at fault.
 #[unsafe(no_mangle)]
 pub extern "C" fn head_guard(guard: &[u32], value: &mut u64) -> u32
     ensures { given result value.new ≡ export_guard guard.now }
 {
-    let given = numbers::of_verdict(interlock::guard(guard));
+    let given = numbers_of(interlock::guard(guard));
     *value = given.1;
     given.0
 }
@@ -30,7 +30,7 @@ pub extern "C" fn head_guarded_check(
     ensures { given result value.new
         ≡ export_guarded_check packet.now store.now pointers.now guard.now }
 {
-    let given = numbers::of_verdict(interlock::check(packet, store, pointers, guard));
+    let given = numbers_of(interlock::check(packet, store, pointers, guard));
     *value = given.1;
     given.0
 }
@@ -54,7 +54,7 @@ pub extern "C" fn head_guarded_run(
     let ran = interlock::run(packet, store, pointers, reply, guard);
     *elements = ran.elements;
     let answer = ran.answer;
-    let given = numbers::of_verdict(answer);
+    let given = numbers_of(answer);
     *value = given.1;
     given.0
 }
@@ -72,7 +72,7 @@ pub extern "C" fn head_guarded_spi(
         ≡ export_guarded_spi words.now store.old answer.old guard.now }
     ensures spared { Spares guard.now store.old store.new }
 {
-    let given = numbers::of_verdict(interlock::burst(words, store, answer, guard));
+    let given = numbers_of(interlock::burst(words, store, answer, guard));
     *value = given.1;
     given.0
 }
@@ -82,7 +82,7 @@ pub extern "C" fn head_guarded_spi(
 pub extern "C" fn head_guarded_list(list: &[u8], guard: &[u32], value: &mut u64) -> u32
     ensures { given result value.new ≡ export_guarded_list list.now guard.now }
 {
-    let given = numbers::of_verdict(interlock::list(list, guard));
+    let given = numbers_of(interlock::list(list, guard));
     *value = given.1;
     given.0
 }

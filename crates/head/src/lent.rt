@@ -1,48 +1,38 @@
 // What C lends as plain numbers: pointers back, fields there and back.
-ghost use Rattle.std.specs.Prelude.{◌≡◌, not, ◌||◌, ◌+◌, ◌≤◌, length, eqb};
-ghost use Rattle.std.proofs.lemmas.List.Edits.{sets};
-ghost use Rattle.lbp16.specs.Pointer.{lent_spaces, lent_pointers};
+ghost use Rattle.std.specs.Prelude.{◌≡◌, not, ◌||◌, length, eqb};
+ghost use Rattle.lbp16.specs.Pointer.{lent_pointers};
 ghost use Rattle.lbp16.specs.Word.{bit};
 ghost use Rattle.head.specs.Exports.{bytes_of_fields, fields_from, bad_flags};
 
-use lbp16::pointer::{Pointers, SpacePointers};
+use lbp16::pointer::Pointers;
 use lbp16::word::Fields;
-
-fn put_spaces(p: SpacePointers, ps: &mut [u32], at: usize)
-    requires { at + 4 ≤ length ps.old }
-    ensures { ps.new ≡ sets ps.old at (lent_spaces p) }
-{
-    ps[at] = p.registers.at;
-    ps[at + 1] = p.eeprom.at;
-    ps[at + 2] = p.status.at;
-    ps[at + 3] = p.information.at;
-}
 
 pub(crate) fn put_pointers(p: Pointers, ps: &mut [u32])
     requires { length ps.old ≡ 8 }
     ensures { ps.new ≡ lent_pointers p }
 {
-    put_spaces(p.plain, ps, 0);
-    put_spaces(p.info, ps, 4);
+    ps.copy_from_slice(&p.listed());
 }
 
 pub(crate) fn flag(set: bool) -> u8
     ensures { result ≡ bit set }
 {
-    if set { 1 } else { 0 }
+    u8::from(set)
 }
 
 pub(crate) fn put_fields(f: Fields, bytes: &mut [u8])
     requires { length bytes.old ≡ 7 }
     ensures { bytes.new ≡ bytes_of_fields f }
 {
-    bytes[0] = flag(f.write);
-    bytes[1] = flag(f.address);
-    bytes[2] = flag(f.info);
-    bytes[3] = f.space;
-    bytes[4] = f.size;
-    bytes[5] = flag(f.increment);
-    bytes[6] = f.count;
+    bytes.copy_from_slice(&[
+        flag(f.write),
+        flag(f.address),
+        flag(f.info),
+        f.space,
+        f.size,
+        flag(f.increment),
+        f.count,
+    ]);
 }
 
 // Another length than seven, or a bad flag.

@@ -28,7 +28,7 @@ ghost use Rattle.head.specs.Exports.{compile_left, export_compile, fields_left, 
 
 use card::{check, run};
 use lbp16::word;
-use lbp16::word::Written;
+use numbers::numbers_of;
 
 // Checks one packet: what a run of it would answer on this store and these pointers, with a reply room of 1,472 bytes.
 // `value` is the reply length, or the refusal's place.
@@ -36,7 +36,7 @@ use lbp16::word::Written;
 pub extern "C" fn head_check(packet: &[u8], store: &[u8], pointers: &[u32], value: &mut u64) -> u32
     ensures { given result value.new ≡ export_check packet.now store.now pointers.now }
 {
-    let given = numbers::of_verdict(check::check_lent(packet, store, pointers));
+    let given = numbers_of(check::check_lent(packet, store, pointers));
     *value = given.1;
     given.0
 }
@@ -59,7 +59,7 @@ pub extern "C" fn head_run(
     let ran = run::run_lent(packet, store, pointers, reply);
     *elements = ran.elements;
     let answer = ran.answer;
-    let given = numbers::of_verdict(answer);
+    let given = numbers_of(answer);
     *value = given.1;
     given.0
 }
@@ -76,7 +76,7 @@ pub extern "C" fn head_spi(
         ≡ export_spi words.now store.old answer.old }
     ensures bounded { value.new ≤ most_in_burst }
 {
-    let given = numbers::of_verdict(spi::burst(words, store, answer));
+    let given = numbers_of(spi::burst(words, store, answer));
     *value = given.1;
     given.0
 }
@@ -103,11 +103,11 @@ pub extern "C" fn head_word(fields: &[u8], word: &mut u16) -> u32
     }
     let written = word::word_of(lent::fields_from(fields));
     match written {
-        Written::Word(w) => {
+        Ok(w) => {
             *word = w;
             0
         }
-        Written::Refused(r) => r.number,
+        Err(r) => r.rule.number(),
     }
 }
 
@@ -123,7 +123,7 @@ pub extern "C" fn head_compile(
         ≡ export_compile list.now out.old }
     ensures demand3 { result ≡ 0 → Demand3 list.now out.new bytes.new packets.new }
 {
-    let given = numbers::of_compiled(cue::compile(list, out));
+    let given = numbers_of(cue::compile(list, out));
     *bytes = given.1;
     *packets = given.2;
     given.0

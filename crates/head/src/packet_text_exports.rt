@@ -29,8 +29,15 @@ pub extern "C" fn head_packet_text(
         return 1;
     }
     let shown = packet_text::put_packet(out, packet, Pointers::from_lent(pointers));
-    *bytes = shown.bytes as u64;
-    let after = shown.pointers;
-    lent::put_pointers(after, pointers);
-    shown.number
+    match shown {
+        Ok(shown) => {
+            *bytes = shown.bytes as u64;
+            lent::put_pointers(shown.pointers, pointers);
+            0
+        }
+        Err(r) => {
+            *bytes = r.place;
+            r.rule.number()
+        }
+    }
 }

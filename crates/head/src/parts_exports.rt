@@ -3,7 +3,7 @@ ghost use Rattle.std.specs.Prelude.{◌≡◌};
 ghost use Rattle.parts.specs.Promise.{Promised};
 ghost use Rattle.head.specs.PartsExports.{part_left, export_part};
 
-use crate::numbers;
+use crate::numbers::numbers_of;
 
 // Takes bytes of a part until a packet is finished and written, a fault shows or the part ends. `last` is not 0 where the
 // list ends at the part's end. `taken` is how many bytes were taken; `value` the bytes written, or the refusal's place.
@@ -23,7 +23,7 @@ pub extern "C" fn head_part(
     let done = parts::compile_part(state, part, last != 0, out);
     *taken = done.taken as u64;
     let answer = done.answer;
-    let given = numbers::of_verdict(answer);
+    let given = numbers_of(answer);
     *value = given.1;
     given.0
 }

@@ -13,7 +13,7 @@ fn reason_for(packet: &[u8], store: &[u8], pointers: &[u32]) -> Reason
         return reason::no_command(1);
     }
     let p = Pointers::from_lent(pointers);
-    reason::explain(packet, store, p)
+    reason::explain(packet, store, p).unwrap_or(reason::no_command(0))
 }
 
 // Says why a packet is refused: the number, and the command at fault by place, index and fields, as seven bytes.

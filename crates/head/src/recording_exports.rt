@@ -13,7 +13,7 @@ fn numbers_of(j: Judgment) -> Numbers
 {
     match j {
         Judgment::Yes(n) => Numbers(0, n, 0),
-        Judgment::Refused(r) => Numbers(r.number, 0, r.place),
+        Judgment::Refused(r) => Numbers(r.rule.number(), 0, r.place),
         Judgment::BadPacket(i) => Numbers(61, i, 0),
         Judgment::BadLength(i) => Numbers(62, i, 0),
         Judgment::BadByte { packet, place } => Numbers(63, packet, place),

@@ -5,16 +5,18 @@ ghost use Rattle.head.specs.Exports.{given, fields_left, word_given};
 ghost use Rattle.head.specs.SpiExports.{header_numbers, header_from, export_header, bad_header, export_header_word};
 
 use crate::lent;
-use spi::{Header, HeaderWritten};
+use spi::Header;
 
 fn put_header(h: Header, fields: &mut [u32])
     requires { length fields.old ≡ 4 }
     ensures { fields.new ≡ header_numbers h }
 {
-    fields[0] = h.address as u32;
-    fields[1] = h.command as u32;
-    fields[2] = lent::flag(h.increment) as u32;
-    fields[3] = h.count as u32;
+    fields.copy_from_slice(&[
+        h.address as u32,
+        h.command as u32,
+        lent::flag(h.increment) as u32,
+        h.count as u32,
+    ]);
 }
 
 // Another length than four, or a bad address or increment.
@@ -69,10 +71,10 @@ pub extern "C" fn head_header_word(fields: &[u32], word: &mut u32) -> u32
     }
     let written = spi::header_word(header_from(fields));
     match written {
-        HeaderWritten::Word(w) => {
+        Ok(w) => {
             *word = w;
             0
         }
-        HeaderWritten::Refused(r) => r.number,
+        Err(r) => r.rule.number(),
     }
 }

@@ -1,25 +1,15 @@
 // Daughter card fields. `table` is the table's address in the card's memory; direction 0 are the inputs, 1 the outputs.
 ghost use Rattle.std.specs.Prelude.{◌≡◌, ◌%◌, ◌^◌, length};
 ghost use Rattle.sserial.specs.Table.{checked_at};
-ghost use Rattle.sserial.specs.Calls.{table_listed, call_listed};
-ghost use Rattle.head.specs.Exports.{number_of, numbers_of};
+ghost use Rattle.sserial.specs.Calls.{call_listed};
+ghost use Rattle.head.specs.Exports.{number_of};
 ghost use Rattle.head.specs.SserialExports.{or_refused, direction_of, field_words, table_left};
 ghost use Rattle.head.specs.SserialExports.{export_table, call_left, export_field, export_pack, export_unpack};
 
-use crate::numbers::Numbers;
+use crate::numbers::numbers_of;
 use lbp16::Refusal;
-use sserial::count::FieldCounts;
 use sserial::table::{Direction, Field};
 use sserial::{call, count, field};
-
-fn numbers_of(answer: Result<FieldCounts, Refusal>) -> Numbers
-    ensures { result ≡ numbers_of (table_listed answer) }
-{
-    match answer {
-        Ok(counts) => Numbers(0, counts.inputs as u64, counts.outputs as u64),
-        Err(r) => Numbers(r.rule.number(), r.place, 0),
-    }
-}
 
 fn call_number(answer: Result<(), Refusal>) -> u32
     ensures { result ≡ number_of (call_listed answer) }

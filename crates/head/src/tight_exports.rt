@@ -7,15 +7,15 @@ ghost use Rattle.head.specs.TightExports.{tight_given, export_tight_check, Tight
 
 use crate::numbers;
 use crate::numbers::Numbers;
-use tight::TightAnswer;
+use tight::{Fault, TightAnswer};
 
 fn numbers_of(answer: TightAnswer) -> Numbers
     ensures { given result.0 result.1 ≡ tight_given (check_listed answer) }
 {
     match answer {
-        TightAnswer::Accepted(n) => Numbers(0, n, 0),
-        TightAnswer::Rejected => Numbers(50, 0, 0),
-        TightAnswer::Refused(r) => Numbers(r.number, r.place, 0),
+        Ok(n) => Numbers(0, n, 0),
+        Err(Fault::Rejected) => Numbers(50, 0, 0),
+        Err(Fault::List(r)) => Numbers(r.rule.number(), r.place, 0),
     }
 }
 
@@ -43,7 +43,7 @@ pub extern "C" fn head_tighten(
     ensures eight { EightExport list.now out.old (compile_left result bytes.new packets.new out.new) }
     ensures demand3 { result ≡ 0 → TightDemand3 list.now (take bytes.new out.new) packets.new }
 {
-    let given = numbers::of_compiled(planner::tighten(list, out));
+    let given = numbers::numbers_of(planner::tighten(list, out));
     *bytes = given.1;
     *packets = given.2;
     given.0

@@ -13,17 +13,14 @@ const MOST: usize = 3000000;
 fn show<W: Write>(to: &mut W, bytes: &[u8], room: &mut [u8; ROOM]) -> io::Result<()> {
     let mut pointers = Pointers::fresh();
     let mut rest = bytes;
-    let mut i: u64 = 0;
-    while i < 3000000 {
+    for i in 0..MOST as u64 {
         let part = lbpdis_output::put_part(room, i, rest, pointers);
         input::put(to, room, part.bytes)?;
-        let n = part.passed;
-        if n == 0 {
+        let Some(n) = part.passed else {
             return Ok(());
-        }
+        };
         pointers = part.pointers;
         rest = &rest[n..];
-        i += 1;
     }
     Ok(())
 }

@@ -1,6 +1,6 @@
 -- What is said of a part, and that it fits its room.
 use Prim.Native.Nat.{ℕ, ◌+◌, ◌^◌, ◌≤◌, ◌<◌, min}
-use mathlib.Core.Path.{◌≡◌, sym, ap, ◌∙◌}
+use mathlib.Core.Path.{◌≡◌, refl, sym, ap, ◌∙◌}
 use mathlib.Core.List.{List, []}
 use native.Mathlib.Omega.{arith}
 use borrow.Author.Tests.{le-ltb}
@@ -16,10 +16,15 @@ use Rattle.text.proofs.RoomLaws.{put_front, put_then}
 use Rattle.cue.proofs.FrameLaws.{whole-frame}
 use Rattle.card.specs.Run.{checked_packet}
 use Rattle.reason.specs.Reason.{pointers_left}
-use Rattle.packet_text.specs.Packet.{packet_text, most_text, PacketLeft, packet_left, shown_packet}
+use Rattle.packet_text.specs.Packet.{packet_text, most_text, PacketLeft, shown_left, shown_packet}
+use Rattle.packet_text.specs.declared.Shown.{Shown}
+use Rattle.lbp16.specs.Answer.{rule_number}
+use Rattle.lbp16.specs.declared.Refusal.{Refusal}
+use Rattle.lbp16.proofs.RuleLaws.{rule_number_range}
 use Rattle.lbpdis_output.specs.Said.{packet_line, fault_line, cut_line, unmarked_line, end_line, part_text, passed_by, pointers_by}
 use Rattle.lbpdis_output.specs.Said.{PartLeft, part_left, part_by, part_said}
 use Rattle.lbpdis_output.specs.Inside.{part_put}
+use Rattle.std.specs.Prelude.{Option, None, Some, IfSome, Result, Ok, Err, IsOk}
 
 line-size : (i n : ℕ) → i < 2 ^ 64 → n < 2 ^ 64 → length (packet_line i n) ≤ 56
 unfolding packet_line ascii
@@ -63,28 +68,37 @@ pub record Shows (p : Pointers) (packet : List ℕ) (n : ℕ) (q : Pointers) (ro
   pub text : take n room ≡ packet_text p packet
   pub pointers : q ≡ pointers_left (checked_packet p packet) p
 
-pub shows : (p : Pointers) (packet : List ℕ) (number n : ℕ) (q : Pointers) (before after : List ℕ)
-    → packet_left number n q after ≡ shown_packet p packet before → length (packet_text p packet) ≤ most_text
-    → length before ≡ most_text → length after ≡ most_text → Shows p packet n q after
-unfolding shown_packet
-shows p packet number n q before after e l b a =
-    let t = packet_text p packet in
-    let w = rw (le-ltb (length before) (length t) (omega arith)) at e in
-    let bytes : n ≡ length t = ap (λ (x : PacketLeft). x.bytes) w in
-    record {
-      short = omega arith;
-      text = rw (ap (λ (x : PacketLeft). x.room) w, bytes) (take-append_seam t (drop (length t) before));
-      pointers = ap (λ (x : PacketLeft). x.pointers) w;
-    }
+module _ (p : Pointers) (packet before after : List ℕ) (l : length (packet_text p packet) ≤ most_text) (b : length before ≡ most_text) where
+  pub answered : (r : Result Shown Refusal) → shown_left p r after ≡ shown_packet p packet before → IsOk r
+  unfolding shown_left shown_packet
+  answered (Ok s) e = refl
+  answered (Err x) e =
+      let w = rw (le-ltb (length before) (length (packet_text p packet)) (omega arith)) at e in
+      let z : rule_number x.rule ≡ 0 = ap (λ (x : PacketLeft). x.number) w in
+      let h = rule_number_range x.rule in
+      absurd (omega (arith, h, z))
+
+  pub shows : (r : Result Shown Refusal) (s : Shown) → r ≡ Ok s → shown_left p r after ≡ shown_packet p packet before
+      → length after ≡ most_text → Shows p packet s.bytes s.pointers after
+  unfolding shown_left shown_packet
+  shows r s o e a =
+      let t = packet_text p packet in
+      let w = rw (o, le-ltb (length before) (length t) (omega arith)) at e in
+      let bytes : s.bytes ≡ length t = ap (λ (x : PacketLeft). x.bytes) w in
+      record {
+        short = omega arith;
+        text = rw (ap (λ (x : PacketLeft). x.room) w, bytes) (take-append_seam t (drop (length t) before));
+        pointers = ap (λ (x : PacketLeft). x.pointers) w;
+      }
 
 -- A packet's line and its text, put one behind the other.
 pub framed : (i n : ℕ) (rest : List ℕ) (p : Pointers) (room mid after : List ℕ) (at next : ℕ) (q : Pointers)
     → filled at mid ≡ put_at (packet_line i n) 0 room → filled next after ≡ put_at (packet_text p (bytes_in_frame n rest)) at mid
     → q ≡ pointers_left (checked_packet p (bytes_in_frame n rest)) p
-    → part_left (filled next after) (4 + n) q ≡ part_put (Front.frame n) i rest p room
+    → part_left (filled next after) (Some (4 + n)) q ≡ part_put (Front.frame n) i rest p room
 unfolding part_put part_text passed_by pointers_by
 framed i n rest p room mid after at next q e f g =
-    rw g (ap (λ s. part_left s (4 + n) (pointers_left (checked_packet p (bytes_in_frame n rest)) p)) (put_then _ _ _ _ e f))
+    rw g (ap (λ s. part_left s (Some (4 + n)) (pointers_left (checked_packet p (bytes_in_frame n rest)) p)) (put_then _ _ _ _ e f))
 
 pub framed-fits : (i n : ℕ) (rest : List ℕ) (p : Pointers) → i < 2 ^ 64 → n < 2 ^ 64
     → length (packet_text p (bytes_in_frame n rest)) ≤ most_text → length (part_text (Front.frame n) i rest p) ≤ 69760
@@ -92,9 +106,9 @@ unfolding part_text
 framed-fits i n rest p a b t = let z = line-size i n a b in simp length-append (omega arith)
 
 -- What the code answers of a part: all of it, no more of the input than there is, and no more bytes than the room has.
-abbrev pub Told : ℕ → List ℕ → Pointers → List ℕ → List ℕ → ℕ → ℕ → Pointers → Type 0
+abbrev pub Told : ℕ → List ℕ → Pointers → List ℕ → List ℕ → ℕ → Option ℕ → Pointers → Type 0
 Told i rest p room after bytes passed q =
-    (part_left (filled bytes after) passed q ≡ part_said i rest p room) × ((passed ≤ length rest) × (bytes ≤ 69760))
+    (part_left (filled bytes after) passed q ≡ part_said i rest p room) × ((IfSome passed (λ n. n ≤ length rest)) × (bytes ≤ 69760))
 
 within-room : (text room after : List ℕ) (k : ℕ) → filled k after ≡ put_at text 0 room → length room ≡ 69760 → k ≤ 69760
 unfolding put_at
@@ -103,27 +117,27 @@ within-room text room after k e l =
     omega arith
 
 -- Where no packet stands nothing is passed.
-pub ends : (front : Front) (i : ℕ) (rest : List ℕ) (p : Pointers) (room after : List ℕ) (bytes passed : ℕ) (q : Pointers) (k : ℕ)
-    → front_of rest ≡ front → passed_by front ≡ 0 → pointers_by front rest p ≡ p
+pub ends : (front : Front) (i : ℕ) (rest : List ℕ) (p : Pointers) (room after : List ℕ) (bytes : ℕ) (passed : Option ℕ) (q : Pointers) (k : ℕ)
+    → front_of rest ≡ front → passed_by front ≡ None → pointers_by front rest p ≡ p
     → length (part_text front i rest p) ≤ 125 → length room ≡ 69760
     → filled k after ≡ put_at (part_text front i rest p) 0 room
-    → (bytes ≡ k) × (passed ≡ 0) × (q ≡ p) → Told i rest p room after bytes passed q
+    → (bytes ≡ k) × (passed ≡ None) × (q ≡ p) → Told i rest p room after bytes passed q
 unfolding part_put
 ends front i rest p room after bytes passed q k f none same small l e (b, z, y) = (
   part-is front i rest p room _ f
-      (rw (b, z, y, none, same) (ap (λ s. part_left s 0 p) e))
+      (rw (b, z, y, none, same) (ap (λ s. part_left s None p) e))
       (omega arith),
-  (omega arith, rw b (within-room _ _ _ _ e l)),
+  (rw z tt, rw b (within-room _ _ _ _ e l)),
 )
 
-pub goes_on_lem : (n i : ℕ) (rest : List ℕ) (p : Pointers) (room after : List ℕ) (bytes passed : ℕ) (q : Pointers)
+pub goes_on_lem : (n i : ℕ) (rest : List ℕ) (p : Pointers) (room after : List ℕ) (bytes : ℕ) (passed : Option ℕ) (q : Pointers)
     → front_of rest ≡ Front.frame n → length room ≡ 69760
     → part_left (filled bytes after) passed q ≡ part_put (Front.frame n) i rest p room
     → length (part_text (Front.frame n) i rest p) ≤ 69760 → Told i rest p room after bytes passed q
 unfolding part_put passed_by
 goes_on_lem n i rest p room after bytes passed q f l e t =
     let w = (whole-frame rest n (sym f)).within in
-    let a : passed ≡ 4 + n = ap (λ (x : PartLeft). x.passed) e in (
+    let a : passed ≡ Some (4 + n) = ap (λ (x : PartLeft). x.passed) e in (
       part-is (Front.frame n) i rest p room _ f e (omega arith),
-      (omega arith, within-room _ _ _ _ (ap (λ (x : PartLeft). x.said) e) l),
+      (rw a w, within-room _ _ _ _ (ap (λ (x : PartLeft). x.said) e) l),
     )

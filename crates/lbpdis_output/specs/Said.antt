@@ -1,5 +1,5 @@
 -- What the program `lbpdis` writes for what stands at the front of its input: the number of a packet and its bytes, and its text.
-use Rattle.std.specs.Prelude.{ℕ, ◌+◌, List, [], ◌++◌, cond, eqb}
+use Rattle.std.specs.Prelude.{ℕ, ◌+◌, List, [], ◌++◌, cond, eqb, Option, None, Some}
 use Rattle.lbp16.specs.declared.pointer.Pointers.{Pointers}
 use Rattle.cue.specs.Output.{Front, front_of, bytes_in_frame}
 use Rattle.text.specs.Number.{ascii}
@@ -38,11 +38,11 @@ part_text Front.unmarked i rest p = unmarked_line i
 part_text (Front.frame n) i rest p = packet_line i n ++ packet_text p (bytes_in_frame n rest)
 
 -- the bytes that are passed: those of a frame, and none where the input ends or nothing more is said
-unfoldable pub passed_by : Front → ℕ
-passed_by Front.end = 0
-passed_by Front.cut = 0
-passed_by Front.unmarked = 0
-passed_by (Front.frame n) = 4 + n
+unfoldable pub passed_by : Front → Option ℕ
+passed_by Front.end = None
+passed_by Front.cut = None
+passed_by Front.unmarked = None
+passed_by (Front.frame n) = Some (4 + n)
 
 -- A packet that is refused leaves the pointers.
 unfoldable pub pointers_by : Front → List ℕ → Pointers → Pointers
@@ -54,10 +54,10 @@ pointers_by (Front.frame n) rest p = pointers_left (checked_packet p (bytes_in_f
 -- All that is answered and left: the text at the front of the room, its bytes, the bytes passed, and the pointers.
 pub record PartLeft : Type 0 where
   pub said : Filled
-  pub passed : ℕ
+  pub passed : Option ℕ
   pub pointers : Pointers
 
-abbrev pub part_left : Filled → ℕ → Pointers → PartLeft
+abbrev pub part_left : Filled → Option ℕ → Pointers → PartLeft
 part_left said passed pointers = record { said = said; passed = passed; pointers = pointers }
 
 unfoldable pub part_by : Front → ℕ → List ℕ → Pointers → List ℕ → PartLeft

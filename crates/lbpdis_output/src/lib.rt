@@ -1,7 +1,7 @@
 // What the program `lbpdis` writes: packets behind "LB", each in words.
 #![tactic(auto)]
 
-ghost use Rattle.std.specs.Prelude.{◌≡◌, ◌+◌, ◌≤◌, length};
+ghost use Rattle.std.specs.Prelude.{◌≡◌, ◌+◌, ◌≤◌, length, None, IfSome};
 ghost use Rattle.text.specs.Room.{filled, put_at};
 ghost use Rattle.cue.specs.Output.{Front};
 ghost use Rattle.card.specs.Run.{checked_packet};
@@ -19,11 +19,11 @@ use why_output::packets::in_frame;
 // Room for a packet's line and its text.
 pub const ROOM: usize = 69760;
 
-// So many bytes are to be written; as many of the input are passed, 0 where no more is to be said; and the pointers after the packet.
+// So many bytes are to be written; as many of the input are passed, if more is to be said; and the pointers after the packet.
 #[derive(Clone, Copy)]
 pub struct Part {
     pub bytes: usize,
-    pub passed: usize,
+    pub passed: Option<usize>,
     pub pointers: Pointers,
 }
 
@@ -79,7 +79,7 @@ fn put_text(room: &mut [u8], at: usize, packet: &[u8], p: Pointers) -> Laid
         × (result.pointers ≡ pointers_left (checked_packet p packet.now) p) × (length (packet_text p packet.now) ≤ most_text) }
 {
     let mut words = [0u8; packet_text::MOST];
-    let shown = packet_text::put_packet(&mut words, packet, p);
+    let shown = packet_text::put_packet(&mut words, packet, p).unwrap();
     let n = shown.bytes;
     let pointers = shown.pointers;
     Laid {
@@ -99,17 +99,17 @@ fn put_framed(room: &mut [u8], i: u64, rest: &[u8], n: usize, p: Pointers) -> Pa
     let pointers = laid.pointers;
     Part {
         bytes: laid.next,
-        passed: 4 + n,
+        passed: Some(4 + n),
         pointers,
     }
 }
 
 fn ended(bytes: usize, p: Pointers) -> Part
-    ensures { (result.bytes ≡ bytes) × (result.passed ≡ 0) × (result.pointers ≡ p) }
+    ensures { (result.bytes ≡ bytes) × (result.passed ≡ None) × (result.pointers ≡ p) }
 {
     Part {
         bytes,
-        passed: 0,
+        passed: None,
         pointers: p,
     }
 }
@@ -118,7 +118,7 @@ fn ended(bytes: usize, p: Pointers) -> Part
 pub fn put_part(room: &mut [u8; ROOM], i: u64, rest: &[u8], p: Pointers) -> Part
     ensures said { part_left (filled result.bytes room.new) result.passed result.pointers
         ≡ part_said i rest.now p room.old }
-    ensures within { (result.passed ≤ length rest.now) × (result.bytes ≤ 69760) }
+    ensures within { (IfSome result.passed (λ n. n ≤ length rest.now)) × (result.bytes ≤ 69760) }
 {
     let frame = frame::frame_at(rest);
     match frame {

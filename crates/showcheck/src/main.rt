@@ -4,14 +4,14 @@
 
 use card::check::STORE_BYTES;
 use showcheck_output::given;
-use showcheck_output::given::Given;
+use showcheck_output::given::{Fault, Given};
 use std::env::Env;
 use std::io;
 use std::io::{Read, Write};
 
 fn say<W: Write>(
     to: &mut W,
-    given: Given,
+    given: Result<Given, Fault>,
     file: &[u8],
     pointers: &[u8],
     show: &[u8],
@@ -22,7 +22,7 @@ fn say<W: Write>(
 }
 
 // Nothing is read where nothing is done with it.
-fn take<R: Read>(given: Given, from: &mut R, room: &mut [u8]) -> io::Result<usize> {
+fn take<R: Read>(given: Result<Given, Fault>, from: &mut R, room: &mut [u8]) -> io::Result<usize> {
     if given::most_read(given) == 0 {
         return Ok(0);
     }
@@ -30,7 +30,11 @@ fn take<R: Read>(given: Given, from: &mut R, room: &mut [u8]) -> io::Result<usiz
 }
 
 // Nor where the file could not be opened.
-fn take_file<F: Read>(given: Given, opened: &mut Option<F>, room: &mut [u8]) -> io::Result<usize> {
+fn take_file<F: Read>(
+    given: Result<Given, Fault>,
+    opened: &mut Option<F>,
+    room: &mut [u8],
+) -> io::Result<usize> {
     match opened {
         None => Ok(0),
         Some(f) => take(given, f, room),
@@ -41,7 +45,7 @@ fn hear<R: Read, W: Write, E: Write>(
     beside: &mut E,
     from: &mut R,
     to: &mut W,
-    given: Given,
+    given: Result<Given, Fault>,
     file: &[u8],
     pointers: &[u8],
     show: &mut [u8; 3000001],
@@ -58,7 +62,7 @@ fn with_store<R: Read, W: Write, F: Read, E: Write>(
     beside: &mut E,
     from: &mut R,
     to: &mut W,
-    given: Given,
+    given: Result<Given, Fault>,
     file: &[u8],
     other: &mut Option<F>,
     show: &mut [u8; 3000001],
@@ -86,7 +90,7 @@ fn serve<R: Read, W: Write, F: Read, E: Write>(
     beside: &mut E,
     from: &mut R,
     to: &mut W,
-    given: Given,
+    given: Result<Given, Fault>,
     opened: &mut Option<F>,
     other: &mut Option<F>,
     show: &mut [u8; 3000001],

@@ -19,7 +19,8 @@ use Rattle.recording.proofs.ShowLaws.{zero_rooms}
 use Rattle.recording.proofs.JudgeLaws.{recorded-yes}
 use Rattle.showcheck_output.specs.Findings.{yes_text, verdict_text, left_text, judged_text, recording_text, said, most_bytes}
 use Rattle.showcheck_output.specs.Input.{is_capture, is_pcapng, input_text}
-use Rattle.showcheck_output.specs.Given.{whole_text}
+use Rattle.showcheck_output.specs.Given.{given_text, whole_text}
+use Rattle.std.specs.Prelude.{Ok}
 use Rattle.showcheck_output.specs.declared.given.Given.{Given}
 
 -- a fresh card is never refused with 1
@@ -64,8 +65,8 @@ recording_front (q ∷ qs) store p = no_capture _ _ (frame-front q _)
 pub recorded-written : (packets : List (List ℕ)) (file pointers : List ℕ)
     → (play packets zero_rooms (replicate store_bytes 0) fresh).accepted ≡ true
     → length (recording_of packets (replicate store_bytes 0) fresh) ≤ most_bytes
-    → whole_text Given.Nothing file pointers (recording_of packets (replicate store_bytes 0) fresh) ≡ yes_text (length packets)
-unfolding whole_text input_text said
+    → whole_text (Ok Given.Nothing) file pointers (recording_of packets (replicate store_bytes 0) fresh) ≡ yes_text (length packets)
+unfolding whole_text given_text input_text said
 recorded-written packets file pointers ok few =
     let f = recording_front packets (replicate store_bytes 0) fresh in
     rw (f.0, f.1) (recorded-said packets ok few)

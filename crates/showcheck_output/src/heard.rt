@@ -1,5 +1,5 @@
 // What is said of a capture: what its packets are found to be, or why it is not read.
-ghost use Rattle.std.specs.Prelude.{◌≡◌, ◌+◌, ◌*◌, ◌≤◌, length, take};
+ghost use Rattle.std.specs.Prelude.{◌≡◌, ◌≤◌, length, take};
 ghost use Rattle.packet.specs.Bytes.{number};
 ghost use Rattle.capture.specs.Capture.{captured};
 ghost use Rattle.text.specs.Room.{filled, put_at};
@@ -10,30 +10,25 @@ ghost use Rattle.showcheck_output.specs.Inside.{read_text};
 use crate::{MOST, put_judged};
 use capture::CaptureAnswer;
 use lbp16::pointer::Pointers;
-use packet::bytes;
 use packet::command::LIMIT;
 use text::{least, line, pick};
+use why_output::given;
 
 // The most packets of a capture: a request's frame has at least 44 bytes.
 const PACKETS: usize = 68182;
-
-fn joined(low: u16, high: u16) -> u32
-    ensures { result ≡ low + 65536 * high }
-{
-    low as u32 + 65536 * high as u32
-}
 
 // The number in the first four bytes, low byte first.
 pub(crate) fn first_number(input: &[u8]) -> u32
     ensures { result ≡ number (take 4 input.now) }
 {
-    joined(bytes::pair_at(input, 0), bytes::pair_at(input, 2))
+    given::quad_at(input, 0)
 }
 
+#[tactic(auto, using(std::proofs::lemmas::Bool::Decides::nat_tests), unfolding(crate::specs::Input::is_capture))]
 pub(crate) fn is_capture(n: u32) -> bool
     ensures { result ≡ is_capture n }
 {
-    (n == 0xA1B2C3D4) | ((n == 0xD4C3B2A1) | ((n == 0xA1B23C4D) | (n == 0x4D3CB2A1)))
+    matches!(n, 0xA1B2C3D4 | 0xD4C3B2A1 | 0xA1B23C4D | 0x4D3CB2A1)
 }
 
 pub(crate) fn is_pcapng(n: u32) -> bool

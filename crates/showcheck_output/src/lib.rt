@@ -2,7 +2,7 @@
 #![tactic(auto)]
 
 use card::check::STORE_BYTES;
-use given::Given;
+use given::{Fault, Given};
 use lbp16::pointer::Pointers;
 use packet::command::LIMIT;
 use text::{least, line};
@@ -20,7 +20,7 @@ ghost use Rattle.lbp16.specs.Space.{store_bytes};
 ghost use Rattle.text.specs.Room.{filled, put_at, text_left};
 ghost use Rattle.showcheck_output.specs.Findings.{judged_text, recording_text, said};
 ghost use Rattle.showcheck_output.specs.Input.{input_text};
-ghost use Rattle.showcheck_output.specs.Given.{usage_text, stored_text, pointed_text, whole_text};
+ghost use Rattle.showcheck_output.specs.Given.{usage_text, stored_text, pointed_text, given_text, fault_text, whole_text};
 
 // The most bytes that a recording or a capture may have.
 pub(crate) const MOST: usize = 3000000;
@@ -123,25 +123,51 @@ fn put_usage(room: &mut [u8]) -> usize
     )
 }
 
-// What is written, from what the program is given: `file` is what the file of the store has.
-fn written(given: Given, file: &[u8], pointers: &[u8], input: &[u8], room: &mut [u8]) -> usize
+// `file` is what the file of the store has.
+fn put_given(room: &mut [u8], given: Given, file: &[u8], pointers: &[u8], input: &[u8]) -> usize
     ensures room_after { filled result room.new
-        ≡ put_at (whole_text given file.now pointers.now input.now) 0 room.old }
-    ensures fits { length (whole_text given file.now pointers.now input.now) ≤ 24576 }
+        ≡ put_at (given_text given file.now pointers.now input.now) 0 room.old }
+    ensures fits { length (given_text given file.now pointers.now input.now) ≤ 24576 }
 {
     match given {
         Given::Nothing => put_input(room, input, &mut [0; STORE_BYTES], Pointers::fresh()),
         Given::Store => put_stored(room, input, file, Pointers::fresh()),
         Given::Both => put_pointed(room, input, file, pointers),
-        Given::NoStore => text::put(room, 0, b"the file of the store cannot be opened\n"),
-        Given::NoPointers => text::put(room, 0, b"the file of pointers cannot be opened\n"),
-        Given::Usage => put_usage(room),
+    }
+}
+
+fn put_fault(room: &mut [u8], fault: Fault) -> usize
+    ensures room_after { filled result room.new ≡ put_at (fault_text fault) 0 room.old }
+    ensures fits { length (fault_text fault) ≤ 24576 }
+{
+    match fault {
+        Fault::NoStore => text::put(room, 0, b"the file of the store cannot be opened\n"),
+        Fault::NoPointers => text::put(room, 0, b"the file of pointers cannot be opened\n"),
+        Fault::Usage => put_usage(room),
+    }
+}
+
+// What is written, from what the program is given.
+fn written(
+    given: Result<Given, Fault>,
+    file: &[u8],
+    pointers: &[u8],
+    input: &[u8],
+    room: &mut [u8],
+) -> usize
+    ensures room_after { filled result room.new
+        ≡ put_at (whole_text given file.now pointers.now input.now) 0 room.old }
+    ensures fits { length (whole_text given file.now pointers.now input.now) ≤ 24576 }
+{
+    match given {
+        Ok(given) => put_given(room, given, file, pointers, input),
+        Err(fault) => put_fault(room, fault),
     }
 }
 
 // The bytes to write stand at the front of the room; how many they are is answered.
 pub fn whole(
-    given: Given,
+    given: Result<Given, Fault>,
     file: &[u8],
     pointers: &[u8],
     input: &[u8],

@@ -8,46 +8,47 @@ use native.Mathlib.Nat.{le_refl}
 use lib.ListN.{length, get_or, take, drop, length-append, length-drop, drop_of_length-le, get_or-eq_default}
 use lib.Seq.{drop-drop, get_or-drop, take-append-le, take-length}
 use lib.Dec.{ltb}
-use borrow.Author.Tests.{lt-ltb, le-ltb, ltb-true}
+use borrow.Author.Tests.{lt-ltb, ltb-true}
 use Rattle.lbp16.proofs.BoolLaws.{same_ltb}
 use Rattle.text.specs.Number.{ascii}
 use Rattle.text.specs.Find.{bytes_before, capital, hex_value}
 use Rattle.text.specs.Room.{Filled, filled, put_at, text_left}
 use Rattle.text.proofs.RoomLaws.{put-none, put_then, put-within, put_front}
-use Rattle.why_output.specs.Hex.{Hex, is_blank, turn_at, taken_by, read_by, hex_at, hex_from, hex_of, has_byte, Reads}
-use Rattle.why_output.specs.declared.hex.Turn.{Turn}
-use Rattle.why_output.specs.declared.hex.Found.{Found}
+use Rattle.std.specs.Prelude.{None, Some, Ok, Err}
+use Rattle.why_output.specs.Hex.{Hex, Turn, no_digit, is_blank, turn_at, taken_by, read_by, hex_at, hex_from, hex_of, has_byte, Reads}
+use Rattle.why_output.specs.declared.hex.NoDigit.{NoDigit}
 
 -- what stands at a place, from the tests that the code makes
 module _ (text : List ℕ) (i : ℕ) {blank : Bool} (e : blank ≡ is_blank (get_or text i 0)) where
   here : get_or (drop i text) 0 0 ≡ get_or text i 0
   here = get_or-drop i text 0 0 ∙ ap (λ (j : ℕ). get_or text j 0) (omega arith)
 
-  pub turn-blank : blank ≡ true → Turn.Blank ≡ turn_at i (drop i text)
+  pub turn-blank : blank ≡ true → Ok None ≡ turn_at i (drop i text)
   unfolding turn_at
   turn-blank t = rw (here, ← e, t) refl
 
-  module _ (f : blank ≡ false) {high : ℕ} (g : high ≡ hex_value (get_or text i 0)) where
-    pub turn-bad : 16 ≤ high → Turn.Bad i ≡ turn_at i (drop i text)
+  module _ (f : blank ≡ false) where
+    pub turn-bad : {x : NoDigit} → x.place ≡ i → hex_value (get_or text i 0) ≡ 16 → Err x ≡ turn_at i (drop i text)
     unfolding turn_at
-    turn-bad l = rw (here, ← e, f, ← g, le-ltb high 16 l) refl
+    turn-bad a h = rw (here, ← e, f, h, ← a) refl
 
-    module _ (l : high < 16) {low : ℕ} (k : low ≡ hex_value (get_or text (i + 1) 0)) where
-      pub turn-half : 16 ≤ low → Turn.Bad (i + 1) ≡ turn_at i (drop i text)
+    module _ {high : ℕ} (g : high ≡ hex_value (get_or text i 0)) (l : high < 16) where
+      pub turn-half : {x : NoDigit} → x.place ≡ i + 1 → hex_value (get_or text (i + 1) 0) ≡ 16 → Err x ≡ turn_at i (drop i text)
       unfolding turn_at
-      turn-half m = rw (here, get_or-drop i text 1 0, ← e, f, ← g, ← k, lt-ltb high 16 l, le-ltb low 16 m) refl
+      turn-half a h = rw (here, get_or-drop i text 1 0, ← e, f, ← g, h, lt-ltb high 16 l, ← a) refl
 
-      pub turn_byte : low < 16 → {b : ℕ} → b ≡ 16 * high + low → Turn.Byte b ≡ turn_at i (drop i text)
+      pub turn_byte : {low : ℕ} → low ≡ hex_value (get_or text (i + 1) 0) → low < 16 → {b : ℕ} → b ≡ 16 * high + low
+          → Ok (Some b) ≡ turn_at i (drop i text)
       unfolding turn_at
-      turn_byte m q = rw (here, get_or-drop i text 1 0, ← e, f, ← g, ← k, lt-ltb high 16 l, lt-ltb low 16 m, q) refl
+      turn_byte {low} k m q = rw (here, get_or-drop i text 1 0, ← e, f, ← g, ← k, lt-ltb high 16 l, lt-ltb low 16 m, q) refl
 
 -- no byte has the value of a digit behind the end
-pub no_digit : 16 ≡ hex_value 0
+pub no_value : 16 ≡ hex_value 0
 unfolding hex_value bytes_before capital ascii
-no_digit = refl
+no_value = refl
 
 pub past-digit : (text : List ℕ) (i : ℕ) → length text ≤ i → 16 ≡ hex_value (get_or text i 0)
-past-digit text i h = no_digit ∙ ap hex_value (sym (get_or-eq_default text 0 h))
+past-digit text i h = no_value ∙ ap hex_value (sym (get_or-eq_default text 0 h))
 
 hex_end : (fuel : ℕ) (read : List ℕ) (at : ℕ) → hex_from fuel read at [] ≡ Hex.bytes read
 unfolding hex_from
@@ -75,7 +76,7 @@ reading-start text room =
     record { fuel = length text; read = []; same = refl; enough = omega arith; put = put-none room 0 (omega arith); room-bytes = refl }
 
 module _ {text room₀ room : List ℕ} {n i : ℕ} (s : Reading text room₀ room n i) where
-  pub reading-end : length text ≤ i → Reads (hex_of text) (Found.Bytes n) room₀ room
+  pub reading-end : length text ≤ i → Reads (hex_of text) (Ok n) room₀ room
   unfolding Reads
   reading-end h = rw (s.same, drop_of_length-le text h, hex_end s.fuel s.read i) s.put
 
@@ -94,11 +95,11 @@ module _ {text room₀ room : List ℕ} {n i : ℕ} (s : Reading text room₀ ro
         on zero z = absurd (omega (arith, s.enough))
         on (suc k) z = go k z
 
-    pub reading-bad : (k : ℕ) → t ≡ Turn.Bad k → (room₁ : List ℕ) → Reads (hex_of text) (Found.Bad k) room₀ room₁
+    pub reading-bad : (x : NoDigit) → t ≡ Err x → (room₁ : List ℕ) → Reads (hex_of text) (Err x) room₀ room₁
     unfolding Reads hex_at
-    reading-bad k q room₁ = fuelled _ (λ m f. rw (turned m f, q) refl)
+    reading-bad x q room₁ = fuelled _ (λ m f. rw (turned m f, q) refl)
 
-    pub reading-blank : t ≡ Turn.Blank → Reading text room₀ room n (i + 1)
+    pub reading-blank : t ≡ Ok None → Reading text room₀ room n (i + 1)
     unfolding hex_at read_by taken_by
     reading-blank q =
         fuelled _ (λ m f.
@@ -111,7 +112,7 @@ module _ {text room₀ room : List ℕ} {n i : ℕ} (s : Reading text room₀ ro
           room-bytes = s.room-bytes;
         })
 
-    pub reading-byte : (b : ℕ) → t ≡ Turn.Byte b → {r : ℕ} {room₁ : List ℕ} → filled r room₁ ≡ put_at (b ∷ []) n room
+    pub reading-byte : (b : ℕ) → t ≡ Ok (Some b) → {r : ℕ} {room₁ : List ℕ} → filled r room₁ ≡ put_at (b ∷ []) n room
         → Reading text room₀ room₁ r (i + 2)
     unfolding hex_at read_by taken_by
     reading-byte b q g =
@@ -136,32 +137,32 @@ fits_more (Hex.bytes read) h f = omega arith
 fits_more (Hex.bad k) h f = omega arith
 
 second : (cs : List ℕ) → ltb (hex_value (get_or cs 0 0)) 16 ≡ true → 1 ≤ length cs
-second [] e = let h = ltb-true (hex_value 0) 16 e in absurd (omega (arith, no_digit))
+second [] e = let h = ltb-true (hex_value 0) 16 e in absurd (omega (arith, no_value))
 second (c ∷ cs) e = omega arith
 
-turn-cases : (P : Turn → Type 0) (at c : ℕ) (cs : List ℕ) → P Turn.Blank → ((k : ℕ) → k ≤ at + 1 → P (Turn.Bad k))
-    → ((b : ℕ) → 1 ≤ length cs → P (Turn.Byte b)) → P (turn_at at (c ∷ cs))
+turn-cases : (P : Turn → Type 0) (at c : ℕ) (cs : List ℕ) → P (Ok None) → ((k : ℕ) → k ≤ at + 1 → P (no_digit k))
+    → ((b : ℕ) → 1 ≤ length cs → P (Ok (Some b))) → P (turn_at at (c ∷ cs))
 unfolding turn_at
 turn-cases P at c cs blank bad byte =
     go (is_blank c) (ltb (hex_value c) 16) (ltb (hex_value (get_or cs 0 0)) 16) refl
   where
     go : (x y z : Bool) → ltb (hex_value (get_or cs 0 0)) 16 ≡ z
-        → P (cond x Turn.Blank (cond y (cond z (Turn.Byte (16 * hex_value c + hex_value (get_or cs 0 0))) (Turn.Bad (at + 1))) (Turn.Bad at)))
+        → P (cond x (Ok None) (cond y (cond z (Ok (Some (16 * hex_value c + hex_value (get_or cs 0 0)))) (no_digit (at + 1))) (no_digit at)))
     go true y z e = blank
     go false true true e = byte _ (second cs e)
     go false true false e = bad (at + 1) (le_refl _)
     go false false z e = bad at (omega arith)
 
-two_digits : (at : ℕ) (rest : List ℕ) (b : ℕ) → 1 ≤ length rest → turn_at at rest ≡ Turn.Byte b → 2 ≤ length rest
+two_digits : (at : ℕ) (rest : List ℕ) (b : ℕ) → 1 ≤ length rest → turn_at at rest ≡ Ok (Some b) → 2 ≤ length rest
 two_digits at [] b h e = absurd (omega arith)
 two_digits at (c ∷ cs) b h e =
-    turn-cases (λ t. t ≡ Turn.Byte b → 2 ≤ length (c ∷ cs)) at c cs
+    turn-cases (λ t. t ≡ Ok (Some b) → 2 ≤ length (c ∷ cs)) at c cs
     (λ q. let z : ◌≡◌ {A = ℕ} 0 1 = cc in absurd (omega arith))
     (λ k l q. let z : ◌≡◌ {A = ℕ} 0 1 = cc in absurd (omega arith))
     (λ d l q. omega arith)
     e
 
-pub byte-within : (text : List ℕ) (i : ℕ) → i < length text → {t : Turn} → t ≡ turn_at i (drop i text) → (b : ℕ) → t ≡ Turn.Byte b
+pub byte-within : (text : List ℕ) (i : ℕ) → i < length text → {t : Turn} → t ≡ turn_at i (drop i text) → (b : ℕ) → t ≡ Ok (Some b)
     → i + 2 ≤ length text
 byte-within text i h e b q =
     let two : 2 ≤ length (drop i text) = two_digits i (drop i text) b (rw length-drop (omega arith)) (sym e ∙ q) in
@@ -184,12 +185,12 @@ unfolding hex_of
 text-fits text = hex_fits (length text) [] 0 text (length text) (omega arith) (omega arith)
 
 -- In a room of half the text's length all of it stands.
-pub read_whole : (text room₀ room : List ℕ) (n : ℕ) → Reads (hex_of text) (Found.Bytes n) room₀ room
+pub read_whole : (text room₀ room : List ℕ) (n : ℕ) → Reads (hex_of text) (Ok n) room₀ room
     → length text ≤ 2 * length room₀ → hex_of text ≡ Hex.bytes (take n room)
 unfolding Reads Fits text_left
 read_whole text room₀ room n r l = go (hex_of text) (text-fits text) r
   where
-    go : (x : Hex) → Fits x (length text) → Reads x (Found.Bytes n) room₀ room → x ≡ Hex.bytes (take n room)
+    go : (x : Hex) → Fits x (length text) → Reads x (Ok n) room₀ room → x ≡ Hex.bytes (take n room)
     go (Hex.bad k) f z = absurd z
     go (Hex.bytes read) f z =
         let w = z ∙ put_front read room₀ (omega arith) in
@@ -197,23 +198,23 @@ read_whole text room₀ room n r l = go (hex_of text) (text-fits text) r
         let b : room ≡ read ++ drop (length read) room₀ = ap (λ (x : Filled). x.room) w in
         rw (a, b, take-append-le (length read) read (drop (length read) room₀) (le_refl _), take-length read) refl
 
-pub read-bad : (text room₀ room : List ℕ) (k : ℕ) → Reads (hex_of text) (Found.Bad k) room₀ room → hex_of text ≡ Hex.bad k
+pub read-bad : (text room₀ room : List ℕ) (e : NoDigit) → Reads (hex_of text) (Err e) room₀ room → hex_of text ≡ Hex.bad e.place
 unfolding Reads
-read-bad text room₀ room k r = go (hex_of text) r
+read-bad text room₀ room e r = go (hex_of text) r
   where
-    go : (x : Hex) → Reads x (Found.Bad k) room₀ room → x ≡ Hex.bad k
+    go : (x : Hex) → Reads x (Err e) room₀ room → x ≡ Hex.bad e.place
     go (Hex.bad at) z = rw z refl
     go (Hex.bytes read) z = absurd z
 
 -- A room of one byte tells whether there is any.
-pub has_byte_lem : (x : Hex) (room₀ room : List ℕ) (n : ℕ) → Reads x (Found.Bytes n) room₀ room → length room₀ ≡ 1 → ltb 0 n ≡ has_byte x
+pub has_byte_lem : (x : Hex) (room₀ room : List ℕ) (n : ℕ) → Reads x (Ok n) room₀ room → length room₀ ≡ 1 → ltb 0 n ≡ has_byte x
 unfolding Reads has_byte put_at
 has_byte_lem (Hex.bad k) room₀ room n r l = absurd r
 has_byte_lem (Hex.bytes read) room₀ room n r l =
     let a : n ≡ min (0 + length read) (length room₀) = ap (λ (x : Filled). x.next) r in
     same_ltb 0 n 0 (length read) (λ h. omega arith) (λ h. omega arith)
 
-pub has_none : (x : Hex) (room₀ room : List ℕ) (k : ℕ) → Reads x (Found.Bad k) room₀ room → false ≡ has_byte x
+pub has_none : (x : Hex) (room₀ room : List ℕ) (e : NoDigit) → Reads x (Err e) room₀ room → false ≡ has_byte x
 unfolding Reads has_byte
-has_none (Hex.bad at) room₀ room k r = refl
-has_none (Hex.bytes read) room₀ room k r = absurd r
+has_none (Hex.bad at) room₀ room e r = refl
+has_none (Hex.bytes read) room₀ room e r = absurd r

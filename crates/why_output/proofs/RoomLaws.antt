@@ -2,7 +2,7 @@
 use Prim.Native.Nat.{ℕ, zero, suc, ◌+◌, ◌^◌, ◌≤◌, ◌<◌}
 use mathlib.Core.Path.{◌≡◌, refl}
 use mathlib.Core.List.{List, [], ◌++◌}
-use mathlib.Core.Bool.{Bool, true, false, not, ◌||◌, cond}
+use mathlib.Core.Bool.{Bool, true, false, ◌||◌, cond}
 use native.Mathlib.Omega.{arith}
 use native.Mathlib.Decide.{dec_le}
 use borrow.Author.Tests.{ltb-false, lt-ltb, le-ltb}
@@ -25,14 +25,16 @@ use Rattle.packet_text.specs.Wording.{refused_text, command_text}
 use Rattle.packet_text.proofs.SizeLaws.{Small, small, refused-size, command-size}
 use Rattle.why_output.specs.Pointed.{pointed_to, uses_pointer}
 use Rattle.why_output.specs.Wording.{accepted_text, front_text, said_of, said, state_text, judged_text}
-use Rattle.why_output.specs.Packets.{part_at, all_text, shown_bytes, shown_text, fault_text, stop_text, stops, accepted_bytes}
-use Rattle.why_output.specs.Packets.{packets_from, packets_text}
+use Rattle.why_output.specs.Packets.{part_at, all_text, shown_bytes, shown_text, fault_text, stop_text}
+use Rattle.why_output.specs.Packets.{Part, at_part, packets_from, packets_text}
 use Rattle.why_output.specs.Hex.{Hex, hex_of, has_byte}
 use Rattle.why_output.specs.Given.{pointers_in}
 use Rattle.why_output.specs.Words.{usage_text}
-use Rattle.why_output.specs.Whole.{most_bytes, is_framed, framed_hint, hex_hint, bytes_text, hex_text, input_text, whole_text}
+use Rattle.why_output.specs.Whole.{most_bytes, is_framed, framed_hint, hex_hint, bytes_text, hex_text, input_text, named_text, whole_text}
 use Rattle.why_output.specs.declared.words.Words.{Words}
-use Rattle.why_output.specs.declared.packets.Part.{Part}
+use Rattle.why_output.specs.declared.packets.Stop.{Stop}
+use Rattle.why_output.specs.declared.words.Usage.{Usage}
+use Rattle.std.specs.Prelude.{is_some, Result, Ok, Err}
 use Rattle.why_output.proofs.HexLaws.{Fits, fits_more, text-fits}
 
 accepted-size : (packet : List ℕ) → length (accepted_text packet) ≤ 22
@@ -129,42 +131,46 @@ fault-size i words h =
     rw length-append (omega arith)
 
 -- what is said where the loop ends
-stop-size : (part : Part) (given? : Bool) (i : ℕ) (used? : Bool) (rest store : List ℕ) (p : Pointers) → i < 2 ^ 64 → length rest < 2 ^ 64
-    → length (stop_text part given? i used? rest store p) ≤ 13800
+stop-size : (stop : Stop) (given? : Bool) (i : ℕ) (used? : Bool) (rest store : List ℕ) (p : Pointers) → i < 2 ^ 64 → length rest < 2 ^ 64
+    → length (stop_text stop given? i used? rest store p) ≤ 13800
 unfolding stop_text shown_text ascii bytes_in_frame
-stop-size Part.End given? i used? rest store p h l =
+stop-size Stop.End given? i used? rest store p h l =
     let a = all-size i h in
     let b = state-size given? used? in
     rw length-append (omega arith)
-stop-size Part.Cut given? i used? rest store p h l =
+stop-size Stop.Cut given? i used? rest store p h l =
     let a = fault-size i (ascii " is cut\n") h in
     let b = state-size given? used? in
     rw length-append (omega arith)
-stop-size Part.Unmarked given? i used? rest store p h l =
+stop-size Stop.Unmarked given? i used? rest store p h l =
     let a = fault-size i (ascii " has no mark\n") h in
     let b = state-size given? used? in
     rw length-append (omega arith)
-stop-size (Part.Refused n) given? i used? rest store p h l =
+stop-size (Stop.Refused n) given? i used? rest store p h l =
     let few : length (bytes_in_frame n rest) < 2 ^ 64 = rw (length-take, length-drop) (omega arith) in
     let a = numbered-length (ascii "packet ") i h in
     let b = shown-length (bytes_in_frame n rest) few in
     let c = judged-size given? used? (bytes_in_frame n rest) store p in
     simp length-append (omega arith)
-stop-size (Part.Accepted n) given? i used? rest store p h l = omega arith
+
+part-size : (part : Part) (behind : ℕ → List ℕ) (stopped : Stop → List ℕ) → ((n : ℕ) → length (behind n) ≤ 13800)
+    → ((stop : Stop) → length (stopped stop) ≤ 13800) → length (at_part part behind stopped) ≤ 13800
+unfolding at_part
+part-size (Ok n) behind stopped a b = a n
+part-size (Err stop) behind stopped a b = b stop
 
 packets-size : (fuel : ℕ) (given? : Bool) (i : ℕ) (used? : Bool) (rest store : List ℕ) (p : Pointers) → i + fuel < 2 ^ 64
     → length rest < 2 ^ 64 → length (packets_from fuel given? i used? rest store p) ≤ 13800
-unfolding packets_from behind_frame
+unfolding packets_from at_part behind_frame
 packets-size zero given? i used? rest store p h l = omega arith
 packets-size (suc fuel) given? i used? rest store p h l =
     let t = part_at rest store p in
-    let n = accepted_bytes t.part in
-    cond-length 13800 (stops t.part) _ _
-    (stop-size t.part given? i used? rest t.store t.pointers (omega arith) l)
-    (packets-size fuel given? (1 + i) (used? || pointed_to (length (bytes_in_frame n rest)) (bytes_in_frame n rest)) (behind_frame n rest) t.store
-    t.pointers
-    (omega arith)
+    part-size t.part _ _
+    (λ n.
+    let packet = bytes_in_frame n rest in
+    packets-size fuel given? (1 + i) (used? || pointed_to (length packet) packet) (behind_frame n rest) t.store t.pointers (omega arith)
     (rw length-drop (omega arith)))
+    (λ stop. stop-size stop given? i used? rest t.store t.pointers (omega arith) l)
 
 framed-size : (bytes : List ℕ) → length (framed_hint bytes) ≤ 52
 unfolding framed_hint ascii
@@ -181,8 +187,8 @@ unfolding bytes_text packets_text
 bytes-size w bytes p h =
     let a = framed-size bytes in
     cond-length 13800 w.lb _ _
-    (packets-size (suc (length bytes)) (not (eqb w.name 0)) 0 false bytes (replicate store_bytes 0) p (omega arith) (omega arith))
-    (rw length-append (omega (arith, judged-size (not (eqb w.name 0)) false bytes (replicate store_bytes 0) p)))
+    (packets-size (suc (length bytes)) (is_some w.name) 0 false bytes (replicate store_bytes 0) p (omega arith) (omega arith))
+    (rw length-append (omega (arith, judged-size (is_some w.name) false bytes (replicate store_bytes 0) p)))
 
 hex_size : (w : Words) (x : Hex) (p : Pointers) → Fits x most_bytes → length (hex_text w x p) ≤ 13852
 unfolding hex_text Fits ascii
@@ -205,19 +211,24 @@ input_size w input p = go (ltb most_bytes (length input)) refl
         cond-length 13852 w.hex _ _ (hex_size w (hex_of input) p (fits_more (hex_of input) few (text-fits input)))
         (rw length-append (omega arith))
 
--- Whatever the program is given, its room has space for all that it writes.
-pub whole-fits : (w : Words) (found? : Bool) (file input : List ℕ) → length (whole_text w found? file input) ≤ 16384
-unfolding whole_text usage_text ascii
-whole-fits w found? file input =
+named-size : (w : Words) (found? : Bool) (file input : List ℕ) → length (named_text w found? file input) ≤ 16384
+unfolding named_text ascii
+named-size w found? file input =
     let a = input_size w input fresh in
     let b = input_size w input (pointers_in file) in
-    cond-length 16384 w.wrong _ _ (omega arith)
-    (cond-length 16384 (eqb w.name 0) _ _ (omega arith)
-    (cond-length 16384 found? _ _ (cond-length 16384 (eqb (length file) 32) _ _ (omega arith) (omega arith)) (omega arith)))
+    cond-length 16384 (is_some w.name) _ _
+    (cond-length 16384 found? _ _ (cond-length 16384 (eqb (length file) 32) _ _ (omega arith) (omega arith)) (omega arith))
+    (omega arith)
+
+-- Whatever the program is given, its room has space for all that it writes.
+pub whole-fits : (asked : Result Words Usage) (found? : Bool) (file input : List ℕ) → length (whole_text asked found? file input) ≤ 16384
+unfolding whole_text usage_text ascii
+whole-fits (Err e) found? file input = omega arith
+whole-fits (Ok w) found? file input = named-size w found? file input
 
 -- So it stands there whole.
-pub whole-left : (w : Words) (found? : Bool) (file input room : List ℕ) → length room ≡ 16384
-    → put_at (whole_text w found? file input) 0 room ≡ text_left (whole_text w found? file input) room
-whole-left w found? file input room e =
-    let l = whole-fits w found? file input in
-    put_front (whole_text w found? file input) room (omega arith)
+pub whole-left : (asked : Result Words Usage) (found? : Bool) (file input room : List ℕ) → length room ≡ 16384
+    → put_at (whole_text asked found? file input) 0 room ≡ text_left (whole_text asked found? file input) room
+whole-left asked found? file input room e =
+    let l = whole-fits asked found? file input in
+    put_front (whole_text asked found? file input) room (omega arith)

@@ -1,5 +1,6 @@
 -- All that the program `why` writes, for the words and the input that it is given.
-use Rattle.std.specs.Prelude.{ℕ, List, [], ◌++◌, Bool, false, not, cond, length, replicate, eqb, ltb}
+use Rattle.std.specs.Prelude.{ℕ, List, [], ◌++◌, Bool, false, cond, length, replicate, eqb, ltb, Result, Ok, Err}
+use Rattle.std.specs.Prelude.{is_some}
 use Rattle.lbp16.specs.Space.{store_bytes}
 use Rattle.lbp16.specs.Pointer.{fresh}
 use Rattle.lbp16.specs.declared.pointer.Pointers.{Pointers}
@@ -12,6 +13,7 @@ use Rattle.why_output.specs.Packets.{packets_text}
 use Rattle.why_output.specs.Wording.{judged_text}
 use Rattle.why_output.specs.Words.{usage_text}
 use Rattle.why_output.specs.declared.words.Words.{Words}
+use Rattle.why_output.specs.declared.words.Usage.{Usage}
 
 -- the most bytes that the input may have
 abbrev pub most_bytes : ℕ
@@ -34,7 +36,7 @@ hex_hint input = cond (has_byte (hex_of input)) (ascii "the input looks like hex
 -- of a packet, or of packets behind "LB", on a store of zeros
 unfoldable pub bytes_text : Words → List ℕ → Pointers → List ℕ
 bytes_text w bytes p =
-    let given? = not (eqb w.name 0) in
+    let given? = is_some w.name in
     cond w.lb (packets_text given? bytes (replicate store_bytes 0) p)
     (judged_text given? false bytes (replicate store_bytes 0) p ++ framed_hint bytes)
 
@@ -48,10 +50,14 @@ input_text w input p =
     (cond w.hex (hex_text w (hex_of input) p) (bytes_text w input p ++ hex_hint input))
 
 -- `found?`: whether the file named can be opened; `file`: what it has
-unfoldable pub whole_text : Words → Bool → List ℕ → List ℕ → List ℕ
-whole_text w found? file input =
-    cond w.wrong usage_text
-    (cond (eqb w.name 0) (input_text w input fresh)
+unfoldable pub named_text : Words → Bool → List ℕ → List ℕ → List ℕ
+named_text w found? file input =
+    cond (is_some w.name)
     (cond found?
     (cond (eqb (length file) 32) (input_text w input (pointers_in file)) (ascii "the file of pointers is not 32 bytes long\n"))
-    (ascii "the file of pointers cannot be opened\n")))
+    (ascii "the file of pointers cannot be opened\n"))
+    (input_text w input fresh)
+
+unfoldable pub whole_text : Result Words Usage → Bool → List ℕ → List ℕ → List ℕ
+whole_text (Err e) found? file input = usage_text
+whole_text (Ok w) found? file input = named_text w found? file input

@@ -12,7 +12,7 @@ fn joined(low: u16, high: u16) -> u32
 }
 
 // The number in the four bytes from `at` on, low byte first; a byte that is not there counts as 0.
-fn quad_at(file: &[u8], at: usize) -> u32
+pub fn quad_at(file: &[u8], at: usize) -> u32
     requires { at ≤ 28 }
     ensures { result ≡ quad_at file.now at }
 {

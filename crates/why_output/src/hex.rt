@@ -1,29 +1,21 @@
 // Hexadecimal text read into a room.
-ghost use Rattle.std.specs.Prelude.{◌≡◌, ◌<◌, length, get_or, drop, MatchOption};
+ghost use Rattle.std.specs.Prelude.{◌≡◌, ◌<◌, length, get_or, drop, MatchOption, MatchResult};
 ghost use Rattle.text.specs.Find.{hex_value};
 ghost use Rattle.why_output.specs.Hex.{is_blank, turn_at, hex_of, has_byte, Reads};
 
 use text::find;
 
-// What stands at a place of the text: a blank, a byte, or no digit at the place named.
-#[derive(Clone, Copy)]
-pub enum Turn {
-    Blank,
-    Byte(u8),
-    Bad(usize),
+// No digit stands at the place, and one should.
+#[derive(Clone, Copy, Debug, PartialEq, Eq)]
+pub struct NoDigit {
+    pub place: usize,
 }
 
-// So many bytes, at the front of the room, as far as it has space for them; or the place where a digit should stand and none does.
-#[derive(Clone, Copy)]
-pub enum Found {
-    Bytes(usize),
-    Bad(usize),
-}
-
+#[tactic(auto, using(std::proofs::lemmas::Bool::Decides::nat_tests), unfolding(crate::specs::Hex::is_blank))]
 fn is_blank(c: u8) -> bool
     ensures { result ≡ is_blank c }
 {
-    (c == 32) | ((c == 9) | ((c == 10) | (c == 13)))
+    matches!(c, b' ' | b'\t' | b'\n' | b'\r')
 }
 
 // The value of the digit at a place, where one stands there.
@@ -36,41 +28,51 @@ fn value_at(text: &[u8], i: usize) -> Option<u8>
     find::hex_value(c)
 }
 
-fn turn_at(text: &[u8], i: usize) -> Turn
+fn digit_at(text: &[u8], i: usize) -> Result<u8, NoDigit>
+    ensures { MatchResult result
+        (λ d. (d ≡ hex_value (get_or text.now i 0)) × (d < 16))
+        (λ e. (e.place ≡ i) × (hex_value (get_or text.now i 0) ≡ 16)) }
+{
+    let value = value_at(text, i);
+    match value {
+        Some(d) => Ok(d),
+        None => Err(NoDigit { place: i }),
+    }
+}
+
+// What stands at a place of the text: a blank, or a byte.
+fn turn_at(text: &[u8], i: usize) -> Result<Option<u8>, NoDigit>
     requires { i < length text.now }
     ensures { result ≡ turn_at i (drop i text.now) }
 {
     if is_blank(text[i]) {
-        return Turn::Blank;
+        return Ok(None);
     }
-    let Some(high) = value_at(text, i) else {
-        return Turn::Bad(i);
-    };
-    let Some(low) = value_at(text, i + 1) else {
-        return Turn::Bad(i + 1);
-    };
-    Turn::Byte(16 * high + low)
+    let high = digit_at(text, i)?;
+    let low = digit_at(text, i + 1)?;
+    Ok(Some(16 * high + low))
 }
 
-pub(crate) fn read(text: &[u8], room: &mut [u8]) -> Found
+// So many bytes, at the front of the room, as far as it has space for them.
+pub(crate) fn read(text: &[u8], room: &mut [u8]) -> Result<usize, NoDigit>
     ensures { Reads (hex_of text.now) result room.old room.new }
 {
     let mut n: usize = 0;
     let mut i: usize = 0;
+    // How far a step goes is known only once it is read.
     while i < text.len() {
-        let turn = turn_at(text, i);
+        let turn = turn_at(text, i)?;
         match turn {
-            Turn::Bad(k) => return Found::Bad(k),
-            Turn::Blank => {
+            None => {
                 i += 1;
             }
-            Turn::Byte(b) => {
+            Some(b) => {
                 n = text::put(room, n, &[b]);
                 i += 2;
             }
         }
     }
-    Found::Bytes(n)
+    Ok(n)
 }
 
 // Whether the bytes may be meant as such a text: it can be read, and a byte stands in it.
@@ -80,7 +82,7 @@ pub(crate) fn looks_hex(input: &[u8]) -> bool
     let mut room = [0u8; 1];
     let found = read(input, &mut room);
     match found {
-        Found::Bad(_) => false,
-        Found::Bytes(n) => 0 < n,
+        Ok(n) => 0 < n,
+        Err(_) => false,
     }
 }

@@ -7,24 +7,24 @@ pub mod packets;
 mod pointed;
 pub mod words;
 
-ghost use Rattle.std.specs.Prelude.{◌++◌, ◌≡◌, ◌≤◌, length};
+ghost use Rattle.std.specs.Prelude.{◌++◌, ◌≡◌, ◌≤◌, length, IfSome};
 ghost use Rattle.cue.specs.Output.{front_of};
+ghost use Rattle.reason.specs.Reason.{reason_listed};
 ghost use Rattle.text.specs.Line.{numbered};
 ghost use Rattle.text.specs.Number.{ascii};
 ghost use Rattle.text.specs.Room.{filled, put_at, text_left};
 ghost use Rattle.why_output.specs.Hex.{hex_of};
 ghost use Rattle.why_output.specs.Wording.{accepted_text, front_text, said_of, said, state_text, judged_text};
-ghost use Rattle.why_output.specs.Whole.{is_framed, framed_hint, hex_hint, bytes_text, hex_text, input_text, most_bytes, whole_text};
+ghost use Rattle.why_output.specs.Whole.{is_framed, framed_hint, hex_hint, bytes_text, hex_text, input_text, named_text, most_bytes, whole_text};
 
 use card::check::STORE_BYTES;
 use cue::frame;
 use cue::frame::Frame;
-use hex::Found;
 use lbp16::pointer::Pointers;
 use packet_text::command;
 use reason::Reason;
 use text::{line, number, pick};
-use words::Words;
+use words::{Usage, Words};
 
 // The most bytes that the input may have.
 const MOST: usize = 3000000;
@@ -50,12 +50,14 @@ fn front(out: &mut [u8], at: usize, packet: &[u8], place: u64) -> usize
     text::put(out, at, b"\n")
 }
 
-fn say(out: &mut [u8], at: usize, packet: &[u8], r: Reason) -> usize
-    ensures { filled result out.new ≡ put_at (said_of packet.now r) at out.old }
+// Refusals 1 and 2 are of no command.
+fn say(out: &mut [u8], at: usize, packet: &[u8], reason: Option<Reason>) -> usize
+    requires { IfSome reason (λ r. 1 ≤ r.number) }
+    ensures { filled result out.new ≡ put_at (said_of packet.now (reason_listed reason)) at out.old }
 {
-    if r.number == 0 {
+    let Some(r) = reason else {
         return accepted(out, at, packet);
-    }
+    };
     let at = packet_text::put_refused(out, at, r);
     if r.number < 3 {
         return at;
@@ -72,34 +74,41 @@ pub fn put_said(room: &mut [u8], at: usize, packet: &[u8], store: &[u8], p: Poin
     say(room, at, packet, r)
 }
 
-// From which state a packet is judged, where a command uses a pointer.
-fn put_state(room: &mut [u8], at: usize, given: bool, used: bool) -> usize
-    ensures { filled result room.new ≡ put_at (state_text given used) at room.old }
+// From which state a packet is judged: whether its pointers were given, and whether a command of a packet before it uses one.
+#[derive(Clone, Copy, Debug, PartialEq, Eq)]
+pub(crate) struct Origin {
+    pub(crate) given: bool,
+    pub(crate) used: bool,
+}
+
+// It is said where a command uses a pointer.
+fn put_state(room: &mut [u8], at: usize, from: Origin) -> usize
+    ensures { filled result room.new ≡ put_at (state_text from.given from.used) at room.old }
 {
     let t = pick(
-        given,
+        from.given,
         b"judged from the pointers given\n",
         b"judged from a fresh card\n",
     );
-    text::put(room, at, pick(used, t, b""))
+    text::put(room, at, pick(from.used, t, b""))
 }
 
-// The same with the state; `used`: whether a command of a packet before it uses a pointer.
+// The same with the state.
 fn put_judged(
     room: &mut [u8],
     at: usize,
-    given: bool,
-    used: bool,
+    from: Origin,
     packet: &[u8],
     store: &[u8],
     p: Pointers,
 ) -> usize
     ensures { filled result room.new
-        ≡ put_at (judged_text given used packet.now store.now p) at room.old }
+        ≡ put_at (judged_text from.given from.used packet.now store.now p) at room.old }
 {
     let r = reason::explain(packet, store, p);
     let next = say(room, at, packet, r);
-    put_state(room, next, given, used | pointed::uses_pointer(packet, r))
+    let used = from.used | pointed::uses_pointer(packet, r);
+    put_state(room, next, Origin { used, ..from })
 }
 
 fn is_framed(bytes: &[u8]) -> bool
@@ -140,11 +149,12 @@ fn put_bytes(room: &mut [u8], w: Words, bytes: &[u8], p: Pointers) -> usize
     ensures { filled result room.new ≡ put_at (bytes_text w bytes.now p) 0 room.old }
 {
     let mut store = [0u8; STORE_BYTES];
-    let given = w.name != 0;
+    let given = w.name.is_some();
     if w.lb {
         return packets::put_packets(room, given, bytes, &mut store, p);
     }
-    let at = put_judged(room, 0, given, false, bytes, &store, p);
+    let from = Origin { given, used: false };
+    let at = put_judged(room, 0, from, bytes, &store, p);
     put_framed_hint(room, at, bytes)
 }
 
@@ -162,8 +172,8 @@ fn put_hex(room: &mut [u8], w: Words, text: &[u8], p: Pointers, bytes: &mut [u8;
 {
     let found = hex::read(text, bytes);
     match found {
-        Found::Bad(k) => put_bad(room, k),
-        Found::Bytes(n) => put_bytes(room, w, reason::front(bytes, n as u64), p),
+        Err(e) => put_bad(room, e.place),
+        Ok(n) => put_bytes(room, w, reason::front(bytes, n as u64), p),
     }
 }
 
@@ -180,15 +190,11 @@ fn put_input(room: &mut [u8], w: Words, input: &[u8], p: Pointers) -> usize
     put_hex_hint(room, at, input)
 }
 
-// What is written: `found`: whether the file named can be opened, `file`: what it has.
-fn written(w: Words, found: bool, file: &[u8], input: &[u8], room: &mut [u8]) -> usize
-    ensures { filled result room.new
-        ≡ put_at (whole_text w found file.now input.now) 0 room.old }
+// `found`: whether the file named can be opened, `file`: what it has.
+fn put_named(room: &mut [u8], w: Words, found: bool, file: &[u8], input: &[u8]) -> usize
+    ensures { filled result room.new ≡ put_at (named_text w found file.now input.now) 0 room.old }
 {
-    if w.wrong {
-        return words::put_usage(room);
-    }
-    if w.name == 0 {
+    if w.name.is_none() {
         return put_input(room, w, input, Pointers::fresh());
     }
     if !found {
@@ -200,10 +206,33 @@ fn written(w: Words, found: bool, file: &[u8], input: &[u8], room: &mut [u8]) ->
     put_input(room, w, input, given::pointers_in(file))
 }
 
-// The bytes to write stand at the front of the room; how many they are is answered.
-pub fn whole(w: Words, found: bool, file: &[u8], input: &[u8], room: &mut [u8; 16384]) -> usize
+// What is written.
+fn written(
+    asked: Result<Words, Usage>,
+    found: bool,
+    file: &[u8],
+    input: &[u8],
+    room: &mut [u8],
+) -> usize
     ensures { filled result room.new
-        ≡ text_left (whole_text w found file.now input.now) room.old }
+        ≡ put_at (whole_text asked found file.now input.now) 0 room.old }
 {
-    written(w, found, file, input, room)
+    match asked {
+        Err(_) => words::put_usage(room),
+        Ok(w) => put_named(room, w, found, file, input),
+    }
+}
+
+// The bytes to write stand at the front of the room; how many they are is answered.
+pub fn whole(
+    asked: Result<Words, Usage>,
+    found: bool,
+    file: &[u8],
+    input: &[u8],
+    room: &mut [u8; 16384],
+) -> usize
+    ensures { filled result room.new
+        ≡ text_left (whole_text asked found file.now input.now) room.old }
+{
+    written(asked, found, file, input, room)
 }

@@ -6,33 +6,31 @@ ghost use Rattle.cue.specs.Output.{bytes_in_frame};
 ghost use Rattle.text.specs.Room.{filled, put_at};
 ghost use Rattle.why_output.specs.Pointed.{pointed_to};
 ghost use Rattle.why_output.specs.Wording.{state_text};
-ghost use Rattle.why_output.specs.Packets.{part_left, ran_left, part_at, stops, accepted_bytes};
+ghost use Rattle.why_output.specs.Packets.{part_left, ran_left, part_at};
 ghost use Rattle.why_output.specs.Packets.{all_text, shown_bytes, shown_text, fault_text, stop_text, packets_text};
 
-use crate::pointed;
+use crate::{Origin, pointed};
 use card::run;
 use cue::frame;
 use cue::frame::Frame;
 use lbp16::pointer::Pointers;
 use packet::command::LIMIT;
-use packet::judge::Verdict;
 use reason::slice;
 use text::{line, number, pick};
 
-// What stands at the front; a packet by its bytes, refused or accepted.
-#[derive(Clone, Copy)]
-pub enum Part {
+// Why no accepted packet stands at the front; a refused one by its bytes.
+#[derive(Clone, Copy, Debug, PartialEq, Eq)]
+pub enum Stop {
     End,
     Cut,
     Unmarked,
     Refused(usize),
-    Accepted(usize),
 }
 
-// What stands there, and the pointers that the packet leaves.
+// The bytes of the accepted packet at the front, or why none stands there, and the pointers then.
 #[derive(Clone, Copy)]
 pub struct Passed {
-    pub part: Part,
+    pub part: Result<usize, Stop>,
     pub pointers: Pointers,
 }
 
@@ -53,12 +51,12 @@ fn ran_at(rest: &[u8], n: usize, store: &mut [u8], p: Pointers) -> Passed
     let pointers = ran.pointers;
     let answer = ran.answer;
     match answer {
-        Verdict::Accepted(_) => Passed {
-            part: Part::Accepted(n),
+        Ok(_) => Passed {
+            part: Ok(n),
             pointers,
         },
-        Verdict::Refused(_) => Passed {
-            part: Part::Refused(n),
+        Err(_) => Passed {
+            part: Err(Stop::Refused(n)),
             pointers,
         },
     }
@@ -70,43 +68,18 @@ fn part_at(rest: &[u8], store: &mut [u8], p: Pointers) -> Passed
     let frame = frame::frame_at(rest);
     match frame {
         Frame::End => Passed {
-            part: Part::End,
+            part: Err(Stop::End),
             pointers: p,
         },
         Frame::Cut => Passed {
-            part: Part::Cut,
+            part: Err(Stop::Cut),
             pointers: p,
         },
         Frame::Unmarked => Passed {
-            part: Part::Unmarked,
+            part: Err(Stop::Unmarked),
             pointers: p,
         },
         Frame::Whole(n) => ran_at(rest, n, store, p),
-    }
-}
-
-// Whatever stands there but an accepted packet ends it.
-fn is_stop(part: Part) -> bool
-    ensures { result ≡ stops part }
-{
-    match part {
-        Part::End => true,
-        Part::Cut => true,
-        Part::Unmarked => true,
-        Part::Refused(_) => true,
-        Part::Accepted(_) => false,
-    }
-}
-
-fn accepted_bytes(part: Part) -> usize
-    ensures { result ≡ accepted_bytes part }
-{
-    match part {
-        Part::End => 0,
-        Part::Cut => 0,
-        Part::Unmarked => 0,
-        Part::Refused(_) => 0,
-        Part::Accepted(n) => n,
     }
 }
 
@@ -143,45 +116,43 @@ fn put_shown(room: &mut [u8], i: u64, packet: &[u8]) -> usize
     text::put(room, at, b"\n")
 }
 
-fn put_fault(room: &mut [u8], i: u64, words: &[u8], given: bool, used: bool) -> usize
+fn put_fault(room: &mut [u8], i: u64, words: &[u8], from: Origin) -> usize
     ensures { filled result room.new
-        ≡ put_at (fault_text i words.now ++ state_text given used) 0 room.old }
+        ≡ put_at (fault_text i words.now ++ state_text from.given from.used) 0 room.old }
 {
     let at = line::numbered(room, 0, b"part ", i);
     let at = text::put(room, at, words);
-    crate::put_state(room, at, given, used)
+    crate::put_state(room, at, from)
 }
 
-fn put_end(room: &mut [u8], i: u64, given: bool, used: bool) -> usize
-    ensures { filled result room.new ≡ put_at (all_text i ++ state_text given used) 0 room.old }
+fn put_end(room: &mut [u8], i: u64, from: Origin) -> usize
+    ensures { filled result room.new ≡ put_at (all_text i ++ state_text from.given from.used) 0 room.old }
 {
     let at = put_all(room, i);
-    crate::put_state(room, at, given, used)
+    crate::put_state(room, at, from)
 }
 
 fn put_stop(
     room: &mut [u8],
-    part: Part,
-    given: bool,
+    stop: Stop,
+    from: Origin,
     i: u64,
-    used: bool,
     rest: &[u8],
     store: &[u8],
     p: Pointers,
 ) -> usize
     ensures { filled result room.new
-        ≡ put_at (stop_text part given i used rest.now store.now p) 0 room.old }
+        ≡ put_at (stop_text stop from.given i from.used rest.now store.now p) 0 room.old }
 {
-    match part {
-        Part::End => put_end(room, i, given, used),
-        Part::Cut => put_fault(room, i, b" is cut\n", given, used),
-        Part::Unmarked => put_fault(room, i, b" has no mark\n", given, used),
-        Part::Refused(n) => {
+    match stop {
+        Stop::End => put_end(room, i, from),
+        Stop::Cut => put_fault(room, i, b" is cut\n", from),
+        Stop::Unmarked => put_fault(room, i, b" has no mark\n", from),
+        Stop::Refused(n) => {
             let packet = in_frame(rest, n);
             let at = put_shown(room, i, packet);
-            crate::put_judged(room, at, given, used, packet, store, p)
+            crate::put_judged(room, at, from, packet, store, p)
         }
-        Part::Accepted(_) => text::put(room, 0, b""),
     }
 }
 
@@ -202,20 +173,21 @@ pub(crate) fn put_packets(
     ensures { filled result room.new ≡ put_at (packets_text given bytes.now store.old p) 0 room.old }
 {
     let mut pointers = p;
-    let mut used = false;
+    let mut from = Origin { given, used: false };
     let mut i: u64 = 0;
     let mut rest = bytes;
+    // Where the next packet begins is known only once this one is judged.
     loop {
         let next = part_at(rest, store, pointers);
         let part = next.part;
         pointers = next.pointers;
-        if is_stop(part) {
-            return put_stop(room, part, given, i, used, rest, store, pointers);
+        match part {
+            Err(stop) => return put_stop(room, stop, from, i, rest, store, pointers),
+            Ok(n) => {
+                from.used = from.used | pointed_in(in_frame(rest, n));
+                i += 1;
+                rest = &rest[4 + n..];
+            }
         }
-        let n = accepted_bytes(part);
-        used = used | pointed_in(in_frame(rest, n));
-        i += 1;
-        let end = 4 + n;
-        rest = &rest[end..];
     }
 }

@@ -1,5 +1,6 @@
 // Whether a command takes its address from a pointer.
-ghost use Rattle.std.specs.Prelude.{◌≡◌};
+ghost use Rattle.std.specs.Prelude.{◌≡◌, ◌≤◌, IfSome};
+ghost use Rattle.reason.specs.Reason.{reason_listed};
 ghost use Rattle.why_output.specs.Pointed.{by_pointer, pointed_from, pointed_to, uses_pointer};
 
 use packet::command;
@@ -20,6 +21,7 @@ fn pointed_before(packet: &[u8], place: usize) -> bool
 {
     let mut n = place;
     let mut rest = packet;
+    // How long a command is is known only once its word is read.
     while 0 < n {
         if by_pointer(rest) {
             return true;
@@ -39,12 +41,13 @@ pub(crate) fn pointed_to(packet: &[u8], place: usize) -> bool
     pointed_before(packet, place) | by_pointer(slice::rest(packet, place))
 }
 
-pub(crate) fn uses_pointer(packet: &[u8], r: Reason) -> bool
-    ensures { result ≡ uses_pointer packet.now r }
+pub(crate) fn uses_pointer(packet: &[u8], reason: Option<Reason>) -> bool
+    requires { IfSome reason (λ r. 1 ≤ r.number) }
+    ensures { result ≡ uses_pointer packet.now (reason_listed reason) }
 {
-    if r.number == 0 {
+    let Some(r) = reason else {
         return pointed_to(packet, packet.len());
-    }
+    };
     if r.number < 3 {
         return false;
     }

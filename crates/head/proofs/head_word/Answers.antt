@@ -14,14 +14,14 @@ pub fields_from-requires : goal.fields_from-requires
 fields_from-requires c = let fields = c.args.fields.now in
     (good 7 fields (bad_flags fields) (sym c.bad_fields.ensures ∙ c.if-bad_fields.false)).0
 
-pub returns-in-Word : goal.returns-in-Word
+pub returns-in-Ok : goal.returns-in-Ok
 unfolding word_given number_of word_left listed export_word
-returns-in-Word c = let at_answer : export_word c.args.fields.now ≡ listed c.word_of-written.result =
+returns-in-Ok c = let at_answer : export_word c.args.fields.now ≡ listed c.word_of-written.result =
     rw (← c.bad_fields.ensures, c.if-bad_fields.false, ← c.fields_from.ensures) (sym c.word_of-written.ensures) in
-    rw (at_answer, c.in-Word.is) refl
+    rw (at_answer, c.in-Ok.is) refl
 
-pub returns-in-Refused : goal.returns-in-Refused
+pub returns-in-Err : goal.returns-in-Err
 unfolding word_given number_of word_left listed export_word
-returns-in-Refused c = let at_answer : export_word c.args.fields.now ≡ listed c.word_of-written.result =
+returns-in-Err c = let at_answer : export_word c.args.fields.now ≡ listed c.word_of-written.result =
     rw (← c.bad_fields.ensures, c.if-bad_fields.false, ← c.fields_from.ensures) (sym c.word_of-written.ensures) in
-    rw (at_answer, c.in-Refused.is) refl
+    rw (at_answer, c.in-Err.is, c.number.ensures) refl

@@ -6,12 +6,12 @@ use Rattle.why_output.proofs.HexLaws.{read-bad, read_whole}
 use borrow.Author.Rules.{rules}
 use Rattle.why_output.proofs.put_hex.Goals as goal
 
-pub returns-in-Bad : goal.returns-in-Bad
+pub returns-in-Err : goal.returns-in-Err
 unfolding hex_text
-returns-in-Bad c = rw (read-bad _ _ _ _ (rw c.in-Bad.is at c.read-found.ensures)) c.put_bad.ensures
+returns-in-Err c = rw (read-bad _ _ _ _ (rw c.in-Err.is at c.read-found.ensures)) c.put_bad.ensures
 
-pub returns-in-Bytes : goal.returns-in-Bytes
+pub returns-in-Ok : goal.returns-in-Ok
 unfolding hex_text
-returns-in-Bytes c = let l : length c.args.bytes.now ≡ 1500000 = search rules in
-    rw (read_whole _ _ _ _ (rw c.in-Bytes.is at c.read-found.ensures) (omega (arith, c.requires)))
+returns-in-Ok c = let l : length c.args.bytes.now ≡ 1500000 = search rules in
+    rw (read_whole _ _ _ _ (rw c.in-Ok.is at c.read-found.ensures) (omega (arith, c.requires)))
     (rw c.front.ensures at c.put_bytes.ensures)

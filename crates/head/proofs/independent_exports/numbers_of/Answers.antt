@@ -7,7 +7,7 @@ returns-in-Independent c = rw c.in-Independent.is
 
 pub returns-in-Refused : goal.returns-in-Refused
 unfolding independence_listed
-returns-in-Refused c = rw c.in-Refused.is
+returns-in-Refused c = rw (c.in-Refused.is, c.number.ensures)
 
 pub returns-in-Clash : goal.returns-in-Clash
 unfolding independence_listed

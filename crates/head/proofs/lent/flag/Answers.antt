@@ -1,10 +1,6 @@
-use Rattle.lbp16.specs.Word.{bit}
+use mathlib.Core.Path.{◌∙◌}
+use Rattle.head.proofs.ExportLaws.{bit_is}
 use Rattle.head.proofs.lent.flag.Goals as goal
 
-pub returns-then-set : goal.returns-then-set
-unfolding bit
-returns-then-set c = rw c.if-set.true
-
-pub returns-else-set : goal.returns-else-set
-unfolding bit
-returns-else-set c = rw c.if-set.false
+pub returns : goal.returns
+returns c = c.from.ensures ∙ bit_is _

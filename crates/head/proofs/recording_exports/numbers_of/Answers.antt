@@ -7,7 +7,7 @@ returns-in-Yes c = rw c.in-Yes.is
 
 pub returns-in-Refused : goal.returns-in-Refused
 unfolding judged_numbers
-returns-in-Refused c = rw c.in-Refused.is
+returns-in-Refused c = rw (c.in-Refused.is, c.number.ensures)
 
 pub returns-in-BadPacket : goal.returns-in-BadPacket
 unfolding judged_numbers

@@ -15,14 +15,14 @@ pub header_from-requires : goal.header_from-requires
 header_from-requires c = let fields = c.args.fields.now in
     good 4 fields (bad_header fields) (sym c.bad_header.ensures ∙ c.if-bad_header.false)
 
-pub returns-in-Word : goal.returns-in-Word
+pub returns-in-Ok : goal.returns-in-Ok
 unfolding word_given number_of word_left header_listed export_header_word
-returns-in-Word c = let at_answer : export_header_word c.args.fields.now ≡ header_listed c.header_word-written.result =
+returns-in-Ok c = let at_answer : export_header_word c.args.fields.now ≡ header_listed c.header_word-written.result =
     rw (← c.bad_header.ensures, c.if-bad_header.false, ← c.header_from.ensures) (sym c.header_word-written.ensures) in
-    rw (at_answer, c.in-Word.is) refl
+    rw (at_answer, c.in-Ok.is) refl
 
-pub returns-in-Refused : goal.returns-in-Refused
+pub returns-in-Err : goal.returns-in-Err
 unfolding word_given number_of word_left header_listed export_header_word
-returns-in-Refused c = let at_answer : export_header_word c.args.fields.now ≡ header_listed c.header_word-written.result =
+returns-in-Err c = let at_answer : export_header_word c.args.fields.now ≡ header_listed c.header_word-written.result =
     rw (← c.bad_header.ensures, c.if-bad_header.false, ← c.header_from.ensures) (sym c.header_word-written.ensures) in
-    rw (at_answer, c.in-Refused.is) refl
+    rw (at_answer, c.in-Err.is, c.number.ensures) refl

@@ -2,14 +2,14 @@ use Rattle.tight.specs.Tight.{check_listed}
 use Rattle.head.specs.TightExports.{tight_given}
 use Rattle.head.proofs.tight_exports.numbers_of.Goals as goal
 
-pub returns-in-Accepted : goal.returns-in-Accepted
+pub returns-in-Ok : goal.returns-in-Ok
 unfolding tight_given check_listed
-returns-in-Accepted c = rw c.in-Accepted.is
+returns-in-Ok c = rw c.in-Ok.is
 
-pub returns-in-Rejected : goal.returns-in-Rejected
+pub returns-in-Err-Rejected : goal.returns-in-Err-Rejected
 unfolding tight_given check_listed
-returns-in-Rejected c = rw c.in-Rejected.is
+returns-in-Err-Rejected c = rw (c.in-Err-Rejected.is, c.in-Err-Rejected.field-0-is)
 
-pub returns-in-Refused : goal.returns-in-Refused
+pub returns-in-Err-List : goal.returns-in-Err-List
 unfolding tight_given check_listed
-returns-in-Refused c = rw c.in-Refused.is
+returns-in-Err-List c = rw (c.in-Err-List.is, c.in-Err-List.field-0-is, c.number.ensures)

@@ -19,7 +19,3 @@ pub returns-in-Refused : goal.returns-in-Refused
 unfolding stop_text
 returns-in-Refused c = rw c.in-Refused.is
     (put_then _ _ _ _ (rw c.in_frame-packet.ensures at c.put_shown-at.ensures) (rw c.in_frame-packet.ensures at c.put_judged.ensures))
-
-pub returns-in-Accepted : goal.returns-in-Accepted
-unfolding stop_text
-returns-in-Accepted c = rw c.in-Accepted.is c.put.ensures

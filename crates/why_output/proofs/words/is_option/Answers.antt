@@ -1,11 +1,8 @@
 use mathlib.Core.Path.{refl}
 use Rattle.why_output.specs.Words.{is_option}
-use Rattle.why_output.proofs.WordsLaws.{no_option}
+use Rattle.std.proofs.lemmas.Option.{unwrap_or-slice_get}
 use Rattle.why_output.proofs.words.is_option.Goals as goal
-
-pub returns-then-word-eq0 : goal.returns-then-word-eq0
-returns-then-word-eq0 c = no_option _ c.if-word-eq0.true
 
 pub returns : goal.returns
 unfolding is_option
-returns c = refl
+returns c = rw (c.unwrap_or.ensures, c.copied.ensures, c.first.ensures.value, unwrap_or-slice_get c.args.word.now 0 0) refl

@@ -2,10 +2,14 @@ use mathlib.Core.Path.{refl}
 use Rattle.why_output.specs.Words.{most_read}
 use Rattle.why_output.proofs.words.most_read.Goals as goal
 
-pub returns-then-w-found : goal.returns-then-w-found
+pub returns-in-Err : goal.returns-in-Err
 unfolding most_read
-returns-then-w-found c = rw c.if-w-found.true refl
+returns-in-Err c = rw c.in-Err.is refl
 
-pub returns : goal.returns
+pub returns-then-is_some-found : goal.returns-then-is_some-found
 unfolding most_read
-returns c = rw c.if-w-found.false refl
+returns-then-is_some-found c = rw (c.in-Ok.is, ← c.is_some.ensures, c.if-is_some-found.true) refl
+
+pub returns-else-is_some-found : goal.returns-else-is_some-found
+unfolding most_read
+returns-else-is_some-found c = rw (c.in-Ok.is, ← c.is_some.ensures, c.if-is_some-found.false) refl

@@ -1,0 +1,7 @@
+use Rattle.head.proofs.list_reason_exports.cause_number.Goals as goal
+
+pub returns-in-None : goal.returns-in-None
+returns-in-None c = rw c.in-None.is
+
+pub returns-in-Some : goal.returns-in-Some
+returns-in-Some c = rw (c.in-Some.is, c.number.ensures)
