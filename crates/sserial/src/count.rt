@@ -86,6 +86,7 @@ pub fn count_fields(memory: &[u8], table: u16) -> Result<FieldCounts, Refusal>
         inputs: Sum { fields: 0, bits: 0 },
         outputs: Sum { fields: 0, bits: 0 },
     });
+    // Which entry ends the walk decides the answer, so the entries themselves are walked here.
     loop {
         let entry = table::entry_at(memory, at);
         match entry {
