@@ -63,3 +63,17 @@ cut-remains (x ∷ xs) index rest r = go (dec_le (length rest) 0) (cut-remains x
 
 pub cut-good : (list : List ℕ) (xs : List Step) → records_of list ≡ records xs → cut_up list ≡ map brief xs
 cut-good list xs e = cut-remains xs 0 list (remains-all list xs e)
+
+-- It has no more records than bytes.
+cut_short : (fuel : ℕ) (rest : List ℕ) → length (cut_from fuel rest) ≤ length rest
+unfolding cut_from
+cut_short zero rest = omega arith
+cut_short (suc fuel) [] = omega arith
+cut_short (suc fuel) (b ∷ bs) =
+    let some = record_bytes_le (record_kind (b ∷ bs)) in
+    let later = cut_short fuel (drop (record_bytes (record_kind (b ∷ bs))) (b ∷ bs)) in
+    omega (arith, length-drop (record_bytes (record_kind (b ∷ bs))) (b ∷ bs))
+
+pub cut-few : (list : List ℕ) → length (cut_up list) ≤ length list
+unfolding cut_up
+cut-few list = cut_short (length list) list

@@ -98,6 +98,7 @@ pub(crate) fn emit(list: &[u8], out: &mut [u8])
 {
     let mut rest = list;
     let mut packer = Packer::empty();
+    // Each turn needs the element's bytes, which stand behind the record that is read.
     while rest.len() != 0 {
         let r = records::whole_record(rest);
         packer = packer::turned(packer, r, space::row_of(r.space));

@@ -14,6 +14,7 @@ pub fn plan(list: &[u8]) -> CompileAnswer
     let mut rest = list;
     let mut index: usize = 0;
     let mut packer = Packer::empty();
+    // A refused record has no length, so that the check must come before the next record is looked for.
     while rest.len() != 0 {
         if let Err(rule) = records::record_refusal(rest, index) {
             return Err(rule.at(index as u64));

@@ -147,6 +147,7 @@ pub fn walk(list: &[u8]) -> Result<usize, Stopped>
 {
     let mut rest = list;
     let mut index: usize = 0;
+    // A refused record has no length, so that the check must come before the next record is looked for.
     while rest.len() != 0 {
         if let Err(rule) = records::record_refusal(rest, index) {
             return Err(Stopped {

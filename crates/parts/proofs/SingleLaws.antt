@@ -41,23 +41,15 @@ pub no_true : {A : Type 0} → false ≡ true → A
 no_true e = let z : ◌≡◌ {A = ℕ} 0 1 = cc in absurd (omega arith)
 
 -- bytes as the code reads them
-pub behind-is : (s : List ℕ) → length s ≡ 1504 → (a b c d : ℕ) → a ≡ number (take 2 (drop 4 s)) → b ≡ number (take 2 (drop 6 s))
-    → c ≡ number (take 2 (drop 8 s)) → d ≡ number (take 2 (drop 10 s))
-    → a + 65536 * b + 4294967296 * c + 281474976710656 * d ≡ number (take 8 (drop 4 s))
+pub behind-is : (s : List ℕ) → length s ≡ 1504 → (n : ℕ)
+    → n
+    ≡ get_or s 4 0 + get_or s 5 0 * 256 + get_or s 6 0 * 65536 + get_or s 7 0 * 16777216 + get_or s 8 0 * 4294967296
+    + get_or s 9 0 * 1099511627776
+    + get_or s 10 0 * 281474976710656
+    + get_or s 11 0 * 72057594037927936
+    → n ≡ number (take 8 (drop 4 s))
 unfolding number padded
-behind-is s l a b c d p q r t =
-    rw (
-      p,
-      q,
-      r,
-      t,
-      padded-is 2 4 s (omega arith),
-      padded-is 2 6 s (omega arith),
-      padded-is 2 8 s (omega arith),
-      padded-is 2 10 s (omega arith),
-      padded-is 8 4 s (omega arith),
-    )
-    (omega arith)
+behind-is s l n e = e ∙ rw (padded-is 8 4 s (omega arith)) (omega arith)
 
 room-is : (s : List ℕ) → length s ≡ 1504 → take 10 (drop 2 s) ≡ get_or s 2 0 ∷ get_or s 3 0 ∷ take 8 (drop 4 s)
 unfolding padded

@@ -41,10 +41,7 @@ fn behind_mark(s: &[u8]) -> u64
     requires { length s.now ≡ state_bytes }
     ensures { result ≡ number (take 8 (drop 4 s.now)) }
 {
-    bytes::pair_at(s, 4) as u64
-        + 65536 * bytes::pair_at(s, 6) as u64
-        + 4294967296 * bytes::pair_at(s, 8) as u64
-        + 281474976710656 * bytes::pair_at(s, 10) as u64
+    u64::from_le_bytes([s[4], s[5], s[6], s[7], s[8], s[9], s[10], s[11]])
 }
 
 // Whether a record with this mark has more than `at` bytes and one.

@@ -12,9 +12,9 @@ use cue::records::MOST;
 use packet::bytes;
 use packet::command::LIMIT;
 
-// `stands`: 0 while bytes are taken, 1 after the list's end, otherwise a fault's number. `collected` of `bytes` are the
+// The numbers are the lent state's, whatever they are, until `bad` has looked at them. `stands`: 0 while bytes are taken, 1 after the list's end, otherwise a fault's number. `collected` of `bytes` are the
 // next record's.
-#[derive(Clone, Copy)]
+#[derive(Clone, Copy, Debug, PartialEq, Eq)]
 pub struct Kept {
     pub stands: u32,
     pub collected: usize,
@@ -100,7 +100,7 @@ fn byte_of(k: Kept, i: usize) -> u8
 fn flag(set: bool) -> u8
     ensures { result ≡ bit set }
 {
-    if set { 1 } else { 0 }
+    u8::from(set)
 }
 
 // What the state keeps of a packer: its numbers, all 0 where no packet is open.
@@ -109,18 +109,9 @@ fn shown(p: Packer) -> Packer
 {
     if p.packets == 0 {
         return Packer {
-            write: false,
-            space: 0,
-            address: 0,
             count: 0,
             packet: 0,
-            reply: 0,
-            unlocked: false,
-            unlock: false,
-            frame: 0,
-            word: 0,
-            end: 0,
-            packets: 0,
+            ..Packer::empty()
         };
     }
     p

@@ -187,6 +187,7 @@ fn records_joined(p: Packer, first: usize, part: &[u8], room: &mut [u8]) -> Run
     let mut packer = p;
     let mut index = first;
     let mut at: usize = 0;
+    // How many bytes a record takes is known once it is taken.
     while at < part.len() {
         let j = record_joined(packer, index, &part[at..], room);
         let next = j.packer;
@@ -246,6 +247,7 @@ fn bytes_taken(k: Kept, part: &[u8], room: &mut [u8], out: &mut [u8]) -> Stop
     let mut kept = k;
     let mut written: usize = 0;
     let mut at: usize = 0;
+    // A turn takes as many bytes as go before a packet is handed out or a fault shows.
     while (at < part.len()) & ((kept.stands == 0) & (written == 0)) {
         let t = stretch_taken(kept, &part[at..], room, out);
         let next = t.kept;

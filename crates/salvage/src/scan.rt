@@ -99,6 +99,7 @@ pub fn count(list: &[u8]) -> Counts
 {
     let mut c = Counts::none();
     let mut at: usize = 0;
+    // Where the next stretch begins is known once this one is read.
     while at < list.len() {
         let s = span_at(&list[at..]);
         c = tallied(c, s);

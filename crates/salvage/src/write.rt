@@ -37,6 +37,7 @@ pub(crate) fn write(list: &[u8], out: &mut [u8], log: &mut [u64])
 {
     let mut c = Counts::none();
     let mut at: usize = 0;
+    // As in the first pass, whose counts are where the next bytes go.
     while at < list.len() {
         let s = scan::span_at(&list[at..]);
         put_record(out, c.bytes, &list[at..], s);

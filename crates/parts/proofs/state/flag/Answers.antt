@@ -1,10 +1,13 @@
+use mathlib.Core.Bool.{Bool, true, false}
+use mathlib.Core.Path.{◌≡◌, refl, ◌∙◌}
+use mir.Val.{bool_byte}
 use Rattle.lbp16.specs.Word.{bit}
 use Rattle.parts.proofs.state.flag.Goals as goal
 
-pub returns-then-set : goal.returns-then-set
-unfolding bit
-returns-then-set c = rw c.if-set.true
+same : (b : Bool) → bool_byte b ≡ bit b
+unfolding bit bool_byte
+same true = refl
+same false = refl
 
-pub returns-else-set : goal.returns-else-set
-unfolding bit
-returns-else-set c = rw c.if-set.false
+pub returns : goal.returns
+returns c = c.from.ensures ∙ same _
