@@ -25,11 +25,9 @@ fn fetch_cells(store: &[u8], from: usize, stride: usize, answer: &mut [u32])
 {
     answer[0] = 0;
     let mut at = from;
-    let mut i: usize = 1;
-    while i < answer.len() {
+    for i in 1..answer.len() {
         answer[i] = element::fetch4(store, at);
         at += stride;
-        i += 1;
     }
 }
 
@@ -56,12 +54,9 @@ fn store_cells(words: &[u32], store: &mut [u8], from: usize, stride: usize)
     ensures { store.new ≡ filled (drop 1 words.now) from stride store.old }
 {
     let mut at = from;
-    let mut i: usize = 1;
-    while i < words.len() {
-        let word = words[i];
-        element::store4(store, at, word);
+    for i in 1..words.len() {
+        element::store4(store, at, words[i]);
         at += stride;
-        i += 1;
     }
 }
 

@@ -3,51 +3,38 @@ ghost use Rattle.std.specs.Prelude.{cond, ◌≡◌, ◌+◌, ◌≤◌, ◌<◌
 ghost use Rattle.std.proofs.lemmas.List.Edits.{sets};
 ghost use Rattle.packet.specs.Bytes.{number, bytes_of};
 
-fn wide16(b: u8) -> u16
-    ensures { (result ≡ b) × (result < 256) }
-{
-    b as u16
-}
-
-fn wide32(b: u8) -> u32
-    ensures { (result ≡ b) × (result < 256) }
-{
-    b as u32
-}
-
 pub(crate) fn fetch2(s: &[u8], at: usize) -> u16
     requires { at + 2 ≤ length s.now }
     ensures { result ≡ number (take 2 (drop at s.now)) }
 {
-    wide16(s[at]) + 256 * wide16(s[at + 1])
+    u16::from_le_bytes([s[at], s[at + 1]])
 }
 
 pub(crate) fn fetch4(s: &[u8], at: usize) -> u32
     requires { at + 4 ≤ length s.now }
     ensures { result ≡ number (take 4 (drop at s.now)) }
 {
-    wide32(s[at])
-        + 256 * wide32(s[at + 1])
-        + 65536 * wide32(s[at + 2])
-        + 16777216 * wide32(s[at + 3])
+    u32::from_le_bytes([s[at], s[at + 1], s[at + 2], s[at + 3]])
 }
 
 pub(crate) fn store2(d: &mut [u8], at: usize, value: u16)
     requires { at + 2 ≤ length d.old }
     ensures { d.new ≡ sets d.old at (bytes_of 2 value) }
 {
-    d[at] = (value % 256) as u8;
-    d[at + 1] = (value / 256 % 256) as u8;
+    let bytes = value.to_le_bytes();
+    d[at] = bytes[0];
+    d[at + 1] = bytes[1];
 }
 
 pub(crate) fn store4(d: &mut [u8], at: usize, value: u32)
     requires { at + 4 ≤ length d.old }
     ensures { d.new ≡ sets d.old at (bytes_of 4 value) }
 {
-    d[at] = (value % 256) as u8;
-    d[at + 1] = (value / 256 % 256) as u8;
-    d[at + 2] = (value / 65536 % 256) as u8;
-    d[at + 3] = (value / 16777216 % 256) as u8;
+    let bytes = value.to_le_bytes();
+    d[at] = bytes[0];
+    d[at + 1] = bytes[1];
+    d[at + 2] = bytes[2];
+    d[at + 3] = bytes[3];
 }
 
 // One element of 4 bytes, or of 2, from one slice to another.

@@ -16,9 +16,6 @@ overflow_add-at c = let w = writing-inside c.loop-i.invariant c.loop-i-test.true
     let same = c.loop-i.invariant.same in
     omega (arith, c.well_formed)
 
-pub loop-i-smaller : goal.loop-i-smaller
-loop-i-smaller c = omega arith
-
 pub loop-i-preserved : goal.loop-i-preserved
 loop-i-preserved c = writing-next c.loop-i.invariant c.loop-i-test.true _ c.store4.ensures
 

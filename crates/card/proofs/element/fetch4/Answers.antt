@@ -8,6 +8,7 @@ unfolding number
 returns c = let a = c.args in
     omega (
       arith,
+      c.from_le_bytes.ensures,
       number-next 3 a.s.now a.at (omega arith),
       number-from 2 a.s.now a.at 1 (omega arith),
       number-from 1 a.s.now a.at 2 (omega arith),
