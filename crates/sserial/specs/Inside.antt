@@ -1,5 +1,5 @@
 -- The inside of private functions' contracts. Laws in proofs/ tie it to the definitions of Table.antt.
-use Rattle.std.specs.Prelude.{ℕ, zero, suc, ◌+◌, ◌*◌, ◌≤◌, ◌<◌, ◌≡◌, List, [], ◌∷◌, ◌++◌, true, false, ◌||◌, cond, length, take, drop, eqb, ltb}
+use Rattle.std.specs.Prelude.{ℕ, zero, suc, ◌+◌, ◌*◌, ◌≤◌, ◌<◌, ◌≡◌, List, [], ◌∷◌, ◌++◌, ◌||◌, cond, length, take, drop, eqb, ltb, Option, Some, None}
 use Rattle.lbp16.specs.Answer.{Answer, accepted, refused}
 use Rattle.sserial.specs.Table.{Table, unreadable, fields, directed, stands_in}
 use Rattle.sserial.specs.Table.{bits, any_miswide, pair_at, entry_of, sound_field, sound_mode, field_of}
@@ -56,27 +56,30 @@ pub record Within (s : Sums) : Type 0 where
 unfoldable pub sum_with : Direction → Sum → Field → Sum
 sum_with d s f = cond (stands_in d f) (record { fields = s.fields + 1; bits = s.bits + f.width }) s
 
-unfoldable pub sums_with : Sums → Field → Sums
+unfoldable pub sums_with : Sums → Field → Option Sums
 sums_with s f =
     let inputs = sum_with Inputs s.inputs f in
     let outputs = sum_with Outputs s.outputs f in
-    cond (s.over || eqb f.width 0 || ltb 64 f.width || ltb 96 inputs.bits || ltb 96 outputs.bits)
-    (record { inputs = s.inputs; outputs = s.outputs; over = true })
-    (record { inputs = inputs; outputs = outputs; over = false })
+    cond (eqb f.width 0 || ltb 64 f.width || ltb 96 inputs.bits || ltb 96 outputs.bits) None
+    (Some (record { inputs = inputs; outputs = outputs }))
 
-unfoldable pub sums_answer : Sums → Answer
-sums_answer s = cond s.over (refused 42 0) (accepted (s.inputs.fields ∷ s.outputs.fields ∷ []))
+unfoldable pub sums_more : Option Sums → Field → Option Sums
+sums_more None f = None
+sums_more (Some s) f = sums_with s f
+
+unfoldable pub sums_answer : Option Sums → Answer
+sums_answer None = refused 42 0
+sums_answer (Some s) = accepted (s.inputs.fields ∷ s.outputs.fields ∷ [])
 
 -- the answer if these entries follow
-unfoldable pub count_on : Sums → Table → Answer
-count_on s unreadable = refused 41 0
-count_on s (fields fs) =
+unfoldable pub count_on : Option Sums → Table → Answer
+count_on None unreadable = refused 41 0
+count_on None (fields fs) = refused 42 0
+count_on (Some s) unreadable = refused 41 0
+count_on (Some s) (fields fs) =
     let inputs = directed Inputs fs in
     let outputs = directed Outputs fs in
-    cond
-    (s.over || any_miswide fs || ltb 96 (s.inputs.bits + bits inputs)
-    || ltb 96 (s.outputs.bits + bits outputs))
-    (refused 42 0)
+    cond (any_miswide fs || ltb 96 (s.inputs.bits + bits inputs) || ltb 96 (s.outputs.bits + bits outputs)) (refused 42 0)
     (accepted ((s.inputs.fields + length inputs) ∷ (s.outputs.fields + length outputs) ∷ []))
 
 -- each number below a bound

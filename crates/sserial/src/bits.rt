@@ -48,6 +48,7 @@ pub(crate) fn put(words: [u32; 3], low: usize, width: usize, value: u64) -> [u32
     let mut at = low;
     let mut left = width;
     let mut rest = value;
+    // Each turn takes the bits that stand in one word.
     while 0 < left {
         let n = within(at, left);
         let p = power(n);
@@ -67,6 +68,7 @@ pub(crate) fn get(words: [u32; 3], low: usize, width: usize) -> u64
 {
     let mut bits = 0u64;
     let mut done: usize = 0;
+    // Each turn takes the bits that stand in one word.
     while done < width {
         let at = low + done;
         let n = within(at, width - done);

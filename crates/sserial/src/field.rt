@@ -37,6 +37,7 @@ impl<'a> Iterator for Fields<'a> {
     ghost remaining = { item_count fields_ahead };
 
     fn next(&mut self) -> Option<Field> {
+        // A mode stands between two fields, so a step may pass several entries.
         loop {
             let entry = table::entry_at(self.memory, self.at);
             match entry {

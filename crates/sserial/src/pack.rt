@@ -35,6 +35,7 @@ pub(crate) fn read(fields: Directed, words: [u32; 3], values: &mut [u64])
     let mut fields = fields;
     let mut low: usize = 0;
     for v in values {
+        // There is a field for each value, so this is not met.
         let Some(f) = fields.next() else {
             return;
         };

@@ -3,7 +3,7 @@ ghost use Rattle.std.specs.Prelude.{◌≡◌, ◌+◌, ◌<◌, ◌≤◌, leng
 ghost use Rattle.sserial.specs.Table.{pair_at, quad_at, nul_of, is_direction, record_at, stands_in};
 ghost use Rattle.sserial.specs.Inside.{field_record, mode_record, entry_at};
 
-// A field as its descriptor has it. `kind` is the data type, `minimum` and `maximum` are the bits that stand there, `unit` and
+// A field as its descriptor has it; any width, until the table is checked. `kind` is the data type, `minimum` and `maximum` are the bits that stand there, `unit` and
 // `name` the places of the two strings.
 #[derive(Clone, Copy, Debug, PartialEq, Eq)]
 pub struct Field {
@@ -16,7 +16,7 @@ pub struct Field {
     pub name: usize,
 }
 
-// What stands at a table's entry.
+// What stands at a table's entry. Each of the four ends, breaks or lengthens a walk in its own way, so they are told apart.
 #[derive(Clone, Copy, Debug, PartialEq, Eq)]
 pub enum Entry {
     End,
@@ -72,10 +72,10 @@ fn is_direction(d: u8) -> bool
     (d == 0x00) | (d == 0x40) | (d == 0x80)
 }
 
-fn field_record(memory: &[u8], p: usize) -> Entry
-    requires { p < 65536 }
+fn field_record(memory: &[u8], p: u16) -> Entry
     ensures { result ≡ field_record memory.now p }
 {
+    let p = p as usize;
     let unit = p + 14;
     let Some(unit_end) = nul_of(memory, unit) else {
         return Entry::Unreadable;
@@ -101,10 +101,10 @@ fn field_record(memory: &[u8], p: usize) -> Entry
     })
 }
 
-fn mode_record(memory: &[u8], p: usize) -> Entry
-    requires { p < 65536 }
+fn mode_record(memory: &[u8], p: u16) -> Entry
     ensures { result ≡ mode_record memory.now p }
 {
+    let p = p as usize;
     let Some(_) = nul_of(memory, p + 4) else {
         return Entry::Unreadable;
     };
@@ -115,14 +115,14 @@ fn mode_record(memory: &[u8], p: usize) -> Entry
     }
 }
 
-fn record_at(memory: &[u8], p: usize) -> Entry
-    requires { p < 65536 }
+fn record_at(memory: &[u8], p: u16) -> Entry
     ensures { result ≡ record_at memory.now p }
 {
-    if memory.len() <= p {
+    let at = p as usize;
+    if memory.len() <= at {
         return Entry::Unreadable;
     }
-    match memory[p] {
+    match memory[at] {
         0xA0 => field_record(memory, p),
         0xB0 => mode_record(memory, p),
         _ => Entry::Unreadable,
@@ -141,7 +141,7 @@ pub(crate) fn entry_at(memory: &[u8], at: usize) -> Entry
     }
     match pair_at(memory, at) {
         0 => Entry::End,
-        p => record_at(memory, p as usize),
+        p => record_at(memory, p),
     }
 }
 

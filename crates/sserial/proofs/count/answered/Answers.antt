@@ -3,10 +3,10 @@ use Rattle.sserial.specs.Calls.{table_listed}
 use Rattle.sserial.specs.Inside.{sums_answer}
 use Rattle.sserial.proofs.count.answered.Goals as goal
 
-pub returns-then-s : goal.returns-then-s
+pub returns-in-None : goal.returns-in-None
 unfolding table_listed sums_answer
-returns-then-s c = rw (c.at.ensures, c.if-s.true) refl
+returns-in-None c = rw (c.at.ensures, c.in-None.is) refl
 
-pub returns : goal.returns
+pub returns-in-Some : goal.returns-in-Some
 unfolding table_listed sums_answer
-returns c = rw c.if-s.false refl
+returns-in-Some c = rw c.in-Some.is refl

@@ -34,5 +34,5 @@ loop-f-smaller c = let h = lent c in omega arith
 pub loop-f-preserved : goal.loop-f-preserved
 loop-f-preserved c = elim c.match-entry.branch [
   | in-Mode w ↦ count-mode c.loop-f.invariant _ c.entry_at-entry.ensures w.in-Mode.is _ w.s-is
-  | in-Field w ↦ count-more c.loop-f.invariant _ _ c.entry_at-entry.ensures w.in-Field.is _ (w.s-is ∙ w.sums_with-s.ensures)
+  | in-Field w ↦ count-more c.loop-f.invariant _ _ c.entry_at-entry.ensures w.in-Field.is _ (w.s-is ∙ w.sums_more-s.ensures)
 ]

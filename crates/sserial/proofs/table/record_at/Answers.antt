@@ -6,9 +6,9 @@ use native.Mathlib.Omega.{arith}
 use Rattle.std.proofs.lemmas.Bool.Decides.{nat_tests}
 use Rattle.sserial.proofs.table.record_at.Goals as goal
 
-pub returns-then-memory-p : goal.returns-then-memory-p
+pub returns-then-memory-at : goal.returns-then-memory-at
 unfolding record_at
-returns-then-memory-p c = rw (get_or-eq_default c.args.memory.now 0 c.if-memory-p.true) refl
+returns-then-memory-at c = rw (get_or-eq_default c.args.memory.now 0 c.if-memory-at.true) refl
 
 pub returns-in-160 : goal.returns-in-160
 unfolding record_at field_record
