@@ -32,11 +32,11 @@ pub fn read(capture: &[u8], out: &mut [u8], frames: &mut [u32]) -> CaptureAnswer
         (left result out.new frames.new) }
 {
     let Some(f) = file::file_of(capture) else {
-        return Err(Rule::NoCapture.at(0));
+        return Err(Rule::Capture.at(0));
     };
     let w = walk::walk(&capture[24..], f, false, out, frames)?;
     if out.len() < w.bytes {
-        return Err(Rule::OutputRoom.at(w.bytes as u64));
+        return Err(Rule::Room.at(w.bytes as u64));
     }
     if frames.len() < w.packets {
         return Err(Rule::LogRoom.at(w.packets as u64));

@@ -56,16 +56,16 @@ pub(crate) fn turn_of(p: Progress, d: Datagram) -> Result<Turn, Rule>
             if d.whole {
                 Ok(Turn::Request)
             } else {
-                Err(Rule::BadDatagram)
+                Err(Rule::Datagram)
             }
         }
         Turn::Reply => {
             if !d.whole {
-                Err(Rule::BadDatagram)
+                Err(Rule::Datagram)
             } else if p.waiting {
                 Ok(Turn::Reply)
             } else {
-                Err(Rule::SecondReply)
+                Err(Rule::StrayReply)
             }
         }
     }

@@ -29,7 +29,7 @@ pub fn check_lent(packet: &[u8], store: &[u8], lent: &[u32]) -> Verdict
         return Err(Rule::State.at(0));
     }
     if command::LIMIT < packet.len() {
-        return Err(Rule::PacketTooLong.at(0));
+        return Err(Rule::PacketLength.at(0));
     }
     judge::judge_lent(packet, lent)
 }

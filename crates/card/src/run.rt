@@ -112,7 +112,7 @@ fn do_command(
     ensures reply_after { reply.new
         ≡ laid filled (values_read (steps_at (pointers_of pointers.now) f rest.now) store.old) reply.old }
 {
-    let which = refusal::which_of::<()>(Ok(()), f);
+    let which = refusal::which_of(Ok(()), f);
     match which {
         Which::Read => {
             read_command(rest, pointers, f, r, store, &mut reply[filled..]);

@@ -34,7 +34,7 @@ pub fn compile(list: &[u8], out: &mut [u8]) -> CompileAnswer
 {
     let packed = plan::plan(list)?;
     if out.len() < packed.bytes {
-        return Err(Rule::OutputRoom.at(packed.bytes as u64));
+        return Err(Rule::Room.at(packed.bytes as u64));
     }
     emit::emit(list, out);
     Ok(packed)

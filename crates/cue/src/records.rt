@@ -85,21 +85,21 @@ fn lowest_refusal(rest: &[u8], index: usize) -> Result<(), Rule>
     ensures { ruled result ≡ first (record_refusals index rest.now) }
 {
     if index == MOST {
-        return Err(Rule::TooManyRecords);
+        return Err(Rule::ListLength);
     }
     if rest.len() < 6 {
-        return Err(Rule::RecordCut);
+        return Err(Rule::Record);
     }
     let mark = bytes::pair_at(rest, 0);
     let write = mark == WRITE_MARK;
     if ((mark != READ_MARK) & !write) | (rest.len() < record_bytes(write)) {
-        return Err(Rule::RecordCut);
+        return Err(Rule::Record);
     }
     if bad_element(rest) {
-        return Err(Rule::BadElement);
+        return Err(Rule::RecordElement);
     }
     if (byte_at(rest, 3) != 0) | (write & too_wide(rest)) {
-        return Err(Rule::SpareBits);
+        return Err(Rule::RecordValue);
     }
     Ok(())
 }

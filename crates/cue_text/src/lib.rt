@@ -35,7 +35,7 @@ pub fn assemble(text: &[u8], out: &mut [u8]) -> TextAnswer
     let none: usize = 0;
     let checked = walk::walk(text, &mut out[..none])?;
     if out.len() < checked.bytes {
-        return Err(Rule::OutputRoom.at(checked.bytes as u64));
+        return Err(Rule::Room.at(checked.bytes as u64));
     }
     walk::walk(text, out)
 }

@@ -165,7 +165,7 @@ fn write_said(rule: Rule, p: Option<Located>, v: Option<u32>, index: usize) -> R
     ensures { (text : List ℕ) → meaning_of text result ≡ write_meaning (rule_number rule) (place_in p) v index }
 {
     let Some(value) = v else {
-        return Err(Rule::LineNumber);
+        return Err(Rule::TextNumber);
     };
     let Some(p) = p else {
         return Err(rule);
@@ -184,7 +184,7 @@ fn read_at(rest: &[u8], w: Words, index: usize) -> Result<Said, Rule>
         ≡ form_meaning known index (reads (at (word_in rest.now w.second) (word_in rest.now w.third))) }
 {
     let p = known::place_by(word::part(rest, w.second), word::part(rest, w.third));
-    read_said(Rule::LineNumber, p, index)
+    read_said(Rule::TextNumber, p, index)
 }
 
 fn read_name(
@@ -198,7 +198,7 @@ fn read_name(
         ≡ form_meaning (names_at text.now table.now) index (reads (called (word_in rest.now w.second))) }
 {
     let p = known::place_of(text, table, word::part(rest, w.second));
-    read_said(Rule::LineName, p, index)
+    read_said(Rule::TextName, p, index)
 }
 
 fn write_at(rest: &[u8], w: Words, index: usize) -> Result<Said, Rule>
@@ -208,7 +208,7 @@ fn write_at(rest: &[u8], w: Words, index: usize) -> Result<Said, Rule>
 {
     let p = known::place_by(word::part(rest, w.second), word::part(rest, w.third));
     let v = number::value_of(word::part(rest, w.fourth));
-    write_said(Rule::LineNumber, p, v, index)
+    write_said(Rule::TextNumber, p, v, index)
 }
 
 fn write_name(
@@ -224,7 +224,7 @@ fn write_name(
 {
     let p = known::place_of(text, table, word::part(rest, w.second));
     let v = number::value_of(word::part(rest, w.third));
-    write_said(Rule::LineName, p, v, index)
+    write_said(Rule::TextName, p, v, index)
 }
 
 // A definition is held against refusal 23 as a read.
@@ -235,11 +235,11 @@ fn name_at(text: &[u8], place: usize, table: &[usize], rest: &[u8], w: Words) ->
         (names (word_in rest.now w.second) (word_in rest.now w.third) (word_in rest.now w.fourth)) }
 {
     let Some(p) = known::place_by(word::part(rest, w.third), word::part(rest, w.fourth)) else {
-        return Err(Rule::LineNumber);
+        return Err(Rule::TextNumber);
     };
     let name = word::part(rest, w.second);
     if known::bad_name(text, table, name) {
-        return Err(Rule::LineName);
+        return Err(Rule::TextName);
     }
     let c = Cue {
         write: false,
@@ -274,6 +274,6 @@ pub(crate) fn said_at(
         Shape::WriteAt => write_at(rest, w, index),
         Shape::WriteName => write_name(text, table, rest, w, index),
         Shape::Names => name_at(text, place, table, rest, w),
-        Shape::Unknown => Err(Rule::LineForm),
+        Shape::Unknown => Err(Rule::TextForm),
     }
 }

@@ -47,12 +47,12 @@ pub(crate) fn soundness(guard: &[u32]) -> Verdict
     let (pairs, half) = guard.as_chunks::<2>();
     for (index, &[first, bytes]) in pairs.iter().enumerate() {
         if (MOST <= index) | faulty(first, bytes) {
-            return Err(Rule::UnsoundGuard.at(index as u64));
+            return Err(Rule::Guard.at(index as u64));
         }
     }
     let ranges = pairs.len();
     if half.len() != 0 {
-        return Err(Rule::UnsoundGuard.at(ranges as u64));
+        return Err(Rule::Guard.at(ranges as u64));
     }
     Ok(ranges as u64)
 }

@@ -48,7 +48,7 @@ pub fn word_of(f: Fields) -> Result<u16, Refusal>
     ensures { listed result ≡ written f }
 {
     if out_of_range(f) {
-        return Err(Rule::FieldRange.at(0));
+        return Err(Rule::WordField.at(0));
     }
     let write = weighed(f.write, 32768);
     let address = weighed(f.address, 16384);

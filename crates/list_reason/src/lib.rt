@@ -134,9 +134,9 @@ fn cause_of(rest: &[u8], rule: Rule) -> Option<Cause>
         → cause_listed result ≡ first (causes_of (rule_number rule) rest.now) }
 {
     match rule {
-        Rule::RecordCut => mark_cause(rest),
-        Rule::BadElement => record_cause(rest),
-        Rule::SpareBits => Some(value_cause(rest)),
+        Rule::Record => mark_cause(rest),
+        Rule::RecordElement => record_cause(rest),
+        Rule::RecordValue => Some(value_cause(rest)),
         _ => None,
     }
 }

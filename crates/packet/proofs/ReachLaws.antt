@@ -24,12 +24,10 @@ use Rattle.packet.specs.Reach.{reach_from, reach_at}
 use Rattle.packet.specs.Inside.{Ruled, JudgedAt, ForRegisters}
 use Rattle.packet.specs.declared.command.Reach.{Reach}
 use Rattle.packet.specs.declared.command.Which.{Which}
-use Rattle.lbp16.specs.declared.Rule.{Rule as TableRule}
-use Rattle.lbp16.specs.declared.Rule.TheVariants.{HeaderCut}
-use Rattle.lbp16.specs.Answer.{ruled, rule_number}
-use Rattle.lbp16.proofs.RuleLaws.{rule_number_range}
-use Rattle.std.specs.Result.{result_unwrap_or}
-use Rattle.std.specs.Prelude.{Result, Ok, Err, IfOk}
+use Rattle.packet.specs.declared.refusal.Ruling.{Ruling}
+use Rattle.lbp16.specs.declared.Rule.TheVariants.{WordCut}
+use Rattle.lbp16.specs.Answer.{ruled}
+use Rattle.std.specs.Prelude.{Err}
 use Rattle.packet.proofs.ElementLaws.{carried-write, carried-read, answered-read, answered-write, barred_quick}
 
 pub registers-word : (w : ℕ) (f : Fields) → f ≡ fields_of w → eqb (w / 256 % 64) 2 ≡ true → ForRegisters f
@@ -165,20 +163,20 @@ pub misaligned_quick : (f : Fields) (r : Row) (u : ℕ) → r ≡ row_of f
 unfolding row_of row_by
 misaligned_quick f r u e = rw e (misaligned-row _ _ u)
 
--- a ruling by a rule, and one by none
-pub ruled-out : {p : Pointers} {open? : Bool} {reply : ℕ} {f : Fields} {rest : List ℕ} (r : TableRule)
-    → rule_number r ≡ first (refusals p open? reply f rest) → Ruled p open? reply f rest (Err r)
-ruled-out r e = record { number = e; reach = tt }
-
-pub ruled-in : {p : Pointers} {open? : Bool} {reply : ℕ} {f : Fields} {rest : List ℕ} (r : Reach) → r ≡ reach_at p f rest
-    → 0 ≡ first (refusals p open? reply f rest) → Ruled p open? reply f rest (Ok r)
-ruled-in r e n = record { number = n; reach = e }
+-- a ruling from what the rules say and its reach
+pub ruled-with : {p : Pointers} {open? : Bool} {reply : ℕ} {f : Fields} {rest : List ℕ} (r : Ruling) → r.reach ≡ reach_at p f rest
+    → (r.reach ≡ reach_at p f rest → ruled r.rules ≡ first (refusals p open? reply f rest)) → Ruled p open? reply f rest r
+ruled-with r e n = record { number = n e; reach = λ z. e }
 
 -- a command whose header is cut off
-pub cut_off : (p : Pointers) (open? : Bool) (reply : ℕ) (f : Fields) (rest : List ℕ) → length rest < header_bytes f
-    → Ruled p open? reply f rest (Err HeaderCut)
+pub cut_off : (p : Pointers) (open? : Bool) (reply : ℕ) (f : Fields) (rest : List ℕ) (r : Ruling) → length rest < header_bytes f
+    → r.rules ≡ Err WordCut → Ruled p open? reply f rest r
 unfolding refusals first
-cut_off p open? reply f rest h = ruled-out HeaderCut (rw (lt-ltb _ _ h) refl)
+cut_off p open? reply f rest r h e =
+    record { number = rw e (sym three); reach = λ z. absurd (let t : ◌≡◌ {A = ℕ} 3 0 = sym three ∙ z in omega arith) }
+  where
+    three : first (refusals p open? reply f rest) ≡ 3
+    three = rw (lt-ltb _ _ h) refl
 
 -- the slot of a command's pointer, from its info bit and its space
 pub slot_is : (f : Fields) (i : Bool) (slot : ℕ) → i ≡ is_info (kind_of f) → slot ≡ slot_of i (space_of f.space)
@@ -196,17 +194,11 @@ pub next-is : (ps rest : List ℕ) (f : Fields) (r : Reach) (w : ℕ) → fields
     → r ≡ reach_at (pointers_of ps) f rest → (f ≡ fields_at rest) × (r ≡ reach_at (pointers_of ps) (fields_at rest) rest)
 next-is ps rest f r w e₁ e₂ e₃ = (e₂ ∙ e₁, e₃ ∙ ap (λ (g : Fields). reach_at (pointers_of ps) g rest) (e₂ ∙ e₁))
 
--- the reach of a command that is not refused
-reached : {n : ℕ} {to at : Reach} (other : Reach) (r : Result Reach TableRule) → ruled r ≡ n → IfOk r (λ a. a ≡ to) → at ≡ result_unwrap_or r other → n ≡ 0
-    → at ≡ to
-reached other (Ok a) m i e z = e ∙ i
-reached other (Err x) m i e z = absurd (let p = (rule_number_range x).0 in omega arith)
-
 -- what is found at the command, from its ruling
-pub judged-is : (p : Pointers) (o : Bool) (reply place : ℕ) (rest : List ℕ) (f : Fields) (r : Result Reach TableRule) (x : Which) (at other : Reach)
-    → f ≡ fields_at rest → Ruled p o reply f rest r → which_listed x place ≡ which_of (ruled r) place (kind_of f)
-    → at ≡ result_unwrap_or r other → JudgedAt p o reply place rest (record { found = record { fields = f; place = place; which = x }; reach = at })
+pub judged-is : (p : Pointers) (o : Bool) (reply place : ℕ) (rest : List ℕ) (f : Fields) (r : Ruling) (x : Which)
+    → f ≡ fields_at rest → Ruled p o reply f rest r → which_listed x place ≡ which_of (ruled r.rules) place (kind_of f)
+    → JudgedAt p o reply place rest (record { found = record { fields = f; place = place; which = x }; reach = r.reach })
 unfolding found found_listed
-judged-is p o reply place rest f r x at other e₁ e₂ e₃ e₄ =
+judged-is p o reply place rest f r x e₁ e₂ e₃ =
     let q : Ruled p o reply (fields_at rest) rest r = rw (← e₁) e₂ in
-    record { found = rw (e₃, e₁, q.number) refl; reach = reached other r q.number q.reach e₄ }
+    record { found = rw (e₃, e₁, q.number) refl; reach = q.reach }

@@ -1,7 +1,7 @@
 -- A part of a slice: one that starts at an offset, and what a write to a part leaves.
 use Prim.Native.Nat.{ℕ, min, ◌+◌, ◌≤◌, ◌-◌}
 use mathlib.Core.Path.{◌≡◌, refl, sym, ◌∙◌}
-use mathlib.Core.List.{List, ◌++◌, append_assoc}
+use mathlib.Core.List.{List, append_assoc}
 use native.Mathlib.Decide.{dec_le}
 use native.Mathlib.Nat.{le_refl}
 use native.Mathlib.Omega.{arith}

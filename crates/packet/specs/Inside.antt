@@ -1,5 +1,5 @@
 -- Inside of private functions' contracts. A reader need not believe these: laws tie them to the rest.
-use Rattle.std.specs.Prelude.{Result, IfOk, ℕ, ◌+◌, ◌*◌, ◌≤◌, ◌≡◌, List, Bool, false, not, ◌&&◌, length, drop}
+use Rattle.std.specs.Prelude.{ℕ, ◌+◌, ◌*◌, ◌≤◌, ◌≡◌, List, Bool, false, not, ◌&&◌, length, drop}
 use Rattle.lbp16.specs.Answer.{ruled}
 use Rattle.lbp16.specs.Space.{status, space_of, is_absent}
 use Rattle.lbp16.specs.declared.word.Fields.{Fields}
@@ -9,8 +9,7 @@ use Rattle.packet.specs.Rules.{first, misaligned, past_end, barred, any_step}
 use Rattle.packet.specs.Command.{limit, fields_at, kind_of, row_of, header_bytes, command_bytes, address_used, stride, elements, steps_at}
 use Rattle.packet.specs.Command.{refusals, found, found_listed}
 use Rattle.packet.specs.Reach.{reach_at}
-use Rattle.packet.specs.declared.command.Reach.{Reach}
-use Rattle.lbp16.specs.declared.Rule.{Rule}
+use Rattle.packet.specs.declared.refusal.Ruling.{Ruling}
 use Rattle.packet.specs.declared.refusal.Judged.{Judged}
 
 -- an element written to space 6
@@ -43,9 +42,9 @@ pub record ForRegisters (f : Fields) : Type 0 where
   pub size : f.size ≡ 2
 
 -- the refusal table's number for a command, and its reach if there is none
-pub record Ruled (p : Pointers) (open? : Bool) (reply : ℕ) (f : Fields) (rest : List ℕ) (r : Result Reach Rule) : Type 0 where
-  pub number : ruled r ≡ first (refusals p open? reply f rest)
-  pub reach : IfOk r (λ at. at ≡ reach_at p f rest)
+pub record Ruled (p : Pointers) (open? : Bool) (reply : ℕ) (f : Fields) (rest : List ℕ) (r : Ruling) : Type 0 where
+  pub number : ruled r.rules ≡ first (refusals p open? reply f rest)
+  pub reach : first (refusals p open? reply f rest) ≡ 0 → r.reach ≡ reach_at p f rest
 
 -- what is found at a command, and its reach if it is not refused
 pub record JudgedAt (p : Pointers) (open? : Bool) (reply place : ℕ) (rest : List ℕ) (j : Judged) : Type 0 where

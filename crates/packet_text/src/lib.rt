@@ -59,7 +59,7 @@ pub fn put_packet(out: &mut [u8], packet: &[u8], p: Pointers) -> Result<Shown, R
     let needed = whole::lay_packet(&mut none, packet, p, reason);
     let bytes = needed.bytes;
     if out.len() < bytes {
-        return Err(Rule::OutputRoom.at(bytes as u64));
+        return Err(Rule::Room.at(bytes as u64));
     }
     Ok(whole::lay_packet(out, packet, p, reason))
 }

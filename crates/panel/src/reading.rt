@@ -66,7 +66,7 @@ fn scaled(width: u32, value: u32, bounds: Bounds) -> Result<f32, Refusal>
     if finite(product) {
         Ok(product / most)
     } else {
-        Err(Rule::NotFinite.at(0))
+        Err(Rule::ReadingInfinite.at(0))
     }
 }
 
@@ -81,14 +81,14 @@ pub fn reading(
     ensures { reading_listed result ≡ Reading.reading kind width value minimum maximum }
 {
     if unreadable(kind, width, value) {
-        return Err(Rule::NoReading.at(0));
+        return Err(Rule::ReadingField.at(0));
     }
     if !(finite_bits(minimum) & finite_bits(maximum)) {
-        return Err(Rule::BadBounds.at(0));
+        return Err(Rule::ReadingBounds.at(0));
     }
     let bounds = bounds_of(minimum, maximum);
     if !(bounds.minimum < bounds.maximum) {
-        return Err(Rule::BadBounds.at(0));
+        return Err(Rule::ReadingBounds.at(0));
     }
     scaled(width, value as u32, bounds)
 }

@@ -23,7 +23,7 @@ fn put<W: Write>(to: &mut W, out: &[u8], n: usize) -> io::Result<()> {
 
 fn put_fault(out: &mut [u8], at: usize, card: Card, rule: Rule) -> usize {
     match rule {
-        Rule::BadTable => fault::first_unreadable(out, at, card),
+        Rule::Table => fault::first_unreadable(out, at, card),
         _ => fault::first_overfull(out, at, card),
     }
 }

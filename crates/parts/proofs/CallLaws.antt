@@ -92,7 +92,7 @@ module _ (state part : List ℕ) (last : Bool) (out : List ℕ) where
   x = part_of state part last out
 
   pub no_room : length out < 1476
-      → part_left (Err (record { rule = Rule.OutputRoom; place = 1476 })) 0 state out ≡ x
+      → part_left (Err (record { rule = Rule.Room; place = 1476 })) 0 state out ≡ x
   unfolding part_of untouched verdict_listed part_left
   no_room h = rw (lt-ltb _ _ h) refl
 

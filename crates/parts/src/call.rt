@@ -20,10 +20,10 @@ fn fault_of(stands: u32) -> Option<Rule>
     ensures { MatchOption result (stands ≤ 1) (λ rule. (rule_number rule ≡ stands) × (1 < stands)) }
 {
     match stands {
-        21 => Some(Rule::TooManyRecords),
-        22 => Some(Rule::RecordCut),
-        23 => Some(Rule::BadElement),
-        24 => Some(Rule::SpareBits),
+        21 => Some(Rule::ListLength),
+        22 => Some(Rule::Record),
+        23 => Some(Rule::RecordElement),
+        24 => Some(Rule::RecordValue),
         _ => None,
     }
 }

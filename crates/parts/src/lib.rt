@@ -35,7 +35,7 @@ pub fn compile_part(state: &mut [u8], part: &[u8], last: bool, out: &mut [u8]) -
 {
     if out.len() < frame::ROOM {
         return Part {
-            answer: Err(Rule::OutputRoom.at(frame::ROOM as u64)),
+            answer: Err(Rule::Room.at(frame::ROOM as u64)),
             taken: 0,
         };
     }

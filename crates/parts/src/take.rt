@@ -270,7 +270,7 @@ fn end_taken(k: Kept, room: &[u8], out: &mut [u8]) -> Took
 {
     if k.collected != 0 {
         return Took {
-            kept: stopped(k, Rule::RecordCut.number()),
+            kept: stopped(k, Rule::Record.number()),
             written: 0,
         };
     }

@@ -178,10 +178,10 @@ module _ (list room : List ℕ) where
       (refused-eight list room (left answer room) same _ _ refl)
 
   pub too_small-all : (p : Packed) → compile_listed (Ok p) ≡ needed (records_of list) → length room < p.bytes
-      → Promised list room (Err (record { rule = Rule.OutputRoom; place = p.bytes })) room
+      → Promised list room (Err (record { rule = Rule.Room; place = p.bytes })) room
   unfolding left compile_listed
   too_small-all p e h =
-      let answer : Result Packed Refusal = Err (record { rule = Rule.OutputRoom; place = p.bytes }) in
+      let answer : Result Packed Refusal = Err (record { rule = Rule.Room; place = p.bytes }) in
       let same : left answer room ≡ compiled list room = too_small list room p e h in
       promised list room answer room (refused_tightened list room (left answer room) same 26 p.bytes refl)
       (refused-eight list room (left answer room) same 26 p.bytes refl)

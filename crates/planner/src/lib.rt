@@ -42,7 +42,7 @@ pub fn tighten(list: &[u8], out: &mut [u8]) -> CompileAnswer
 {
     let packed = plan::plan(list)?;
     if out.len() < packed.bytes {
-        return Err(Rule::OutputRoom.at(packed.bytes as u64));
+        return Err(Rule::Room.at(packed.bytes as u64));
     }
     improved(list, out, packed.bytes)
 }

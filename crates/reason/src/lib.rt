@@ -45,7 +45,7 @@ pub fn explain_packet(packet: &[u8], p: Pointers) -> Option<Reason>
     ensures refused { IfSome result (λ r. 1 ≤ r.number) }
 {
     if command::LIMIT < packet.len() {
-        return Some(no_command(Rule::PacketTooLong.number()));
+        return Some(no_command(Rule::PacketLength.number()));
     }
     match judge::judge(packet, p) {
         Ok(_) => None,

@@ -26,7 +26,7 @@ pub fn salvage(list: &[u8], out: &mut [u8], log: &mut [u64]) -> SalvageAnswer
     ensures { left result out.new log.new ≡ salvaged list.now out.old log.old }
 {
     if out.len() < list.len() {
-        return Err(Rule::OutputRoom.at(list.len() as u64));
+        return Err(Rule::Room.at(list.len() as u64));
     }
     let counts = scan::count(list);
     if log.len() / 2 < counts.entries {

@@ -59,10 +59,10 @@ pub fn header_word(h: Header) -> Result<u32, Refusal>
     ensures { header_listed result ≡ header_written h }
 {
     if other_command(h) {
-        return Err(Rule::SpiCommand.at(0));
+        return Err(Rule::BurstCommand.at(0));
     }
     if (h.count == 0) | (127 < h.count) {
-        return Err(Rule::SpiCount.at(0));
+        return Err(Rule::BurstCount.at(0));
     }
     let address = h.address as u32;
     let command = h.command as u32;
@@ -110,19 +110,19 @@ pub fn refusal_of(words: &[u32], store: &[u8], answer: &[u32]) -> Result<(), Rul
         return Err(Rule::State);
     }
     if sent == 0 {
-        return Err(Rule::NoWord);
+        return Err(Rule::BurstEmpty);
     }
     if other_command(h) {
-        return Err(Rule::SpiCommand);
+        return Err(Rule::BurstCommand);
     }
     if h.count == 0 {
-        return Err(Rule::SpiCount);
+        return Err(Rule::BurstCount);
     }
     if promised < sent {
-        return Err(Rule::TooManyWords);
+        return Err(Rule::BurstLength);
     }
     if out_of_place(h) {
-        return Err(Rule::SpiAddress);
+        return Err(Rule::BurstAddress);
     }
     Ok(())
 }

@@ -37,10 +37,10 @@ fn pack_fields(
         ≡ packed_by (directed_ahead fields.entry) channel values.now registers.old }
 {
     if no_channel(channel, registers) || values.len() != n {
-        return Err(Rule::BadCall.at(0));
+        return Err(Rule::Field.at(0));
     }
     let Some(words) = pack::pack_values(fields, values) else {
-        return Err(Rule::BadCall.at(0));
+        return Err(Rule::Field.at(0));
     };
     let all = channels::channels_of(registers);
     let next = channels::with_channel(all, channel as usize, words);
@@ -60,7 +60,7 @@ fn unpack_fields(
         ≡ unpacked_by (directed_ahead fields.entry) channel registers.now values.old }
 {
     if no_channel(channel, registers) || values.len() != n {
-        return Err(Rule::BadCall.at(0));
+        return Err(Rule::Field.at(0));
     }
     let all = channels::channels_of(registers);
     pack::read(fields, all[channel as usize], values);

@@ -92,7 +92,7 @@ pub fn count_fields(memory: &[u8], table: u16) -> Result<FieldCounts, Refusal>
         match entry {
             Entry::End => return answered(s),
             Entry::Unreadable => {
-                return Err(Rule::BadTable.at(0));
+                return Err(Rule::Table.at(0));
             }
             Entry::Mode => {}
             Entry::Field(f) => s = sums_more(s, f),

@@ -103,6 +103,6 @@ pub fn field(memory: &[u8], table: u16, index: u64) -> Result<Field, Refusal>
     count::count_fields(memory, table)?;
     match nth(memory, table, index) {
         Some(f) => Ok(f),
-        None => Err(Rule::BadCall.at(0)),
+        None => Err(Rule::Field.at(0)),
     }
 }

@@ -1,13 +1,13 @@
 -- Laws of texts put into a room.
-use Prim.Native.Nat.{ℕ, suc, ◌+◌, ◌-◌, min, ◌≤◌}
+use Prim.Native.Nat.{ℕ, suc, ◌+◌, ◌-◌, min, ◌≤◌, ◌<◌}
 use mathlib.Core.Path.{◌≡◌, refl, sym, ap, ◌∙◌}
-use mathlib.Core.List.{List, [], ◌∷◌, ◌++◌, append_assoc}
+use mathlib.Core.List.{List, [], ◌∷◌, ◌++◌}
 use native.Mathlib.Omega.{arith}
 use native.Mathlib.Decide.{dec_le}
+use native.Mathlib.Numerals.{add-one}
 use native.Mathlib.Nat.{zero-add}
-use lib.ListN.{length, set, take, drop, length-append, length-set, take-append-drop, drop_of_length-le}
-use lib.Seq.{sets, sets-eq, length-sets, length-take-le, drop-drop, set_out}
-use borrow.Rule.Slice.PartMut.{put_mid}
+use lib.ListN.{length, get_or, set, drop, length-append, length-set, drop_of_length-le}
+use lib.Seq.{sets, sets-eq, drop-cons, length-sets, set_out}
 use Rattle.text.specs.Room.{Filled, filled, put_at, text_left}
 
 alike : {m n : ℕ} {l k : List ℕ} → m ≡ n → l ≡ k → filled m l ≡ filled n k
@@ -57,39 +57,21 @@ pub put_then : (a b : List ℕ) (at : ℕ) (room : List ℕ) {r r₂ : ℕ} {roo
     → filled r₂ room₂ ≡ put_at b r room₁ → filled r₂ room₂ ≡ put_at (a ++ b) at room
 put_then a b at room e f = f ∙ put_rest a b at room e
 
--- a part of a room written at once
-pub part-put : (room part : List ℕ) (from k : ℕ) → from + k ≤ length room → length part ≡ k → put_mid from k room part ≡ sets room from part
-part-put room part from k h e = sym (sets-eq part room from (omega arith) ∙ rw (e, ← drop-drop k from room, append_assoc) refl)
+-- a turn of the loop over a text's bytes, and its end
+module _ (text room : List ℕ) (from i : ℕ) where
+  pub put_step : i < length text
+      → put_at (drop (i + 1) text) (from + (i + 1)) (set room (from + i) (get_or text i 0)) ≡ put_at (drop i text) (from + i) room
+  put_step h =
+      let e : from + (i + 1) ≡ suc (from + i) = omega arith in
+      rw (drop-cons text i 0 h, e, add-one) (sym (put_cons (get_or text i 0) (drop (suc i) text) room (from + i)))
 
--- A text that the room's end cuts off is put as far as it fits.
-module _ (text room : List ℕ) {from n : ℕ} (h : from ≤ length room) (e : n ≡ min (length text) (length room - from)) where
-  put_front_of : filled (from + n) (sets room from (take n text)) ≡ put_at (take n text) from room
-  unfolding put_at
-  put_front_of = let l : length (take n text) ≡ n = length-take-le n text (omega arith) in alike (omega arith) refl
-
-  put-cut : filled (from + n) (sets room from (take n text)) ≡ put_at text from room
-  put-cut =
-      go (dec_le (length text) n)
-      ∙ put_rest (take n text) (drop n text) from room put_front_of
-      ∙ ap (λ (t : List ℕ). put_at t from room) (take-append-drop n text)
+  pub put-end : from ≤ length room → i ≡ min (length text) (length room - from)
+      → filled (from + i) room ≡ put_at (drop i text) (from + i) room
+  put-end h e = go (dec_le (length text) i)
     where
-      left : List ℕ
-      left = sets room from (take n text)
-
-      go : Dec (length text ≤ n) → filled (from + n) left ≡ put_at (drop n text) (from + n) left
-      go (yes k) = rw (drop_of_length-le text k) (put-none left (from + n) (omega (arith, length-sets room from (take n text))))
-      go (no k) =
-          let l = length-sets room from (take n text) in
-          alike (omega arith) refl ∙ sym (put-past (drop n text) left (from + n) (omega arith))
-
--- the same as the code comes to it
-pub put-copied : (text room part : List ℕ) (at : ℕ) {from n : ℕ} (k m : ℕ) → from ≡ min at (length room) → n ≡ min (length text) (length room - from)
-    → k ≡ n → m ≡ n → part ≡ take m text → filled (from + n) (put_mid from k room part) ≡ put_at text at room
-put-copied text room part at {from} {n} k m a e p q c =
-    let l : length (take n text) ≡ n = length-take-le n text (omega arith) in
-    let w : from + n ≤ length room = omega arith in
-    let there : put_at text from room ≡ put_at text at room = rw a (put-least text room at) in
-    rw (p, c, q, part-put room (take n text) from n w l) (put-cut text room (omega arith) e ∙ there)
+      go : Dec (length text ≤ i) → filled (from + i) room ≡ put_at (drop i text) (from + i) room
+      go (yes k) = rw (drop_of_length-le text k) (put-none room (from + i) (omega arith))
+      go (no k) = alike (omega arith) refl ∙ sym (put-past (drop i text) room (from + i) (omega arith))
 
 -- the place behind a text stands within the room, which keeps its length
 pub put-within : (text room : List ℕ) (at : ℕ) {room₁ : List ℕ} {n : ℕ} → filled n room₁ ≡ put_at text at room

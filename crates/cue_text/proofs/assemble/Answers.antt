@@ -22,7 +22,7 @@ unfolding left text_listed
 returns-then-out-checked c =
     let e = lent_none c.args.out.now c.walk.new.out c.walk.auto.out in
     let g = good _ _ _ _ (rw c.in_ok-checked.was at c.walk.ensures.answer) in
-    let r = Err (record { rule = Rule.OutputRoom; place = c.in_ok-checked.checked.bytes }) in
+    let r = Err (record { rule = Rule.Room; place = c.in_ok-checked.checked.bytes }) in
     rw (c.at.ensures, e)
     (named2 (λ h0 h1. record { assembled = h0; text_show = h1 }) (shown _ _ _ r (answer-small _ _ _ _ g (rw e at c.if-out-checked.true))))
 

@@ -7,7 +7,9 @@ use Rattle.packet.proofs.refusal.area_at.Goals as goal
 pub returns-then-rest-header_bytes : goal.returns-then-rest-header_bytes
 returns-then-rest-header_bytes c = c.judged_by.ensures _ _ _ _
     (c.fields_of-f.ensures ∙ c.requires.0)
-    (cut_off _ _ _ _ _ (let h = c.header_bytes.ensures.0 in omega arith))
+    (cut_off _ _ _ _ _ _
+    (let h = c.header_bytes.ensures.0 in omega arith)
+    c.cut_off.ensures)
 
 pub area_ruling-requires : goal.area_ruling-requires
 area_ruling-requires c = let h = c.header_bytes.ensures.0 in search rules

@@ -6,7 +6,9 @@ use Rattle.packet.proofs.refusal.register_at.Goals as goal
 pub returns-then-rest-header_bytes : goal.returns-then-rest-header_bytes
 returns-then-rest-header_bytes c o = c.judged_by.ensures _ o _ _
     (c.fields_of-f.ensures ∙ c.requires.0)
-    (cut_off _ _ _ _ _ (let h = c.header_bytes.ensures.0 in omega arith))
+    (cut_off _ _ _ _ _ _
+    (let h = c.header_bytes.ensures.0 in omega arith)
+    c.cut_off.ensures)
 
 pub register_ruling-requires : goal.register_ruling-requires
 register_ruling-requires c = let p = c.requires in (
