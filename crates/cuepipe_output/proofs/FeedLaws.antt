@@ -2,15 +2,16 @@
 use Prim.Native.Nat.{ℕ, zero, suc, ◌+◌, ◌-◌, ◌*◌, ◌^◌, min, ◌≤◌, ◌<◌}
 use mathlib.Core.Path.{◌≡◌, refl, sym, ap, ◌∙◌}
 use mathlib.Core.List.{List, [], ◌∷◌}
-use mathlib.Core.Bool.{Bool, true, false, ◌||◌}
+use mathlib.Core.Bool.{Bool, true, false, cond, ◌||◌}
+use Rattle.std.specs.Prelude.{Option, Some, None, Result, Ok, Err}
 use native.Mathlib.Omega.{arith}
 use lib.ListN.{length, take, drop, replicate, length-drop, length-take}
 use lib.Dec.{eqb}
 use borrow.Author.Tests.{eqb-false}
+use Rattle.lbp16.specs.Answer.{rule_number}
 use Rattle.lbp16.specs.declared.Refusal.{Refusal}
 use Rattle.packet.specs.Verdict.{verdict_listed}
 use Rattle.packet.proofs.SliceLaws.{tail-whole}
-use Rattle.packet.specs.declared.judge.Verdict.{Verdict}
 use Rattle.cue.specs.Output.{frame_room}
 use Rattle.parts.specs.Parts.{PartCall, part_of, part_left}
 use Rattle.text.specs.Room.{Filled, filled, put_at}
@@ -22,9 +23,9 @@ use Rattle.cuepipe_output.specs.Feed.{called_on, said_of, is_refused, stops, fed
 use Rattle.cuepipe_output.specs.Inside.{CallLeft, call_of, call_left}
 use Rattle.cuepipe_output.specs.declared.Called.{Called}
 
-calls_alike : {f g : Filled} {n m : ℕ} {s t : Bool} {x y : List ℕ} → f ≡ g → n ≡ m → s ≡ t → x ≡ y
-    → ◌≡◌ {A = CallLeft} (record { filled = f; taken = n; stops = s; state = x }) (record { filled = g; taken = m; stops = t; state = y })
-calls_alike a b c d = λ i. record { filled = a i; taken = b i; stops = c i; state = d i }
+calls_alike : {f g : Filled} {n m : Option ℕ} {x y : List ℕ} → f ≡ g → n ≡ m → x ≡ y
+    → ◌≡◌ {A = CallLeft} (record { filled = f; taken = n; state = x }) (record { filled = g; taken = m; state = y })
+calls_alike a b c = λ i. record { filled = a i; taken = b i; state = c i }
 
 left-alike : {f g : Filled} {s t : Bool} {x y : List ℕ} → f ≡ g → s ≡ t → x ≡ y
     → ◌≡◌ {A = FedLeft} (record { filled = f; more = s; state = x }) (record { filled = g; more = t; state = y })
@@ -38,7 +39,7 @@ put-reach text room at {n} {room₁} e =
     omega arith
 
 -- A call of the compiler: `a` is its answer, `n` the bytes taken, `packet` what it left in its room.
-module _ (state part : List ℕ) (last : Bool) (zeros : List ℕ) (a : Verdict) (n : ℕ) (state₂ packet : List ℕ)
+module _ (state part : List ℕ) (last : Bool) (zeros : List ℕ) (a : Result ℕ Refusal) (n : ℕ) (state₂ packet : List ℕ)
     (z : zeros ≡ replicate frame_room 0) (e : part_left a n state₂ packet ≡ part_of state part last zeros) where
   same : part_left a n state₂ packet ≡ called_on state part last
   unfolding called_on
@@ -53,28 +54,29 @@ module _ (state part : List ℕ) (last : Bool) (zeros : List ℕ) (a : Verdict) 
   left = ap (λ (c : PartCall). c.state) same
 
   module _ (at next : ℕ) (out out₂ : List ℕ) where
-    pub packet-said : (m : ℕ) → a ≡ Verdict.Accepted m → filled next out₂ ≡ put_at (take m packet) at out
-        → call_left (record { next = next; taken = n; stops = eqb n 0 }) state₂ out₂ ≡ call_of state part last at out
+    pub packet-said : (m : ℕ) (k : Option ℕ) → a ≡ Ok m → filled next out₂ ≡ put_at (take m packet) at out
+        → k ≡ cond (eqb n 0) None (Some n) → call_left (record { next = next; taken = k }) state₂ out₂ ≡ call_of state part last at out
     unfolding call_of said_of stops is_refused bytes_of_answer part_left verdict_listed
-    packet-said m d p =
+    packet-said m k d p f =
         let said : take m packet ≡ said_of (called_on state part last) = rw (← same, d) refl in
         let stop : eqb n 0 ≡ stops (called_on state part last) = rw (← same, d) refl in
-        calls_alike (p ∙ ap (λ (t : List ℕ). put_at t at out) said) took stop left
+        calls_alike (p ∙ ap (λ (t : List ℕ). put_at t at out) said) (f ∙ rw (stop, took) refl) left
 
     -- no more than a packet behind its mark and length
-    pub packet-short : (m : ℕ) → a ≡ Verdict.Accepted m → filled next out₂ ≡ put_at (take m packet) at out
+    pub packet-short : (m : ℕ) → a ≡ Ok m → filled next out₂ ≡ put_at (take m packet) at out
         → length packet ≡ frame_room → next ≤ at + 1476
     packet-short m d p size =
         let l : length (take m packet) ≤ 1476 = rw length-take (omega arith) in
         omega (arith, put-reach (take m packet) out at p)
 
-    pub refusal-said : (r : Refusal) → a ≡ Verdict.Refused r → filled next out₂ ≡ put_at (refused_line r.number r.place) at out
-        → call_left (record { next = next; taken = n; stops = true }) state₂ out₂ ≡ call_of state part last at out
+    pub refusal-said : (r : Refusal) (number : ℕ) → number ≡ rule_number r.rule → a ≡ Err r
+        → filled next out₂ ≡ put_at (refused_line number r.place) at out
+        → call_left (record { next = next; taken = None }) state₂ out₂ ≡ call_of state part last at out
     unfolding call_of said_of stops is_refused bytes_of_answer part_left verdict_listed
-    refusal-said r d p =
-        let said : refused_line r.number r.place ≡ said_of (called_on state part last) = rw (← same, d) refl in
+    refusal-said r number f d p =
+        let said : refused_line number r.place ≡ said_of (called_on state part last) = rw (← same, d, f) refl in
         let stop : true ≡ stops (called_on state part last) = rw (← same, d) refl in
-        calls_alike (p ∙ ap (λ (t : List ℕ). put_at t at out) said) took stop left
+        calls_alike (p ∙ ap (λ (t : List ℕ). put_at t at out) said) (rw (← stop) refl) left
 
 -- and a line is shorter
 pub refusal-short : (number place at next : ℕ) (out out₂ : List ℕ) → number < 2 ^ 64 → place < 2 ^ 64
@@ -103,44 +105,56 @@ module _ (state rest : List ℕ) (next : ℕ) (out : List ℕ) (c : Called) (sta
   unfolding call_of
   put = ap (λ (x : CallLeft). x.filled) e
 
-  took-is : c.taken ≡ (called_on state rest false).taken
+  took-is : c.taken ≡ cond (stops (called_on state rest false)) None (Some (called_on state rest false).taken)
   unfolding call_of
   took-is = ap (λ (x : CallLeft). x.taken) e
 
-  stops-is : c.stops ≡ stops (called_on state rest false)
-  unfolding call_of
-  stops-is = ap (λ (x : CallLeft). x.stops) e
+  stops-is : c.taken ≡ None → stops (called_on state rest false) ≡ true
+  stops-is z = go (stops (called_on state rest false)) (sym z ∙ took-is)
+    where
+      go : (t : Bool) → ◌≡◌ {A = Option ℕ} None (cond t None (Some (called_on state rest false).taken)) → t ≡ true
+      go true q = refl
+      go false q = absurd cc
+
+  goes-is : (k : ℕ) → c.taken ≡ Some k → (stops (called_on state rest false) ≡ false) × (k ≡ (called_on state rest false).taken)
+  goes-is k z = go (stops (called_on state rest false)) (sym z ∙ took-is)
+    where
+      go : (t : Bool) → ◌≡◌ {A = Option ℕ} (Some k) (cond t None (Some (called_on state rest false).taken))
+          → (t ≡ false) × (k ≡ (called_on state rest false).taken)
+      go true q = absurd cc
+      go false q = (refl, cc)
 
   state-is : state₂ ≡ (called_on state rest false).state
   unfolding call_of
   state-is = ap (λ (x : CallLeft). x.state) e
 
   -- one that stops is the last
-  call-stops : (fuel : ℕ) → 0 < length rest → c.stops ≡ true
+  call-stops : (fuel : ℕ) → 0 < length rest → c.taken ≡ None
       → left_by c.next false state₂ out₂ ≡ fed_left (fed_from (suc fuel) state rest) next out
   unfolding fed_left fed_by
-  call-stops fuel h z = rw (fed-step fuel state rest h, ← stops-is, z) (left-alike put refl state-is)
+  call-stops fuel h z = rw (fed-step fuel state rest h, stops-is z) (left-alike put refl state-is)
 
   -- what comes of the others stands behind what it wrote
-  call-goes : (fuel : ℕ) → 0 < length rest → c.stops ≡ false
-      → fed_left (fed_from fuel state₂ (drop c.taken rest)) c.next out₂ ≡ fed_left (fed_from (suc fuel) state rest) next out
+  call-goes : (fuel k : ℕ) → 0 < length rest → c.taken ≡ Some k
+      → fed_left (fed_from fuel state₂ (drop k rest)) c.next out₂ ≡ fed_left (fed_from (suc fuel) state rest) next out
   unfolding fed_left fed_by
-  call-goes fuel h z =
-      let later : fed_from fuel state₂ (drop c.taken rest)
+  call-goes fuel k h z =
+      let g = goes-is k z in
+      let later : fed_from fuel state₂ (drop k rest)
       ≡ fed_from fuel (called_on state rest false).state (drop (called_on state rest false).taken rest) =
-      rw (state-is, took-is) refl in
-      rw (later, fed-step fuel state rest h, ← stops-is, z) (left-alike (put_rest _ _ _ _ put) refl refl)
+      rw (state-is, g.1) refl in
+      rw (later, fed-step fuel state rest h, g.0) (left-alike (put_rest _ _ _ _ put) refl refl)
 
   -- and it took something
-  pub goes-taken : c.stops ≡ false → 1 ≤ c.taken
+  pub goes-taken : (k : ℕ) → c.taken ≡ Some k → 1 ≤ k
   unfolding stops
-  goes-taken z = go (is_refused (called_on state rest false).answer) (sym stops-is ∙ z)
+  goes-taken k z = go (is_refused (called_on state rest false).answer) (goes-is k z).0
     where
-      go : (t : Bool) → (t || eqb (called_on state rest false).taken 0) ≡ false → 1 ≤ c.taken
-      go true q = let w : ◌≡◌ {A = ℕ} 0 1 = cc in absurd (omega arith)
+      go : (t : Bool) → (t || eqb (called_on state rest false).taken 0) ≡ false → 1 ≤ k
+      go true q = absurd cc
       go false q =
           let w : (called_on state rest false).taken ≡ 0 → ⊥ = eqb-false _ _ q in
-          omega (arith, took-is, w)
+          omega (arith, (goes-is k z).1, w)
 
 -- What holds before a call: what comes of the rest is what comes of the part, and each byte taken wrote at most one packet.
 pub record Feeding (state₀ part out₀ state rest out : List ℕ) (next : ℕ) : Type 0 where
@@ -172,7 +186,7 @@ feeding_last {state₀} {part} {out₀} {state} {rest} {out} {next} f h =
 
 module _ {state₀ part out₀ state rest out : List ℕ} {next : ℕ} (f : Feeding state₀ part out₀ state rest out next)
     (some : 0 < length rest) (c : Called) (state₂ out₂ : List ℕ) (e : call_left c state₂ out₂ ≡ call_of state rest false next out) where
-  pub feeding_stops : c.stops ≡ true
+  pub feeding_stops : c.taken ≡ None
       → left_by c.next false state₂ out₂ ≡ fed_left (fed_from (length part) state₀ part) 0 out₀
   feeding_stops z = go f.fuel f.enough f.same
     where
@@ -184,20 +198,20 @@ module _ {state₀ part out₀ state rest out : List ℕ} {next : ℕ} (f : Feed
   pub feeding_bound : c.next ≤ next + 1476 → c.next ≤ 1476 * length part
   feeding_bound b = omega (arith, f.bound)
 
-  pub feeding_next : c.stops ≡ false → c.taken ≤ length rest → c.next ≤ next + 1476 → (rest₂ : List ℕ)
-      → rest₂ ≡ take (length rest - c.taken) (drop c.taken rest) → Feeding state₀ part out₀ state₂ rest₂ out₂ c.next
-  feeding_next z t b rest₂ q₂ = go f.fuel f.enough f.same
+  pub feeding_next : (n : ℕ) → c.taken ≡ Some n → n ≤ length rest → c.next ≤ next + 1476 → (rest₂ : List ℕ)
+      → rest₂ ≡ take (length rest - n) (drop n rest) → Feeding state₀ part out₀ state₂ rest₂ out₂ c.next
+  feeding_next n z t b rest₂ q₂ = go f.fuel f.enough f.same
     where
       w : (c.next ≤ length out₂) × (length out₂ ≡ length out)
       w = put-within _ _ _ (put state rest next out c state₂ out₂ e)
 
-      q : rest₂ ≡ drop c.taken rest
-      q = q₂ ∙ tail-whole c.taken rest
+      q : rest₂ ≡ drop n rest
+      q = q₂ ∙ tail-whole n rest
 
-      one : 1 ≤ c.taken
-      one = goes-taken state rest next out c state₂ out₂ e z
+      one : 1 ≤ n
+      one = goes-taken state rest next out c state₂ out₂ e n z
 
-      size : length rest₂ ≡ length rest - c.taken
+      size : length rest₂ ≡ length rest - n
       size = rw (q, length-drop) refl
 
       go : (k : ℕ) → length rest ≤ k → fed_left (fed_from k state rest) next out ≡ fed_left (fed_from (length part) state₀ part) 0 out₀
@@ -207,7 +221,7 @@ module _ {state₀ part out₀ state rest out : List ℕ} {next : ℕ} (f : Feed
           record {
             fuel = k;
             enough = omega (arith, one, size);
-            same = rw q (call-goes state rest next out c state₂ out₂ e k some z ∙ s);
+            same = rw q (call-goes state rest next out c state₂ out₂ e k n some z ∙ s);
             within = w.0;
             lent = w.1 ∙ f.lent;
             less = omega (arith, size, f.less);

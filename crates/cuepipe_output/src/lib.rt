@@ -1,50 +1,52 @@
 // What the program that takes a list as it comes writes for each part of it.
 #![tactic(auto)]
 
-ghost use Rattle.std.specs.Prelude.{◌≡◌, ◌+◌, ◌*◌, ◌≤◌, length};
+ghost use Rattle.std.specs.Prelude.{cond, eqb, ◌≡◌, ◌+◌, ◌*◌, ◌≤◌, length, IfSome};
 ghost use Rattle.cuepipe_output.specs.Feed.{fed_from, fed_of, fed_left, left_by};
 ghost use Rattle.cuepipe_output.specs.Inside.{call_of, call_left};
 
 use cue::frame;
-use packet::judge::Verdict;
 use text::line;
 
 // So many bytes are to be written; whether another part may follow.
-#[derive(Clone, Copy)]
+#[derive(Clone, Copy, Debug, PartialEq, Eq)]
 pub struct Fed {
     pub bytes: usize,
     pub more: bool,
 }
 
-// The place behind what a call wrote, the bytes that it took, and whether no call follows it.
-#[derive(Clone, Copy)]
+// The place behind what a call wrote, and where another call may follow the bytes that it took.
+#[derive(Clone, Copy, Debug, PartialEq, Eq)]
 struct Called {
     next: usize,
-    taken: usize,
-    stops: bool,
+    taken: Option<usize>,
+}
+
+// A call that takes nothing is the last.
+fn some_taken(taken: usize) -> Option<usize>
+    ensures { result ≡ cond (eqb taken 0) None (Some taken) }
+{
+    if taken == 0 { None } else { Some(taken) }
 }
 
 fn call(state: &mut [u8], part: &[u8], last: bool, out: &mut [u8], at: usize) -> Called
     ensures out_after { call_left result state.new out.new
         ≡ call_of state.old part.now last at out.old }
-    ensures within { (result.taken ≤ length part.now) × (result.next ≤ at + 1476) }
+    ensures within { IfSome result.taken (λ k. k ≤ length part.now) × (result.next ≤ at + 1476) }
 {
     let mut packet = [0u8; frame::ROOM];
     let done = parts::compile_part(state, part, last, &mut packet);
-    let answer = done.answer;
-    match answer {
-        Verdict::Accepted(bytes) => {
+    match done.answer {
+        Ok(bytes) => {
             let n = bytes as usize;
             Called {
                 next: text::put(out, at, &packet[..n]),
-                taken: done.taken,
-                stops: done.taken == 0,
+                taken: some_taken(done.taken),
             }
         }
-        Verdict::Refused(r) => Called {
-            next: line::refused(out, at, r.number as u64, r.place),
-            taken: done.taken,
-            stops: true,
+        Err(r) => Called {
+            next: line::refused(out, at, r.rule.number() as u64, r.place),
+            taken: None,
         },
     }
 }
@@ -56,16 +58,16 @@ fn take_all(state: &mut [u8], part: &[u8], out: &mut [u8]) -> Fed
 {
     let mut rest = part;
     let mut next: usize = 0;
-    while 0 < rest.len() {
+    // How far a turn goes is what the call took.
+    while !rest.is_empty() {
         let c = call(state, rest, false, out, next);
         next = c.next;
-        if c.stops {
+        let Some(k) = c.taken else {
             return Fed {
                 bytes: next,
                 more: false,
             };
-        }
-        let k = c.taken;
+        };
         rest = &rest[k..];
     }
     Fed {
@@ -81,7 +83,7 @@ pub fn feed(state: &mut [u8], part: &[u8], out: &mut [u8]) -> Fed
         ≡ fed_left (fed_of state.old part.now) 0 out.old }
     ensures bounded { result.bytes ≤ 1476 * (1 + length part.now) }
 {
-    if part.len() == 0 {
+    if part.is_empty() {
         let c = call(state, part, true, out, 0);
         return Fed {
             bytes: c.next,

@@ -8,23 +8,23 @@ use Rattle.cuepipe_output.proofs.take_all.Goals as goal
 pub loop-rest-init : goal.loop-rest-init
 loop-rest-init c = (feeding_first _ _ _, refl, refl)
 
-pub returns-then-c : goal.returns-then-c
-returns-then-c c = let f = c.loop-rest.invariant.0 in
+pub returns-in_default : goal.returns-in_default
+returns-in_default c = let f = c.loop-rest.invariant.0 in
     let e = c.call-c.ensures in
     record {
-      out_after = feeding_stops f c.loop-rest-test.true _ _ _ e.out_after c.if-c.true;
+      out_after = feeding_stops f c.loop-rest-test.true _ _ _ e.out_after ?;
       bounded = feeding_bound f c.loop-rest-test.true _ _ _ e.out_after e.within.1;
     }
 
 pub loop-rest-smaller : goal.loop-rest-smaller
 loop-rest-smaller c = let e = c.call-c.ensures in
-    let one = goes-taken _ _ _ _ _ _ _ e.out_after c.if-c.false in
+    let one = goes-taken _ _ _ _ _ _ _ e.out_after _ ? in
     simp (length-take, length-drop) (omega (arith, e.within.0, one))
 
 pub loop-rest-preserved : goal.loop-rest-preserved
 loop-rest-preserved c = let f = c.loop-rest.invariant.0 in
     let e = c.call-c.ensures in
-    (feeding_next f c.loop-rest-test.true _ _ _ e.out_after c.if-c.false e.within.0 e.within.1 _ refl, search rules, search rules)
+    (feeding_next f c.loop-rest-test.true _ _ _ e.out_after _ ? ? e.within.1 _ refl, search rules, search rules)
 
 pub returns : goal.returns
 returns c = let f = c.loop-rest.invariant.0 in
