@@ -13,8 +13,7 @@ use Rattle.capture.specs.File.{file_of}
 use Rattle.capture.specs.Capture.{Exchange, Heard, refused, exchanges, heard, recording_of, frames_of, Captured, turned_away}
 use Rattle.capture.specs.Capture.{written, captured}
 use Rattle.capture.specs.Inside.{said_of, front_over, room_after, numbers_after, Ready}
-use Rattle.capture.specs.declared.file.File.{File}
-use Rattle.capture.specs.declared.walk.Walked.{Walked}
+use Rattle.capture.specs.File.{File}
 use Rattle.capture.proofs.HeardLaws.{refused-numbers}
 
 -- a walk that does not write leaves a room as it was
@@ -70,85 +69,77 @@ module _ (capture room frames : List ℕ) (f : File) (e : f ≡ file_of capture)
   unfolding captured
   bad-file h = rw (← e, h) refl
 
-  module _ (good : f.good ≡ true) (w : Walked) (s : w ≡ said_of (heard f (drop 24 capture))) where
+  module _ (good : f.good ≡ true) where
     good-file : captured capture room frames ≡ written (heard f (drop 24 capture)) room frames
     unfolding captured
     good-file = rw (← e, good) refl
 
-    pub bad-frame : (w.number ≡ 0 → ⊥) → captured capture room frames ≡ turned_away w.number w.frame room frames
+    pub bad-frame : (n k : ℕ) → Answer.refused n k ≡ said_of (heard f (drop 24 capture)) → captured capture room frames ≡ turned_away n k room frames
     unfolding said_of written
-    bad-frame h = good-file ∙ go (heard f (drop 24 capture)) s
+    bad-frame n k s = good-file ∙ go (heard f (drop 24 capture)) s
       where
-        go : (x : Heard) → w ≡ said_of x → written x room frames ≡ turned_away w.number w.frame room frames
-        go (refused n k) q = rw q refl
-        go (exchanges xs) q = absurd (h (ap (λ (x : Walked). x.number) q))
+        go : (x : Heard) → Answer.refused n k ≡ said_of x → written x room frames ≡ turned_away n k room frames
+        go (refused m j) q = let a : m ≡ n = cc in let b : j ≡ k = cc in rw (a, b) refl
+        go (exchanges xs) q = let z : ◌≡◌ {A = ℕ} 0 1 = cc in absurd (omega arith)
 
     -- no frame is refused
-    pub record Found : Type 0 where
-      pub xs : List Exchange
-      pub same : heard f (drop 24 capture) ≡ exchanges xs
-      pub bytes : w.bytes ≡ length (recording_of xs)
-      pub packets : w.packets ≡ length xs
+    module _ (bytes packets : ℕ) (s : Answer.accepted (bytes ∷ packets ∷ []) ≡ said_of (heard f (drop 24 capture))) where
+      pub record Found : Type 0 where
+        pub xs : List Exchange
+        pub same : heard f (drop 24 capture) ≡ exchanges xs
+        pub bytes_lem : bytes ≡ length (recording_of xs)
+        pub packets_lem : packets ≡ length xs
 
-    module _ (h : w.number ≡ 0) where
       pub found : Found
-      unfolding said_of heard
-      found = go (heard f (drop 24 capture)) refl
+      unfolding said_of
+      found = go (heard f (drop 24 capture)) refl s
         where
-          go : (x : Heard) → heard f (drop 24 capture) ≡ x → Found
-          go (refused n k) q =
-              let z : w.number ≡ n = ap (λ (x : Walked). x.number) (rw q at s) in
-              absurd (omega (arith, refused-numbers f _ _ _ _ n k q))
-          go (exchanges xs) q =
-              record {
-                xs = xs;
-                same = q;
-                bytes = ap (λ (x : Walked). x.bytes) (rw q at s);
-                packets = ap (λ (x : Walked). x.packets) (rw q at s);
-              }
+          go : (x : Heard) → heard f (drop 24 capture) ≡ x → Answer.accepted (bytes ∷ packets ∷ []) ≡ said_of x → Found
+          go (refused n k) q t = let z : ◌≡◌ {A = ℕ} 0 1 = cc in absurd (omega arith)
+          go (exchanges xs) q t = record { xs = xs; same = q; bytes_lem = cc; packets_lem = cc }
 
       as_found : captured capture room frames ≡ written (exchanges found.xs) room frames
       as_found = good-file ∙ ap (λ (x : Heard). written x room frames) found.same
 
-      pub too_small : length room < w.bytes → captured capture room frames ≡ turned_away 26 w.bytes room frames
+      pub too_small : length room < bytes → captured capture room frames ≡ turned_away 26 bytes room frames
       too_small k =
           as_found
-          ∙ small-room found.xs room frames (omega (arith, found.bytes))
-          ∙ ap (λ (n : ℕ). turned_away 26 n room frames) (sym found.bytes)
+          ∙ small-room found.xs room frames (omega (arith, found.bytes_lem))
+          ∙ ap (λ (n : ℕ). turned_away 26 n room frames) (sym found.bytes_lem)
 
-      module _ (fits : w.bytes ≤ length room) where
-        pub too_few : length frames < w.packets → captured capture room frames ≡ turned_away 27 w.packets room frames
+      module _ (fits : bytes ≤ length room) where
+        pub too_few : length frames < packets → captured capture room frames ≡ turned_away 27 packets room frames
         too_few k =
             as_found
-            ∙ small-frames found.xs room frames (omega (arith, found.bytes)) (omega (arith, found.packets))
-            ∙ ap (λ (n : ℕ). turned_away 27 n room frames) (sym found.packets)
+            ∙ small-frames found.xs room frames (omega (arith, found.bytes_lem)) (omega (arith, found.packets_lem))
+            ∙ ap (λ (n : ℕ). turned_away 27 n room frames) (sym found.packets_lem)
 
-        module _ (enough : w.packets ≤ length frames) where
+        module _ (enough : packets ≤ length frames) where
           pub ready : Ready (heard f (drop 24 capture)) room frames
           ready =
               record {
                 xs = found.xs;
                 same = found.same;
-                bytes = omega (arith, found.bytes);
-                packets = omega (arith, found.packets);
+                bytes = omega (arith, found.bytes_lem);
+                packets = omega (arith, found.packets_lem);
               }
 
           pub all-written : (room₁ frames₁ : List ℕ) → room₁ ≡ room_after true (heard f (drop 24 capture)) room
               → frames₁ ≡ numbers_after true (heard f (drop 24 capture)) frames
               → captured capture room frames
-              ≡ record { answer = Answer.accepted (w.bytes ∷ w.packets ∷ []); room = room₁; frames = frames₁ }
+              ≡ record { answer = Answer.accepted (bytes ∷ packets ∷ []); room = room₁; frames = frames₁ }
           unfolding room_after numbers_after front_over
           all-written room₁ frames₁ p q =
               as_found
-              ∙ both-fit found.xs room frames (omega (arith, found.bytes)) (omega (arith, found.packets))
-              ∙ whole_is found.xs room frames w.bytes w.packets room₁ frames₁ found.bytes found.packets
+              ∙ both-fit found.xs room frames (omega (arith, found.bytes_lem)) (omega (arith, found.packets_lem))
+              ∙ whole_is found.xs room frames bytes packets room₁ frames₁ found.bytes_lem found.packets_lem
               (p ∙ ap (λ (x : Heard). room_after true x room) found.same)
               (q ∙ ap (λ (x : Heard). numbers_after true x frames) found.same)
 
 -- and leaves it, where the first walk has left both rooms as they were
 module _ (capture room frames : List ℕ) (f : File) (e : f ≡ file_of capture) (good : f.good ≡ true) (rest : List ℕ) (r : rest ≡ drop 24 capture)
-    (w : Walked) (room₁ frames₁ : List ℕ)
-    (said : (w ≡ said_of (heard f rest))
+    (a : Answer) (room₁ frames₁ : List ℕ)
+    (said : (a ≡ said_of (heard f rest))
     × ((room₁ ≡ room_after false (heard f rest) room) × (frames₁ ≡ numbers_after false (heard f rest) frames)))
   where
     room-same : room₁ ≡ room
@@ -160,34 +151,37 @@ module _ (capture room frames : List ℕ) (f : File) (e : f ≡ file_of capture)
     heard-same : heard f rest ≡ heard f (drop 24 capture)
     heard-same = ap (heard f) r
 
-    said_same : w ≡ said_of (heard f (drop 24 capture))
+    said_same : a ≡ said_of (heard f (drop 24 capture))
     said_same = said.0 ∙ ap said_of heard-same
 
     away : (n k : ℕ) → captured capture room frames ≡ turned_away n k room frames → turned_away n k room₁ frames₁ ≡ captured capture room frames
     away n k q = rw (room-same, frames-same) (sym q)
 
-    pub left-frame : (w.number ≡ 0 → ⊥) → turned_away w.number w.frame room₁ frames₁ ≡ captured capture room frames
-    left-frame h = away w.number w.frame (bad-frame capture room frames f e good w said_same h)
+    pub left-frame : (n k : ℕ) → a ≡ Answer.refused n k → turned_away n k room₁ frames₁ ≡ captured capture room frames
+    left-frame n k h = away n k (bad-frame capture room frames f e good n k (sym h ∙ said_same))
 
-    module _ (h : w.number ≡ 0) where
-      pub left-small : length room₁ < w.bytes → turned_away 26 w.bytes room₁ frames₁ ≡ captured capture room frames
-      left-small k = away 26 w.bytes (too_small capture room frames f e good w said_same h (omega (arith, ap length room-same)))
+    module _ (bytes packets : ℕ) (h : a ≡ Answer.accepted (bytes ∷ packets ∷ [])) where
+      counted : Answer.accepted (bytes ∷ packets ∷ []) ≡ said_of (heard f (drop 24 capture))
+      counted = sym h ∙ said_same
 
-      module _ (fits : w.bytes ≤ length room₁) where
-        fits_too : w.bytes ≤ length room
+      pub left-small : length room₁ < bytes → turned_away 26 bytes room₁ frames₁ ≡ captured capture room frames
+      left-small k = away 26 bytes (too_small capture room frames f e good bytes packets counted (omega (arith, ap length room-same)))
+
+      module _ (fits : bytes ≤ length room₁) where
+        fits_too : bytes ≤ length room
         fits_too = omega (arith, ap length room-same)
 
-        pub left-few : length frames₁ < w.packets → turned_away 27 w.packets room₁ frames₁ ≡ captured capture room frames
+        pub left-few : length frames₁ < packets → turned_away 27 packets room₁ frames₁ ≡ captured capture room frames
         left-few k =
-            away 27 w.packets (too_few capture room frames f e good w said_same h fits_too (omega (arith, ap length frames-same)))
+            away 27 packets (too_few capture room frames f e good bytes packets counted fits_too (omega (arith, ap length frames-same)))
 
-        module _ (enough : w.packets ≤ length frames₁) where
-          enough_too : w.packets ≤ length frames
+        module _ (enough : packets ≤ length frames₁) where
+          enough_too : packets ≤ length frames
           enough_too = omega (arith, ap length frames-same)
 
           pub left-ready : Ready (heard f rest) room₁ frames₁
           left-ready =
-              let q = ready capture room frames f e good w said_same h fits_too enough_too in
+              let q = ready capture room frames f e good bytes packets counted fits_too enough_too in
               record {
                 xs = q.xs;
                 same = heard-same ∙ q.same;
@@ -195,14 +189,14 @@ module _ (capture room frames : List ℕ) (f : File) (e : f ≡ file_of capture)
                 packets = omega (arith, q.packets, ap length frames-same);
               }
 
-          pub left-all : (room₂ frames₂ : List ℕ) → room₂ ≡ room_after true (heard f rest) room₁
+          pub left-all : (b : Answer) → b ≡ said_of (heard f rest) → (room₂ frames₂ : List ℕ) → room₂ ≡ room_after true (heard f rest) room₁
               → frames₂ ≡ numbers_after true (heard f rest) frames₁
-              → record { answer = Answer.accepted (w.bytes ∷ w.packets ∷ []); room = room₂; frames = frames₂ } ≡ captured capture room frames
-          left-all room₂ frames₂ p q =
-              sym
-              (all-written capture room frames f e good w said_same h fits_too enough_too room₂ frames₂
+              → record { answer = b; room = room₂; frames = frames₂ } ≡ captured capture room frames
+          left-all b o room₂ frames₂ p q =
+              rw (o ∙ sym said.0 ∙ h) (sym
+              (all-written capture room frames f e good bytes packets counted fits_too enough_too room₂ frames₂
               (p ∙ ap (room_after true (heard f rest)) room-same ∙ ap (λ (x : Heard). room_after true x room) heard-same)
-              (q ∙ ap (numbers_after true (heard f rest)) frames-same ∙ ap (λ (x : Heard). numbers_after true x frames) heard-same))
+              (q ∙ ap (numbers_after true (heard f rest)) frames-same ∙ ap (λ (x : Heard). numbers_after true x frames) heard-same)))
 
 -- the numbers with which a capture is refused
 pub data Numbered (n : ℕ) : Type 0 where

@@ -12,7 +12,7 @@ use Rattle.packet.proofs.RuleLaws.{first_holds, first-within}
 use Rattle.capture.specs.File.{frame_bytes}
 use Rattle.capture.specs.Capture.{Exchange, Told, is_waiting, datagram_refusals, seen_at, data_at, frame_refusals, with_datagram}
 use Rattle.capture.specs.Capture.{Heard, refused, exchanges, heard_from}
-use Rattle.capture.specs.declared.file.File.{File}
+use Rattle.capture.specs.File.{File}
 use Rattle.capture.proofs.TurnLaws.{cases, Grows, grows_self, grown}
 
 module _ (f : File) (k : ℕ) (t : Told) (rest : List ℕ) where

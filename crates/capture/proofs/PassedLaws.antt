@@ -15,7 +15,7 @@ use Rattle.capture.specs.File.{byte_at, pair_at, quad_at, low_quad_at, number_in
 use Rattle.capture.specs.Capture.{Exchange, asked, answered, Told, nothing_told, requests, replies, is_waiting, datagram_refusals}
 use Rattle.capture.specs.Capture.{seen_at, data_at, frame_refusals, answer, with_datagram, Heard, refused, exchanges, heard_from, heard}
 use Rattle.capture.specs.Capture.{bytes_of_exchange, recording_of}
-use Rattle.capture.specs.declared.file.File.{File}
+use Rattle.capture.specs.File.{File}
 use Rattle.capture.specs.declared.datagram.Datagram.{Datagram}
 use Rattle.capture.proofs.DatagramLaws.{frame-within}
 use Rattle.capture.proofs.TurnLaws.{told-passed}

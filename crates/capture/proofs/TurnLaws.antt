@@ -13,7 +13,7 @@ use Rattle.packet.proofs.RuleLaws.{none-holds}
 use Rattle.cue.specs.Output.{framed}
 use Rattle.capture.specs.Capture.{Exchange, asked, answered, Told, requests, replies, is_waiting, datagram_refusals, answer, with_datagram}
 use Rattle.capture.specs.Capture.{bytes_of_exchange, recording_of, frames_of}
-use Rattle.capture.specs.Inside.{progress_of, turn_of, moved_by}
+use Rattle.capture.specs.Inside.{Progress, progress_of, turn_of, moved_by}
 use Rattle.capture.specs.declared.datagram.Datagram.{Datagram}
 
 pub data Case (t : Told) (d : Datagram) : Type 0 where
@@ -21,6 +21,17 @@ pub data Case (t : Told) (d : Datagram) : Type 0 where
   answers : requests t.known t.card d ≡ false → replies t.known t.card d ≡ true → d.whole ≡ true → (k : ℕ) (packet : List ℕ)
       (before : List Exchange) → t.exchanges ≡ asked k packet ∷ before → Case t d
   other : requests t.known t.card d ≡ false → replies t.known t.card d ≡ false → Case t d
+
+-- what a datagram is to the card, from the tests that the code makes
+pub turn-told : (p : Progress) (d : Datagram) (a b w v : Bool) → a ≡ requests p.known p.card d → b ≡ replies p.known p.card d → d.whole ≡ w
+    → p.waiting ≡ v
+    → record {
+      request = a;
+      reply = b;
+      number = first (record { number = 93; holds = (a || b) && not w } ∷ record { number = 94; holds = b && not v } ∷ []);
+    } ≡ turn_of p d
+unfolding turn_of datagram_refusals
+turn-told p d a b w v e f g h = rw (e, f, ← g, ← h) refl
 
 -- a request is no reply
 pub not_both : (t : Told) (d : Datagram) → requests t.known t.card d ≡ true → replies t.known t.card d ≡ false

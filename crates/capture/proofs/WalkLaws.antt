@@ -8,6 +8,7 @@ use native.Mathlib.Nat.{le_refl}
 use lib.ListN.{length, take, drop, length-append, length-drop}
 use lib.Seq.{sets, length-sets}
 use Rattle.lbp16.proofs.BoolLaws.{and_true}
+use Rattle.lbp16.specs.Answer.{Answer}
 use Rattle.packet.specs.Rules.{first}
 use Rattle.packet.proofs.SliceLaws.{tail-whole}
 use Rattle.cue.specs.Output.{framed}
@@ -18,11 +19,10 @@ use Rattle.capture.specs.Capture.{seen_at, data_at, frame_refusals, with_datagra
 use Rattle.capture.specs.Capture.{bytes_of_exchange, recording_of, frame_number, frames_of}
 use Rattle.capture.specs.Inside.{progress_of, turn_of, moved_by, Roomy, part_at, part_of, number_part, Fits, said_of, front_over}
 use Rattle.capture.specs.Inside.{room_after, numbers_after, Ready}
-use Rattle.capture.specs.declared.file.File.{File}
+use Rattle.capture.specs.File.{File}
 use Rattle.capture.specs.declared.datagram.Datagram.{Datagram}
-use Rattle.capture.specs.declared.turn.Progress.{Progress}
-use Rattle.capture.specs.declared.turn.Turn.{Turn}
-use Rattle.capture.specs.declared.walk.Walked.{Walked}
+use Rattle.capture.specs.Inside.{Progress}
+use Rattle.capture.specs.Inside.{Turn}
 use Rattle.capture.proofs.DatagramLaws.{frame-within, frame-bytes, Within, whole-within, data_length}
 use Rattle.capture.proofs.TurnLaws.{Case, cases, framed-length, exchange_length, frames-length, recording_more, moved-is}
 use Rattle.capture.proofs.TurnLaws.{told-request, told-reply, told-passed, not_both}
@@ -74,7 +74,7 @@ walking_first f frames write room numbers small =
 
 -- the numbers at the end
 said-is : (xs : List Exchange) (p : Progress) → p.bytes ≡ length (recording_of xs) → p.packets ≡ length xs
-    → record { number = 0; frame = 0; bytes = p.bytes; packets = p.packets } ≡ said_of (exchanges xs)
+    → Answer.accepted (p.bytes ∷ p.packets ∷ []) ≡ said_of (exchanges xs)
 unfolding said_of
 said-is xs p a b = rw (a, b) refl
 
@@ -85,21 +85,21 @@ module _ (f : File) (frames : List ℕ) (write : Bool) (room₀ numbers₀ : Lis
   xs = w.told.exchanges
 
   -- all that the walk says and leaves
-  abbrev pub Done : Walked → Type 0
+  abbrev pub Done : Answer → Type 0
   Done r =
       (r ≡ said_of (heard f frames))
       × ((room ≡ room_after write (heard f frames) room₀) × (numbers ≡ numbers_after write (heard f frames) numbers₀))
 
   -- a walk that writes ends well
-  pub walking_stopped : (n : ℕ) → heard f frames ≡ refused n k → Done (record { number = n; frame = k; bytes = 0; packets = 0 })
+  pub walking_stopped : (n : ℕ) → heard f frames ≡ refused n k → Done (Answer.refused n k)
   unfolding said_of room_after numbers_after front_over
   walking_stopped n e = go write refl
     where
-      go : (b : Bool) → write ≡ b → Done (record { number = n; frame = k; bytes = 0; packets = 0 })
+      go : (b : Bool) → write ≡ b → Done (Answer.refused n k)
       go true q = let r = ready q in let z : ◌≡◌ {A = ℕ} 0 1 = cc (e, r.same) in absurd (omega arith)
       go false q = rw e (refl, (rw q at w.room-is, rw q at w.numbers-is))
 
-  pub walking_last : length rest ≡ 0 → Done (record { number = 0; frame = 0; bytes = p.bytes; packets = p.packets })
+  pub walking_last : length rest ≡ 0 → Done (Answer.accepted (p.bytes ∷ p.packets ∷ []))
   unfolding room_after numbers_after progress_of
   walking_last z =
       let e : exchanges xs ≡ heard f frames = sym (w.same ∙ heard-end f k w.told rest w.fuel z) in (
@@ -126,7 +126,7 @@ module _ (f : File) (frames : List ℕ) (write : Bool) (room₀ numbers₀ : Lis
     heard-here : heard f frames ≡ heard_from (suc fuelled.less) f k w.told rest
     heard-here = rw fuelled.is at w.same
 
-    pub walking_cut : n ≡ 0 → Done (record { number = 92; frame = k; bytes = 0; packets = 0 })
+    pub walking_cut : n ≡ 0 → Done (Answer.refused 92 k)
     walking_cut z =
         walking_stopped 92
         (heard-here
@@ -138,6 +138,15 @@ module _ (f : File) (frames : List ℕ) (write : Bool) (room₀ numbers₀ : Lis
 
       abbrev frame : List ℕ
       frame = take (n - 16) (drop 16 rest)
+
+      pub walking_refused : (d : Datagram) → d ≡ datagram_in f.big f.link frame → (m : ℕ) → m ≡ (turn_of p d).number → (m ≡ 0 → ⊥)
+          → Done (Answer.refused m k)
+      unfolding turn_of progress_of seen_at frame_in
+      walking_refused d e m v h =
+          let seen : seen_at f rest ≡ d = rw (← l) (sym e) in
+          let number : first (frame_refusals f w.told rest) ≡ m =
+          frame-whole f k w.told rest (λ z. whole (l ∙ z)) ∙ rw (seen, v, w.progress) refl in
+          walking_stopped m (heard-here ∙ heard-refused f k w.told rest fuelled.less some m number h)
 
       module _ (d : Datagram) (e : d ≡ datagram_in f.big f.link frame) (u : Turn) (v : u ≡ turn_of p d) where
         seen-is : seen_at f rest ≡ d
@@ -151,10 +160,6 @@ module _ (f : File) (frames : List ℕ) (write : Bool) (room₀ numbers₀ : Lis
         number_is : first (frame_refusals f w.told rest) ≡ u.number
         unfolding turn_of progress_of
         number_is = frame-whole f k w.told rest (λ z. whole (l ∙ z)) ∙ rw (seen-is, v, w.progress) refl
-
-        pub walking_refused : (u.number ≡ 0 → ⊥) → Done (record { number = u.number; frame = k; bytes = 0; packets = 0 })
-        walking_refused h =
-            walking_stopped u.number (heard-here ∙ heard-refused f k w.told rest fuelled.less some u.number number_is h)
 
         module _ (fine : u.number ≡ 0) (short : d.bytes < 65536) where
           abbrev told₁ : Told

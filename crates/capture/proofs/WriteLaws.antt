@@ -13,8 +13,8 @@ use Rattle.cue.specs.Output.{frame_mark, framed}
 use Rattle.capture.specs.Datagram.{data_of}
 use Rattle.capture.specs.Inside.{part_at, part_of, number_part}
 use Rattle.capture.specs.declared.datagram.Datagram.{Datagram}
-use Rattle.capture.specs.declared.turn.Progress.{Progress}
-use Rattle.capture.specs.declared.turn.Turn.{Turn}
+use Rattle.capture.specs.Inside.{Progress}
+use Rattle.capture.specs.Inside.{Turn}
 
 -- four bytes, one behind the other
 pub head-put : (l : List ℕ) (at n : ℕ) → n < 65536

@@ -21,7 +21,7 @@ use Rattle.capture.specs.Capture.{bytes_of_exchange, recording_of, frame_number,
 use Rattle.capture.specs.Written.{bytes_of_pair, bytes_of_quad, bytes_in, Link, null, ethernet, raw12, raw101, raw228, cooked113, cooked276}
 use Rattle.capture.specs.Written.{link_number, link_header, Chosen, Sound, header_front, file_header, datagram_of, frame_written, request_frame, reply_frame}
 use Rattle.capture.specs.Written.{Sent, alone, both, frames_written, capture_of, Short, parts_of, recording_sent, frames_sent, read_back, SameRecording}
-use Rattle.capture.specs.declared.file.File.{File}
+use Rattle.capture.specs.File.{File}
 use Rattle.capture.specs.declared.datagram.Datagram.{Datagram}
 use Rattle.capture.proofs.HeardLaws.{heard-end, heard-next, frame-whole}
 use Rattle.capture.proofs.TurnLaws.{told-request, told-reply}

@@ -1,13 +1,13 @@
 -- From a capture to the recording of one card: its requests with their replies, in turn.
-use Rattle.std.specs.Prelude.{ℕ, zero, suc, ◌+◌, ◌^◌, ◌%◌, List, [], ◌∷◌, ◌++◌, Bool, true, false, not, ◌||◌, ◌&&◌, cond, length, drop, eqb, ltb}
+use Rattle.std.specs.Prelude.{ℕ, zero, suc, ◌+◌, ◌^◌, ◌%◌, List, [], ◌∷◌, ◌++◌, Bool, true, false, not, ◌||◌, ◌&&◌, cond, length, drop, eqb, ltb, Result, Ok, Err}
 use Rattle.lbp16.specs.Answer.{Answer, refusal}
 use Rattle.packet.specs.Rules.{Rule, first}
 use Rattle.cue.specs.Output.{framed}
-use Rattle.capture.specs.File.{file_of, frame_bytes, frame_in}
+use Rattle.capture.specs.File.{File, file_of, frame_bytes, frame_in}
 use Rattle.capture.specs.Datagram.{datagram_in, data_of}
-use Rattle.capture.specs.declared.file.File.{File}
 use Rattle.capture.specs.declared.datagram.Datagram.{Datagram}
-use Rattle.capture.specs.declared.CaptureAnswer.{CaptureAnswer}
+use Rattle.capture.specs.declared.Recorded.{Recorded}
+use Rattle.lbp16.specs.declared.Refusal.{Refusal}
 
 -- the card's port
 abbrev pub card_port : ℕ
@@ -138,10 +138,10 @@ captured capture room frames =
     let f = file_of capture in cond f.good (written (heard f (drop 24 capture)) room frames) (turned_away 91 0 room frames)
 
 -- an answer of the code as the papers list it
-unfoldable pub capture_listed : CaptureAnswer → Answer
-capture_listed (CaptureAnswer.Read bytes packets) = Answer.accepted (bytes ∷ packets ∷ [])
-capture_listed (CaptureAnswer.Refused r) = refusal r
+unfoldable pub capture_listed : Result Recorded Refusal → Answer
+capture_listed (Ok r) = Answer.accepted (r.bytes ∷ r.packets ∷ [])
+capture_listed (Err r) = refusal r
 
 -- what reading by the code answers and leaves
-abbrev pub left : CaptureAnswer → List ℕ → List ℕ → Captured
+abbrev pub left : Result Recorded Refusal → List ℕ → List ℕ → Captured
 left a room frames = record { answer = capture_listed a; room = room; frames = frames }

@@ -1,6 +1,16 @@
 -- The file: classic pcap. A header of 24 bytes, then frames, each behind a header of 16 bytes.
 use Rattle.std.specs.Prelude.{ℕ, ◌+◌, ◌*◌, ◌-◌, ◌%◌, List, Bool, true, false, ◌||◌, ◌&&◌, cond, length, take, drop, get_or, leb, ltb, eqb}
-use Rattle.capture.specs.declared.file.File.{File}
+use Rattle.capture.specs.declared.file.File.{File as Read}
+
+-- Whether a capture is read here, whether its numbers have the high byte first, and its link type.
+pub record File : Type 0 where
+  pub good : Bool
+  pub big : Bool
+  pub link : ℕ
+
+-- a capture that the code reads
+abbrev pub file_listed : Read → File
+file_listed f = record { good = true; big = f.big; link = f.link }
 
 -- a byte that is not there counts as 0
 unfoldable pub byte_at : List ℕ → ℕ → ℕ

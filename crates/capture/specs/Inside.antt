@@ -1,13 +1,47 @@
 -- The inside of private functions' contracts.
-use Rattle.std.specs.Prelude.{ℕ, ◌+◌, ◌-◌, ◌^◌, ◌%◌, ◌≤◌, ◌<◌, ◌≡◌, List, [], ◌∷◌, ◌++◌, Bool, true, false, ◌&&◌, cond, length, drop}
+use Rattle.std.specs.Prelude.{ℕ, ◌+◌, ◌-◌, ◌^◌, ◌%◌, ◌≤◌, ◌<◌, ◌≡◌, List, [], ◌∷◌, ◌++◌, Bool, true, false, ◌&&◌, cond, length, drop, is_some, unwrap_or}
+use Rattle.lbp16.specs.Answer.{Answer}
 use Rattle.packet.specs.Rules.{first}
 use Rattle.cue.specs.Output.{framed}
 use Rattle.capture.specs.Datagram.{data_of}
 use Rattle.capture.specs.Capture.{Exchange, Told, is_waiting, requests, replies, datagram_refusals, recording_of, frames_of, Heard, refused, exchanges}
 use Rattle.capture.specs.declared.datagram.Datagram.{Datagram}
-use Rattle.capture.specs.declared.turn.Progress.{Progress}
-use Rattle.capture.specs.declared.turn.Turn.{Turn}
-use Rattle.capture.specs.declared.walk.Walked.{Walked}
+use Rattle.capture.specs.declared.turn.Progress.{Progress as Held}
+use Rattle.capture.specs.declared.turn.Turn.{Turn as Taken}
+
+-- Whether the card's address is known, the address, whether the last request has no reply yet, and the recording's bytes and
+-- packets so far.
+pub record Progress : Type 0 where
+  pub known : Bool
+  pub card : ℕ
+  pub waiting : Bool
+  pub bytes : ℕ
+  pub packets : ℕ
+
+-- the same as the code holds it
+abbrev pub progress_listed : Held → Progress
+progress_listed p =
+    record { known = is_some p.card; card = unwrap_or p.card 0; waiting = p.waiting; bytes = p.bytes; packets = p.packets }
+
+-- Whether a datagram is a request, or a reply, and the number of its refusal, 0 if there is none.
+pub record Turn : Type 0 where
+  pub request : Bool
+  pub reply : Bool
+  pub number : ℕ
+
+-- as the code tells it
+abbrev pub is_request : Taken → Bool
+is_request Taken.Other = false
+is_request Taken.Request = true
+is_request Taken.Reply = false
+
+abbrev pub is_reply : Taken → Bool
+is_reply Taken.Other = false
+is_reply Taken.Request = false
+is_reply Taken.Reply = true
+
+abbrev pub turn_listed : Taken → Turn
+turn_listed t = record { request = is_request t; reply = is_reply t; number = 0 }
 
 -- what is told, by its numbers
 unfoldable pub progress_of : Told → Progress
@@ -63,9 +97,9 @@ pub record Fits (write : Bool) (p : Progress) (t : Turn) (d : Datagram) (frame r
       → (d.at + d.bytes ≤ frame) × (d.bytes < 65536) × (4 ≤ p.bytes) × (p.bytes + d.bytes ≤ room)
 
 -- what a walk over the frames says
-unfoldable pub said_of : Heard → Walked
-said_of (refused n k) = record { number = n; frame = k; bytes = 0; packets = 0 }
-said_of (exchanges xs) = record { number = 0; frame = 0; bytes = length (recording_of xs); packets = length xs }
+unfoldable pub said_of : Heard → Answer
+said_of (refused n k) = Answer.refused n k
+said_of (exchanges xs) = Answer.accepted (length (recording_of xs) ∷ length xs ∷ [])
 
 -- what a walk leaves of a room, if it writes
 unfoldable pub front_over : Bool → List ℕ → List ℕ → List ℕ

@@ -3,7 +3,6 @@ ghost use Rattle.std.specs.Prelude.{◌≡◌, ◌+◌, ◌-◌, ◌≤◌, ◌<
 ghost use Rattle.capture.specs.Datagram.{type_at, ip_at, says_iPv4, header_bytes, is_seen, length_at, is_whole, datagram_in};
 
 use crate::file;
-use packet::rule;
 
 // What a frame holds. `seen`: a datagram whose ports can be seen; all else counts only then. Its data are so many bytes from `at` on.
 #[derive(Clone, Copy)]
@@ -30,12 +29,17 @@ fn type_at(frame: &[u8]) -> u32
 }
 
 // Where the IP packet begins.
+#[tactic(auto, unfolding(crate::specs::Datagram::ip_at, crate::specs::Datagram::type_at))]
 fn ip_at(frame: &[u8], link: u32) -> usize
     ensures { (result ≡ ip_at link frame.now) × (result ≤ 20) }
 {
-    let cooked = rule::first_of(link == 113, 16, rule::first_of(link == 276, 20, 0));
-    let ethernet = type_at(frame) + 2;
-    rule::first_of(link == 0, 4, rule::first_of(link == 1, ethernet, cooked)) as usize
+    match link {
+        0 => 4,
+        1 => type_at(frame) as usize + 2,
+        113 => 16,
+        276 => 20,
+        _ => 0,
+    }
 }
 
 fn says_ipv4(frame: &[u8], big: bool, link: u32) -> bool
@@ -95,7 +99,7 @@ fn is_whole(frame: &[u8], ip: usize) -> bool
 fn data_bytes(length: usize) -> usize
     ensures { (result ≡ length - 8) × (result ≤ length) }
 {
-    if length < 8 { 0 } else { length - 8 }
+    length.saturating_sub(8)
 }
 
 pub(crate) fn datagram_in(frame: &[u8], big: bool, link: u32) -> Datagram

@@ -1,11 +1,10 @@
 // The file of a capture: its numbers, its header, and the frame at the front.
-ghost use Rattle.std.specs.Prelude.{◌≡◌, ◌+◌, ◌≤◌, ◌<◌};
-ghost use Rattle.capture.specs.File.{byte_at, pair_at, quad_at, low_quad_at, number_in, is_magic, is_link, file_of, frame_bytes};
+ghost use Rattle.std.specs.Prelude.{◌≡◌, false, ◌+◌, ◌≤◌, ◌<◌, IfSome, MatchOption};
+ghost use Rattle.capture.specs.File.{byte_at, pair_at, quad_at, low_quad_at, number_in, is_magic, is_link, file_of, file_listed, frame_bytes};
 
-// Whether a capture is read here, whether its numbers have the high byte first, and its link type.
+// Whether the numbers of a capture have the high byte first, and its link type.
 #[derive(Clone, Copy)]
 pub(crate) struct File {
-    pub(crate) good: bool,
     pub(crate) big: bool,
     pub(crate) link: u32,
 }
@@ -75,23 +74,22 @@ fn is_link(n: u32) -> bool
     (n == 0) | (n == 1) | (n == 12) | (n == 101) | (n == 228) | (n == 113) | (n == 276)
 }
 
-pub(crate) fn file_of(s: &[u8]) -> File
-    ensures { result ≡ file_of s.now }
+// Of a capture that is read here.
+pub(crate) fn file_of(s: &[u8]) -> Option<File>
+    ensures { MatchOption result ((file_of s.now).good ≡ false) (λ f. file_listed f ≡ file_of s.now) }
 {
     let big = is_magic(number_in(s, 0, true));
     let little = is_magic(number_in(s, 0, false));
     let link = number_in(s, 20, big) % 65536;
-    File {
-        good: (24 <= s.len()) & (big | little) & is_link(link),
-        big,
-        link,
-    }
+    let good = (24 <= s.len()) & (big | little) & is_link(link);
+    if good { Some(File { big, link }) } else { None }
 }
 
-// The bytes of the frame at the front, its header included; 0 if it is cut.
-pub(crate) fn frame_bytes(rest: &[u8], big: bool) -> usize
-    ensures { result ≡ frame_bytes big rest.now }
+// The bytes of the frame at the front, its header included, if it is not cut.
+pub(crate) fn frame_bytes(rest: &[u8], big: bool) -> Option<usize>
+    ensures whole { MatchOption result (frame_bytes big rest.now ≡ 0) (λ n. n ≡ frame_bytes big rest.now) }
+    ensures header { IfSome result (λ n. 16 ≤ n) }
 {
     let n = 16 + number_in(rest, 8, big) as usize;
-    if rest.len() < n { 0 } else { n }
+    if rest.len() < n { None } else { Some(n) }
 }

@@ -2,7 +2,7 @@
 // room is needed, and only the second writes, so that a refusal leaves both rooms as they are.
 #![tactic(auto)]
 
-use lbp16::Refusal;
+use lbp16::{Refusal, Rule};
 
 mod datagram;
 mod file;
@@ -14,12 +14,15 @@ ghost use Rattle.std.specs.Prelude.{◌≡◌};
 ghost use Rattle.capture.specs.Capture.{captured, left};
 ghost use Rattle.capture.specs.Written.{SameRecording};
 
-// The recording's bytes and packets, or why nothing was written.
-#[derive(Clone, Copy)]
-pub enum CaptureAnswer {
-    Read { bytes: usize, packets: usize },
-    Refused(Refusal),
+// The recording's bytes and packets.
+#[derive(Clone, Copy, Debug, PartialEq, Eq)]
+pub struct Recorded {
+    pub bytes: usize,
+    pub packets: usize,
 }
+
+// The recording, or why nothing was written.
+pub type CaptureAnswer = Result<Recorded, Refusal>;
 
 // `frames` takes for each packet the number of its frame, counted from 1, in 32 bits. Refused with 91 to 94 of the file, then with 26
 // where `out` is too short, then with 27 where `frames` is.
@@ -28,35 +31,15 @@ pub fn read(capture: &[u8], out: &mut [u8], frames: &mut [u32]) -> CaptureAnswer
     ensures same_recording { SameRecording capture.now out.old frames.old
         (left result out.new frames.new) }
 {
-    let f = file::file_of(capture);
-    if !f.good {
-        return CaptureAnswer::Refused(Refusal {
-            number: 91,
-            place: 0,
-        });
-    }
-    let w = walk::walk(&capture[24..], f, false, out, frames);
-    if w.number != 0 {
-        return CaptureAnswer::Refused(Refusal {
-            number: w.number,
-            place: w.frame as u64,
-        });
-    }
+    let Some(f) = file::file_of(capture) else {
+        return Err(Rule::NoCapture.at(0));
+    };
+    let w = walk::walk(&capture[24..], f, false, out, frames)?;
     if out.len() < w.bytes {
-        return CaptureAnswer::Refused(Refusal {
-            number: 26,
-            place: w.bytes as u64,
-        });
+        return Err(Rule::OutputRoom.at(w.bytes as u64));
     }
     if frames.len() < w.packets {
-        return CaptureAnswer::Refused(Refusal {
-            number: 27,
-            place: w.packets as u64,
-        });
+        return Err(Rule::LogRoom.at(w.packets as u64));
     }
-    walk::walk(&capture[24..], f, true, out, frames);
-    CaptureAnswer::Read {
-        bytes: w.bytes,
-        packets: w.packets,
-    }
+    walk::walk(&capture[24..], f, true, out, frames)
 }

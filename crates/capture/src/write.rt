@@ -3,7 +3,7 @@ ghost use Rattle.std.specs.Prelude.{◌≡◌, [], ◌++◌, ◌+◌, ◌^◌, �
 ghost use Rattle.std.proofs.lemmas.List.Edits.{sets};
 ghost use Rattle.packet.specs.Bytes.{bytes_of};
 ghost use Rattle.cue.specs.Output.{frame_mark, framed};
-ghost use Rattle.capture.specs.Inside.{part_at, part_of, number_part, Fits};
+ghost use Rattle.capture.specs.Inside.{progress_listed, turn_listed, part_at, part_of, number_part, Fits};
 
 use crate::datagram::Datagram;
 use crate::turn::{Progress, Turn};
@@ -23,10 +23,8 @@ fn copy(out: &mut [u8], at: usize, frame: &[u8], from: usize, n: usize)
     requires { (at + n ≤ length out.old) × (from + n ≤ length frame.now) }
     ensures { out.new ≡ sets out.old at (take n (drop from frame.now)) }
 {
-    let mut i: usize = 0;
-    while i < n {
+    for i in 0..n {
         out[at + i] = frame[from + i];
-        i += 1;
     }
 }
 
@@ -67,16 +65,19 @@ pub(crate) fn put(
     out: &mut [u8],
     numbers: &mut [u32],
 )
-    requires { Fits write p t d (length frame.now) (length out.old) (length numbers.old) }
-    ensures out_after { out.new ≡ sets out.old (part_at p t) (part_of write t d frame.now) }
-    ensures numbers_after { numbers.new ≡ sets numbers.old p.packets (number_part write t k) }
+    requires { Fits write (progress_listed p) (turn_listed t) d (length frame.now) (length out.old) (length numbers.old) }
+    ensures out_after { out.new ≡ sets out.old (part_at (progress_listed p) (turn_listed t)) (part_of write (turn_listed t) d frame.now) }
+    ensures numbers_after { numbers.new ≡ sets numbers.old p.packets (number_part write (turn_listed t) k) }
 {
-    if write & t.request {
-        put_request(out, p.bytes, frame, d.at, d.bytes);
-        put_number(numbers, p.packets, k);
+    if !write {
         return;
     }
-    if write & t.reply {
-        put_framed(out, p.bytes - 4, frame, d.at, d.bytes);
+    match t {
+        Turn::Other => {}
+        Turn::Request => {
+            put_request(out, p.bytes, frame, d.at, d.bytes);
+            put_number(numbers, p.packets, k);
+        }
+        Turn::Reply => put_framed(out, p.bytes - 4, frame, d.at, d.bytes),
     }
 }

@@ -5,10 +5,13 @@ use mathlib.Core.List.{List, [], ◌∷◌, ◌++◌}
 use mathlib.Core.Bool.{Bool, true, false, not, ◌||◌, cond}
 use native.Mathlib.Omega.{arith}
 use native.Mathlib.Nat.{zero-add}
+use Rattle.std.proofs.Common.{Err}
+use Rattle.lbp16.specs.declared.Rule.{Rule as TableRule}
+use Rattle.lbp16.proofs.RuleLaws.{rule_number_range}
 use lib.Dec.{eqb, eqb-suc-zero}
 use lib.ListN.{length, drop, get_or}
 use borrow.Author.Tests.{ne_eqb, not-false}
-use Rattle.lbp16.specs.Answer.{Answer}
+use Rattle.lbp16.specs.Answer.{Answer, rule_number}
 use Rattle.lbp16.specs.Space.{Space, registers, row}
 use Rattle.lbp16.specs.declared.Refusal.{Refusal}
 use Rattle.lbp16.proofs.BoolLaws.{or_false}
@@ -19,7 +22,6 @@ use Rattle.packet.proofs.RuleLaws.{Numbered}
 use Rattle.spi.specs.Spi.{Burst, header_of, first_word, bytes_of_words, burst_kind, burst_steps, came, burst_refusals, burst_outcome, burst_words, run_burst}
 use Rattle.packet.specs.Verdict.{verdict_listed}
 use Rattle.spi.specs.Spi.{write_command, burst_left, most_in_burst}
-use Rattle.packet.specs.declared.judge.Verdict.TheVariants.{Refused}
 use Rattle.spi.specs.declared.Header.{Header}
 use Rattle.spi.proofs.SpiLaws.{sound}
 use Rattle.interlock.specs.Guard.{soundness, touches, writes_protected, protected}
@@ -121,11 +123,15 @@ module _ (guard words store room : List ℕ) where
         go zero = refl
         go (suc n) = rw (eqb-suc-zero n) refl
 
+-- the plain burst's refusal stays
+pub rule-stays : (r : TableRule) → rule_number r ≡ cond (eqb (rule_number r) 0) 71 (rule_number r)
+rule-stays r = let h = (rule_number_range r).0 in rw (ne_eqb (rule_number r) 0 (λ z. omega arith)) refl
+
 -- a refusal as the code answers it
 pub refused-left : (guard words store room : List ℕ) (r : Refusal)
-    → guarded_burst guard words store room ≡ record { answer = Answer.refused r.number r.place; store = store; room = room }
-    → (burst_left (Refused r) store room ≡ guarded_burst guard words store room)
-    × ((n : ℕ) → verdict_listed (Refused r) ≡ Answer.accepted (n ∷ []) → n ≤ most_in_burst)
+    → guarded_burst guard words store room ≡ record { answer = Answer.refused (rule_number r.rule) r.place; store = store; room = room }
+    → (burst_left (Err r) store room ≡ guarded_burst guard words store room)
+    × ((n : ℕ) → verdict_listed (Err r) ≡ Answer.accepted (n ∷ []) → n ≤ most_in_burst)
 unfolding burst_left verdict_listed
 refused-left guard words store room r e = (sym e, λ n q. let z : ◌≡◌ {A = ℕ} 0 1 = cc in absurd (omega arith))
 

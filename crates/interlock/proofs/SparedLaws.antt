@@ -16,7 +16,8 @@ use Rattle.packet.specs.Step.{Kind, read, write, infoRead, Step, is_write, at, c
 use Rattle.packet.specs.Rules.{any_step}
 use Rattle.packet.specs.Command.{payload, elements, steps_at}
 use Rattle.packet.specs.Judge.{Carried, accepted, begin, carry, judge}
-use Rattle.packet.specs.declared.judge.Verdict.{Verdict}
+use Rattle.std.proofs.Common.{Result}
+use Rattle.lbp16.specs.declared.Refusal.{Refusal}
 use Rattle.packet.proofs.StoreLaws.{Spared, spared_byte, length-after}
 use Rattle.packet.proofs.StepLaws.{any_append}
 use Rattle.packet.proofs.RefusalLaws.{all-passed, reaches_keeps}
@@ -134,7 +135,7 @@ run_spares guard bytes store pointers reply r store' pointers' reply' e i p =
     ap (λ (o : LentOutcome). get_or o.store i 0) e
     ∙ (spared_for_ever guard (Sent.packet bytes reply ∷ []) (record { store = store; pointers = pointers })).same i p
 
-pub burst_spares : (guard words store room : List ℕ) (a : Verdict) (store' room'' : List ℕ)
+pub burst_spares : (guard words store room : List ℕ) (a : Result ℕ Refusal) (store' room'' : List ℕ)
     → burst_left a store' room'' ≡ guarded_burst guard words store room → Spares guard store store'
 unfolding burst_left after_all after_one
 burst_spares guard words store room a store' room'' e i p =

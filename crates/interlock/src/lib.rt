@@ -16,10 +16,10 @@ ghost use Rattle.interlock.specs.Inside.{instead_of};
 
 use card::run::RanLent;
 use card::{check, run};
-use cue::{CompileAnswer, plan};
-use lbp16::Refusal;
+use cue::plan;
+use lbp16::Rule;
+use packet::command;
 use packet::judge::Verdict;
-use packet::{command, judge, rule};
 
 // The number of a guard's ranges, or 70 and the index of the earliest pair at fault.
 pub fn guard(guard: &[u32]) -> Verdict
@@ -32,11 +32,8 @@ pub fn guard(guard: &[u32]) -> Verdict
 fn held_back(packet: &[u8], store: &[u8], pointers: &[u32], place: usize) -> Verdict
     ensures { verdict_listed result ≡ instead_of (answer_to (checked_lent packet.now store.now pointers.now)) place }
 {
-    let answer = check::check_lent(packet, store, pointers);
-    let Verdict::Accepted(_) = answer else {
-        return answer;
-    };
-    judge::refused(71, place)
+    check::check_lent(packet, store, pointers)?;
+    Err(Rule::Protected.at(place as u64))
 }
 
 // What the plain check answers, but for a packet that would be accepted and would write a protected byte.
@@ -44,15 +41,11 @@ pub fn check(packet: &[u8], store: &[u8], pointers: &[u32], guard: &[u32]) -> Ve
     ensures { verdict_listed result
         ≡ answer_to (guarded_check guard.now packet.now store.now pointers.now) }
 {
-    let sound = ranges::soundness(guard);
-    let Verdict::Accepted(_) = sound else {
-        return sound;
-    };
-    let place = walk::protected_place(packet, pointers, guard);
-    if place == packet.len() {
-        return check::check_lent(packet, store, pointers);
+    ranges::soundness(guard)?;
+    match walk::protected_place(packet, pointers, guard) {
+        None => check::check_lent(packet, store, pointers),
+        Some(place) => held_back(packet, store, pointers, place),
     }
-    held_back(packet, store, pointers, place)
 }
 
 // What the plain run answers and leaves, but for such a packet: that is refused, and nothing changes. The packet is gone through first, so
@@ -70,19 +63,18 @@ pub fn run(
     ensures bounded { result.elements ≤ most_elements }
 {
     let sound = ranges::soundness(guard);
-    let Verdict::Accepted(_) = sound else {
+    let Ok(_) = sound else {
         return RanLent {
             answer: sound,
             elements: 0,
         };
     };
-    let place = walk::protected_place(packet, pointers, guard);
-    if place == packet.len() {
+    let Some(place) = walk::protected_place(packet, pointers, guard) else {
         return run::run_lent(packet, store, pointers, reply);
-    }
+    };
     if reply.len() != command::LIMIT {
         return RanLent {
-            answer: judge::refused(1, 0),
+            answer: Err(Rule::State.at(0)),
             elements: 0,
         };
     }
@@ -112,32 +104,21 @@ pub fn burst(words: &[u32], store: &mut [u8], answer: &mut [u32], guard: &[u32])
         ≡ guarded_burst guard.now words.now store.old answer.old }
     ensures bounded { (n : ℕ) → verdict_listed result ≡ Answer.accepted (n ∷ []) → n ≤ most_in_burst }
 {
-    let sound = ranges::soundness(guard);
-    if let Verdict::Refused(refusal) = sound {
-        return Verdict::Refused(refusal);
-    }
+    ranges::soundness(guard)?;
     if !promises_protected(words, guard) {
         return spi::burst(words, store, answer);
     }
-    let plain = spi::refusal_of(words, store, answer);
-    let number = rule::first_of(plain == 0, 71, plain);
-    Verdict::Refused(Refusal { number, place: 0 })
+    match spi::refusal_of(words, store, answer) {
+        Ok(()) => Err(Rule::Protected.at(0)),
+        Err(rule) => Err(rule.at(0)),
+    }
 }
 
 // The number of a cue list's records, or the compiler's refusal, or 71 and the first record that writes a protected byte.
 pub fn list(list: &[u8], guard: &[u32]) -> Verdict
     ensures { verdict_listed result ≡ guarded_list guard.now list.now }
 {
-    let sound = ranges::soundness(guard);
-    let Verdict::Accepted(_) = sound else {
-        return sound;
-    };
-    let answer = plan::plan(list);
-    match answer {
-        CompileAnswer::Refused(r) => Verdict::Refused(r),
-        CompileAnswer::Compiled {
-            bytes: _,
-            packets: _,
-        } => walk::records_held(list, guard),
-    }
+    ranges::soundness(guard)?;
+    plan::plan(list)?;
+    walk::records_held(list, guard)
 }

@@ -5,7 +5,7 @@ ghost use Rattle.interlock.specs.Guard.{shares, faulty, soundness, touches};
 ghost use Rattle.interlock.specs.Inside.{fault_at};
 
 use card::check;
-use packet::judge;
+use lbp16::Rule;
 use packet::judge::Verdict;
 
 // The most ranges that a guard may have.
@@ -59,12 +59,12 @@ pub(crate) fn soundness(guard: &[u32]) -> Verdict
     let mut index: usize = 0;
     while 0 < rest.len() {
         if at_fault(rest, index) {
-            return judge::refused(70, index);
+            return Err(Rule::UnsoundGuard.at(index as u64));
         }
         rest = &rest[2..];
         index += 1;
     }
-    Verdict::Accepted(index as u64)
+    Ok(index as u64)
 }
 
 // Whether some range has one of the `width` bytes from `place` on.

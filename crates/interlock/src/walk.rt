@@ -1,6 +1,6 @@
 // The walks for writes of protected bytes, over a packet's commands and over a list's records. They ask no rule. A command is read by
 // functions of its own, so that `next_command` keeps its one call, in the run's loop.
-ghost use Rattle.std.specs.Prelude.{◌≡◌, cond, List, ℕ, ◌*◌, ◌≤◌, length};
+ghost use Rattle.std.specs.Prelude.{◌≡◌, cond, List, ℕ, ◌*◌, ◌≤◌, ◌<◌, length, unwrap_or, IfSome};
 ghost use Rattle.lbp16.specs.Space.{space_of};
 ghost use Rattle.lbp16.specs.Pointer.{with_pointer, advanced, pointers_of};
 ghost use Rattle.packet.specs.Step.{Step, is_info};
@@ -15,10 +15,10 @@ use crate::ranges;
 use cue::records;
 use cue::records::Record;
 use lbp16::pointer::{Pointer, Pointers};
-use lbp16::space;
 use lbp16::word::Fields;
+use lbp16::{Rule, space};
 use packet::judge::Verdict;
-use packet::{bytes, command, judge};
+use packet::{bytes, command};
 
 // The bytes from the first element to the end of the furthest: with increment elements stand one behind the other.
 pub(crate) fn span(increment: bool, count: u8, element: u32) -> u64
@@ -89,33 +89,34 @@ fn whole(f: Fields, bytes: u32) -> usize
     header
 }
 
-// The offset of the first command of an accepted packet that writes a protected byte, the packet's length if none does. Of any other
-// packet it is some offset.
-pub(crate) fn protected_place(packet: &[u8], pointers: &[u32], guard: &[u32]) -> usize
-    ensures { length pointers.now ≡ 8 → (end : Carried)
+// The offset of the first command of an accepted packet that writes a protected byte. Of any other packet it is some offset.
+pub(crate) fn protected_place(packet: &[u8], pointers: &[u32], guard: &[u32]) -> Option<usize>
+    ensures place { length pointers.now ≡ 8 → (end : Carried)
         → judge (pointers_of pointers.now) packet.now ≡ accepted end
-        → result ≡ protected_place guard.now (pointers_of pointers.now) packet.now }
+        → unwrap_or result (length packet.now) ≡ protected_place guard.now (pointers_of pointers.now) packet.now }
+    ensures inside { IfSome result (λ place. place < length packet.now) }
 {
     if pointers.len() != 8 {
-        return packet.len();
+        return None;
     }
     let mut rest = packet;
     let mut p = Pointers::from_lent(pointers);
+    // The address that a command uses depends on the pointers that the one before left.
     while 0 < rest.len() {
         let f = command::fields_at(rest);
         let used = address(p, f, rest);
         if writes_protected(guard, f, used) {
-            return packet.len() - rest.len();
+            return Some(packet.len() - rest.len());
         }
         let bytes = element_bytes(f);
         p = moved(p, f, used, bytes);
         let k = whole(f, bytes);
         if rest.len() < k {
-            return packet.len();
+            return None;
         }
         rest = &rest[k..];
     }
-    packet.len()
+    None
 }
 
 // Whether a record writes a protected byte.
@@ -141,11 +142,11 @@ pub(crate) fn records_held(list: &[u8], guard: &[u32]) -> Verdict
     while rest.len() != 0 {
         let r = records::record_at(rest);
         if record_protected(guard, r) {
-            return judge::refused(71, index);
+            return Err(Rule::Protected.at(index as u64));
         }
         let n = records::record_bytes(r.write);
         rest = &rest[n..];
         index += 1;
     }
-    Verdict::Accepted(index as u64)
+    Ok(index as u64)
 }

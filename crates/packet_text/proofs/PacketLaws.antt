@@ -6,6 +6,8 @@ use mathlib.Core.Bool.{Bool, true, false, cond}
 use native.Mathlib.Omega.{arith}
 use native.Mathlib.Nat.{zero-add}
 use borrow.Author.Tests.{lt-ltb, le-ltb, ltb-false, eq-eqb, ne_eqb}
+use Rattle.std.proofs.Common.{Option, Some, None}
+use Rattle.std.specs.Prelude.{IfSome}
 use lib.Dec.{ltb}
 use lib.ListN.{length, take, drop, length-append, length-take}
 use lib.Seq.{sets, sets-eq}
@@ -14,7 +16,7 @@ use Rattle.packet.specs.Command.{limit}
 use Rattle.packet.specs.Judge.{Carried, Verdict, refused, accepted, begin, judge_from, judge}
 use Rattle.packet.proofs.RefusalLaws.{refused-in_table}
 use Rattle.card.specs.Run.{checked_packet}
-use Rattle.reason.specs.Reason.{pointers_left, unnamed, reason_of}
+use Rattle.reason.specs.Reason.{pointers_left, unnamed, reason_of, reason_listed}
 use Rattle.reason.specs.declared.Reason.{Reason}
 use Rattle.reason.proofs.FrontLaws.{front-judged}
 use Rattle.reason.proofs.ReasonLaws.{told-number, told-place}
@@ -97,6 +99,21 @@ module _ (p : Pointers) (packet : List ℕ) (r : Reason) (e : r ≡ reason_of p 
   pub refused-pointers : Refuses p packet r → p ≡ pointers_left (checked_packet p packet) p
   unfolding pointers_left
   refused-pointers h = rw h.verdict refl
+
+-- the same of the code's reason
+pub none-accepts : (p : Pointers) (packet : List ℕ) (o : Option Reason) → reason_listed o ≡ reason_of p packet (checked_packet p packet)
+    → o ≡ None → Accepts p packet
+unfolding reason_listed unnamed
+none-accepts p packet o e n = without_refusal p packet (reason_listed o) e (rw n refl)
+
+module _ (p : Pointers) (packet : List ℕ) (o : Option Reason) (e : reason_listed o ≡ reason_of p packet (checked_packet p packet))
+    (r : Reason) (s : o ≡ Some r) where
+  pub some-is : r ≡ reason_of p packet (checked_packet p packet)
+  unfolding reason_listed
+  some-is = rw s at e
+
+  pub some-refuses : IfSome o (λ (r : Reason). 1 ≤ r.number) → Refuses p packet r
+  some-refuses h = let n : 1 ≤ r.number = rw s at h in with_refusal p packet r some-is (λ z. omega arith)
 
 pub accepted-text : (p : Pointers) (packet : List ℕ) → Accepts p packet → text_by p packet (judge p packet) ≡ packet_text p packet
 unfolding packet_text

@@ -1,5 +1,7 @@
 -- A packet in words: a line for each accepted command; of a packet that is refused also the refusal, and the command that it is of.
-use Rattle.std.specs.Prelude.{ℕ, zero, suc, ◌+◌, ◌*◌, List, [], ◌∷◌, ◌++◌, cond, length, take, drop, eqb, ltb}
+use Rattle.std.specs.Prelude.{ℕ, zero, suc, ◌+◌, ◌*◌, List, [], ◌∷◌, ◌++◌, cond, length, take, drop, eqb, ltb, Result, Ok, Err}
+use Rattle.lbp16.specs.Answer.{rule_number}
+use Rattle.lbp16.specs.declared.Refusal.{Refusal}
 use Rattle.lbp16.specs.declared.word.Fields.{Fields}
 use Rattle.lbp16.specs.declared.pointer.Pointers.{Pointers}
 use Rattle.packet.specs.Bytes.{number}
@@ -11,6 +13,7 @@ use Rattle.space_text.specs.SpaceText.{space_text}
 use Rattle.card.specs.Run.{checked_packet}
 use Rattle.reason.specs.Reason.{pointers_left, reason_of}
 use Rattle.reason.specs.declared.Reason.{Reason}
+use Rattle.packet_text.specs.declared.Shown.{Shown}
 use Rattle.packet_text.specs.Wording.{refused_text, kind_text, address_digits, command_text}
 
 unfoldable pub named_text : ℕ → Fields → List ℕ
@@ -89,6 +92,11 @@ pub record PacketLeft : Type 0 where
 
 abbrev pub packet_left : ℕ → ℕ → Pointers → List ℕ → PacketLeft
 packet_left number bytes pointers room = record { number = number; bytes = bytes; pointers = pointers; room = room }
+
+-- the same of the code's answer
+unfoldable pub shown_left : Pointers → Result Shown Refusal → List ℕ → PacketLeft
+shown_left p (Ok s) room = packet_left 0 s.bytes s.pointers room
+shown_left p (Err r) room = packet_left (rule_number r.rule) r.place p room
 
 unfoldable pub shown_packet : Pointers → List ℕ → List ℕ → PacketLeft
 shown_packet p packet room =

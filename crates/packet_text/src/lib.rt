@@ -8,9 +8,10 @@ mod whole;
 ghost use Rattle.std.specs.Prelude.{◌≡◌, ◌≤◌, length};
 ghost use Rattle.text.specs.Room.{filled, put_at};
 ghost use Rattle.packet_text.specs.Wording.{rule_text, refused_text};
-ghost use Rattle.packet_text.specs.Packet.{packet_text, most_text, packet_left, shown_packet};
+ghost use Rattle.packet_text.specs.Packet.{packet_text, most_text, shown_left, shown_packet};
 
 use lbp16::pointer::Pointers;
+use lbp16::{Refusal, Rule};
 use reason::Reason;
 use text::line;
 
@@ -38,10 +39,9 @@ pub fn put_refused(out: &mut [u8], at: usize, r: Reason) -> usize
     text::put(out, at, b"\n")
 }
 
-// 0, the bytes written and the pointers that the packet leaves; or 26, the bytes needed and the pointers as they were.
+// The bytes written, and the pointers that the packet leaves.
 #[derive(Clone, Copy)]
 pub struct Shown {
-    pub number: u32,
     pub bytes: usize,
     pub pointers: Pointers,
 }
@@ -49,27 +49,17 @@ pub struct Shown {
 // The most bytes that a packet's text has: 44 for each byte of an accepted packet, and 4,816 for a refusal.
 pub const MOST: usize = 69584;
 
-// The packet's text at the room's front; a room that is too small stays as it is.
-pub fn put_packet(out: &mut [u8], packet: &[u8], p: Pointers) -> Shown
-    ensures shown { packet_left result.number result.bytes result.pointers out.new ≡ shown_packet p packet.now out.old }
+// The packet's text at the room's front; a room that is too small stays as it is, refused with 26 and the bytes needed.
+pub fn put_packet(out: &mut [u8], packet: &[u8], p: Pointers) -> Result<Shown, Refusal>
+    ensures shown { shown_left p result out.new ≡ shown_packet p packet.now out.old }
     ensures fits { length (packet_text p packet.now) ≤ most_text }
 {
-    let r = reason::explain_packet(packet, p);
+    let reason = reason::explain_packet(packet, p);
     let mut none = [0u8; 1];
-    let needed = whole::lay_packet(&mut none, packet, p, r);
+    let needed = whole::lay_packet(&mut none, packet, p, reason);
     let bytes = needed.bytes;
     if out.len() < bytes {
-        return Shown {
-            number: 26,
-            bytes,
-            pointers: p,
-        };
+        return Err(Rule::OutputRoom.at(bytes as u64));
     }
-    let laid = whole::lay_packet(out, packet, p, r);
-    let pointers = laid.pointers;
-    Shown {
-        number: 0,
-        bytes: laid.bytes,
-        pointers,
-    }
+    Ok(whole::lay_packet(out, packet, p, reason))
 }

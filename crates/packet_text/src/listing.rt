@@ -8,20 +8,13 @@ ghost use Rattle.reason.specs.Reason.{pointers_left};
 ghost use Rattle.packet_text.specs.Packet.{named_text, used_text, moved_text, values_text, written_text, line_by, lines_text};
 ghost use Rattle.packet_text.specs.Inside.{laid_at, Plain};
 
-use crate::command;
+use crate::{Shown, command};
 use lbp16::pointer::Pointers;
 use lbp16::word::Fields;
 use packet::{bytes, command as head};
 use reason::slice;
 use space_text::put_space;
 use text::{least, line, number, pick};
-
-// The bytes that lines have, and the pointers that their commands leave.
-#[derive(Clone, Copy)]
-pub(crate) struct Lines {
-    pub bytes: usize,
-    pub pointers: Pointers,
-}
 
 fn put_named(out: &mut [u8], at: usize, place: usize, f: Fields) -> usize
     ensures { filled result out.new ≡ put_at (named_text place f) at out.old }
@@ -86,9 +79,7 @@ fn put_values(out: &mut [u8], at: usize, bytes: &[u8], four: bool, count: u8) ->
     let n = width(four);
     let mut next = least(at, out.len());
     let mut from: usize = 0;
-    let mut left = count;
-    while 0 < left {
-        left -= 1;
+    for _ in 0..count {
         next = put_value(out, next, bytes, from, four);
         from += n;
     }
@@ -130,7 +121,7 @@ fn lay_line(out: &mut [u8], at: usize, place: usize, f: Fields, used: u32, rest:
 }
 
 // The lines of commands that the check accepts.
-pub(crate) fn lay_lines(out: &mut [u8], commands: &[u8], p: Pointers) -> Lines
+pub(crate) fn lay_lines(out: &mut [u8], commands: &[u8], p: Pointers) -> Shown
     requires { (length commands.now ≤ 1472) × ((end : Carried) × (judge p commands.now ≡ accepted end)) }
     ensures { (filled result.bytes out.new ≡ laid_at (lines_text p commands.now) 0 out.old)
         × (result.pointers ≡ pointers_left (judge p commands.now) p) × (result.bytes ≤ 44 * length commands.now) }
@@ -138,6 +129,7 @@ pub(crate) fn lay_lines(out: &mut [u8], commands: &[u8], p: Pointers) -> Lines
     let mut pointers = p;
     let mut rest = commands;
     let mut bytes: usize = 0;
+    // The address that a command uses depends on the pointers that the one before left.
     while rest.len() != 0 {
         let f = head::fields_at(rest);
         let used = head::address_used(pointers, f, rest);
@@ -147,5 +139,5 @@ pub(crate) fn lay_lines(out: &mut [u8], commands: &[u8], p: Pointers) -> Lines
         let k = head::command_bytes(f);
         rest = &rest[k..];
     }
-    Lines { bytes, pointers }
+    Shown { bytes, pointers }
 }

@@ -4,6 +4,8 @@ use mathlib.Core.Path.{◌≡◌, refl, sym, ap, ◌∙◌}
 use mathlib.Core.List.{List, [], ◌∷◌}
 use mathlib.Core.Bool.{Bool, true, false, not}
 use native.Mathlib.Omega.{arith}
+use Rattle.std.proofs.Common.{Some, None}
+use Rattle.std.specs.Bool.{⊤}
 use lib.ListN.{length, take, drop, replicate, length-drop}
 use lib.Seq.{take_all}
 use Rattle.packet.specs.Step.{Step, is_write}
@@ -77,10 +79,10 @@ pub record Counting (list rest : List ℕ) (count : ℕ) : Type 0 where
 
 -- an answer where the list is not one of reads of one cell
 abbrev pub Other : List ℕ → Type 0
-Other list = (0 ≤ 127) × ((n : ℕ) (x : Step) → OneCell list n x → 0 ≡ n)
+Other list = ⊤ × ((n : ℕ) (x : Step) → OneCell list n x → None ≡ Some n)
 
 other : (list : List ℕ) → ((n : ℕ) (x : Step) → OneCell list n x → ⊥) → Other list
-other list h = (omega arith, λ n x o. absurd (h n x o))
+other list h = (tt, λ n x o. absurd (h n x o))
 
 pub counting-first : (list : List ℕ) → Counting list list 0
 counting-first list = record { few = omega arith; left = left-first list }

@@ -2,24 +2,26 @@
 use Prim.Native.Nat.{ℕ, ◌≤◌, ◌<◌}
 use mathlib.Core.Path.{◌≡◌, refl, sym, ap, ◌∙◌}
 use mathlib.Core.List.{List, [], ◌∷◌}
-use mathlib.Core.Bool.{Bool, true, false, not}
 use native.Mathlib.Omega.{arith}
 use lib.ListN.{length, take, replicate}
 use Rattle.lbp16.specs.Answer.{Answer}
 use Rattle.packet.specs.Step.{Step}
 use Rattle.cue.specs.Records.{Listed, refused, records, records_of}
 use Rattle.cue.specs.Compile.{Compiled, compiled, compile_listed, left, packed, needed}
-use Rattle.cue.specs.declared.CompileAnswer.{CompileAnswer}
+use Rattle.cue.specs.declared.Packed.{Packed}
+use Rattle.lbp16.specs.declared.Rule.{Rule}
 use Rattle.cue.proofs.CompileLaws.{accepted_exactly, output-at_front, room-beyond, room-length, refusal_changes_nothing, whole}
 use Rattle.cue.proofs.AnswerLaws.{turned-away, too_small}
 use Rattle.lbp16.specs.declared.Refusal.{Refusal}
-use Rattle.tight.specs.Tight.{Checked, checked}
+use Rattle.tight.specs.Tight.{Checked, checked, check_listed}
+use Rattle.tight.specs.declared.Fault.{Fault}
+use Rattle.std.proofs.Common.{Result, Ok, Err}
 use Rattle.tight.specs.Tight
 use Rattle.tight.specs.Demand3.{TightDemand3}
 use Rattle.tight.proofs.OwnLaws.{own-accepted}
 use Rattle.tight.proofs.Demand3Laws.{tight_demand3}
 use Rattle.planner.specs.Planner.{Tighter, TightenedBy, Tightened, OneCell, EightBytes}
-use Rattle.planner.specs.Inside.{Proposed, StillPut, Packs, is_accepted, packets_of}
+use Rattle.planner.specs.Inside.{Proposed, StillPut, Packs}
 use Rattle.planner.proofs.PutLaws.{kept-later}
 use Rattle.planner.proofs.EightLaws.{eight-least, still-accepted}
 
@@ -68,7 +70,7 @@ module _ (list room : List ℕ) (most : ℕ) (p : Packs list most) (fits : most 
   -- a proposal that is accepted
   module _ (after : List ℕ) (n count : ℕ) (a : checked list (take n after) ≡ Tight.accepted count) where
     pub taken_tightened : Proposed n most room after → length after ≡ length room
-        → Tightened list room (left (CompileAnswer.Compiled n count) after)
+        → Tightened list room (left (Ok (record { bytes = n; packets = count })) after)
     unfolding left compile_listed
     taken_tightened q size =
         tightened_by _
@@ -82,7 +84,7 @@ module _ (list room : List ℕ) (most : ℕ) (p : Packs list most) (fits : most 
           size = size;
         })
 
-    pub taken-eight : StillPut list n most after → EightBytes list room (compile_listed (CompileAnswer.Compiled n count))
+    pub taken-eight : StillPut list n most after → EightBytes list room (compile_listed (Ok (record { bytes = n; packets = count })))
     unfolding EightBytes compile_listed
     taken-eight s m x o f =
         let (e, g) = still-front after n s m x o in
@@ -113,29 +115,26 @@ module _ (list room : List ℕ) (most : ℕ) (p : Packs list most) (fits : most 
     unfolding EightBytes
     own-eight s never m x o f = absurd (never 1 (still-front mid n s m x o).1)
 
--- what the checker said, by the two questions that the code asks
-pub taken : (v : Checked) (b : Bool) (n : ℕ) → b ≡ is_accepted v → not b ≡ false → n ≡ packets_of v → v ≡ Tight.accepted n
-unfolding is_accepted packets_of
-taken (Tight.accepted k) b n e h p = ap Tight.accepted (sym p)
-taken Tight.rejected b n e h p = let y : not false ≡ false = rw e at h in let z : ◌≡◌ {A = ℕ} 0 1 = cc in absurd (omega arith)
-taken (Tight.refused k i) b n e h p =
-    let y : not false ≡ false = rw e at h in let z : ◌≡◌ {A = ℕ} 0 1 = cc in absurd (omega arith)
+-- what the checker's answer says
+pub answered-ok : (v : Checked) (t : Result ℕ Fault) → check_listed t ≡ v → (n : ℕ) → t ≡ Ok n → v ≡ Tight.accepted n
+unfolding check_listed
+answered-ok v t e n d = rw d at (sym e)
 
-pub not_taken : (v : Checked) (b : Bool) → b ≡ is_accepted v → not b ≡ true → (count : ℕ) → v ≡ Tight.accepted count → ⊥
-unfolding is_accepted
-not_taken v b e h count f =
-    let t : b ≡ true = e ∙ ap is_accepted f in
-    let y : not true ≡ true = rw t at h in
-    let z : ◌≡◌ {A = ℕ} 0 1 = cc in
-    omega arith
+pub answered-err : (v : Checked) (t : Result ℕ Fault) → check_listed t ≡ v → (f : Fault) → t ≡ Err f → (count : ℕ) → v ≡ Tight.accepted count
+    → ⊥
+unfolding check_listed
+answered-err v t e f d count a = go f (rw d at e ∙ a)
+  where
+    go : (f : Fault) → check_listed (Err f) ≡ Tight.accepted count → ⊥
+    go Fault.Rejected b = let z : ◌≡◌ {A = ℕ} 0 1 = cc in omega arith
+    go (Fault.List r) b = let z : ◌≡◌ {A = ℕ} 0 1 = cc in omega arith
 
 -- what the compiler's first pass says of a good list
-pub packs_of : (list : List ℕ) (a : CompileAnswer) → compile_listed a ≡ needed (records_of list) → (b n : ℕ)
-    → a ≡ CompileAnswer.Compiled b n → Packs list b
+pub packs_of : (list : List ℕ) (p : Packed) → compile_listed (Ok p) ≡ needed (records_of list) → Packs list p.bytes
 unfolding compile_listed needed
-packs_of list a e b n d = go (records_of list) refl (rw d at e)
+packs_of list p e = go (records_of list) refl e
   where
-    go : (v : Listed) → records_of list ≡ v → Answer.accepted (b ∷ n ∷ []) ≡ needed v → Packs list b
+    go : (v : Listed) → records_of list ≡ v → Answer.accepted (p.bytes ∷ p.packets ∷ []) ≡ needed v → Packs list p.bytes
     go (refused m i) r f = let z : ◌≡◌ {A = ℕ} 0 1 = cc in absurd (omega arith)
     go (records xs) r f = record { xs = xs; list-records = r; size = cc }
 
@@ -157,32 +156,32 @@ tightened_demand3 list room l t bytes count e = go (compiled list room).answer t
         rw (← b, ← c) (tight_demand3 list _ _ s.accepted)
 
 -- all three promises, of an answer and the room that it leaves
-abbrev pub Promised : List ℕ → List ℕ → CompileAnswer → List ℕ → Type 0
+abbrev pub Promised : List ℕ → List ℕ → Result Packed Refusal → List ℕ → Type 0
 Promised list room a after =
     Tightened list room (left a after)
     × (EightBytes list room (compile_listed a)
     × ((bytes count : ℕ) → compile_listed a ≡ Answer.accepted (bytes ∷ count ∷ []) → TightDemand3 list (take bytes after) count))
 
-pub promised : (list room : List ℕ) (a : CompileAnswer) (after : List ℕ) → Tightened list room (left a after)
+pub promised : (list room : List ℕ) (a : Result Packed Refusal) (after : List ℕ) → Tightened list room (left a after)
     → EightBytes list room (compile_listed a) → Promised list room a after
 unfolding left
 promised list room a after t e = (t, (e, tightened_demand3 list room (left a after) t))
 
--- as the code comes to it: `a` is the first pass's answer
-module _ (list room : List ℕ) (a : CompileAnswer) (e : compile_listed a ≡ needed (records_of list)) where
-  pub turned-away_all : (r : Refusal) → a ≡ CompileAnswer.Refused r → Promised list room a room
+-- as the code comes to it from the first pass's answer
+module _ (list room : List ℕ) where
+  pub turned-away_all : (r : Refusal) → compile_listed (Err r) ≡ needed (records_of list) → Promised list room (Err r) room
   unfolding left compile_listed
-  turned-away_all r d =
-      let same : left a room ≡ compiled list room = turned-away list room a e r d in
-      let f : compile_listed a ≡ Answer.refused r.number r.place = ap compile_listed d in
-      promised list room a room (refused_tightened list room (left a room) same _ _ f)
-      (refused-eight list room (left a room) same _ _ f)
+  turned-away_all r e =
+      let answer : Result Packed Refusal = Err r in
+      let same : left answer room ≡ compiled list room = turned-away list room r e in
+      promised list room answer room (refused_tightened list room (left answer room) same _ _ refl)
+      (refused-eight list room (left answer room) same _ _ refl)
 
-  pub too_small-all : (b n : ℕ) → a ≡ CompileAnswer.Compiled b n → length room < b
-      → Promised list room (CompileAnswer.Refused (record { number = 26; place = b })) room
+  pub too_small-all : (p : Packed) → compile_listed (Ok p) ≡ needed (records_of list) → length room < p.bytes
+      → Promised list room (Err (record { rule = Rule.OutputRoom; place = p.bytes })) room
   unfolding left compile_listed
-  too_small-all b n d h =
-      let answer = CompileAnswer.Refused (record { number = 26; place = b }) in
-      let same = too_small list room a e b n d h in
-      promised list room answer room (refused_tightened list room (left answer room) same 26 b refl)
-      (refused-eight list room (left answer room) same 26 b refl)
+  too_small-all p e h =
+      let answer : Result Packed Refusal = Err (record { rule = Rule.OutputRoom; place = p.bytes }) in
+      let same : left answer room ≡ compiled list room = too_small list room p e h in
+      promised list room answer room (refused_tightened list room (left answer room) same 26 p.bytes refl)
+      (refused-eight list room (left answer room) same 26 p.bytes refl)

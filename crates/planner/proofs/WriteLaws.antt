@@ -1,19 +1,20 @@
 -- Laws of the one packet that a list of reads of one cell gives.
-use Prim.Native.Nat.{ℕ, ◌/◌, ◌%◌, ◌≤◌, ◌<◌}
+use Prim.Native.Nat.{ℕ, ◌≤◌, ◌<◌}
 use mathlib.Core.Path.{◌≡◌, refl, sym, ap, ◌∙◌}
 use mathlib.Core.List.{List, [], ◌∷◌, ◌++◌}
 use mathlib.Core.Bool.{true, false, not, ◌&&◌}
 use native.Mathlib.Omega.{arith}
-use lib.ListN.{length, take, drop, set, take-append-drop}
-use lib.Seq.{sets-eq, length-take-le, take-append-le, drop-append-le}
+use Rattle.std.proofs.Common.{Option, Some, Result, Ok, Err}
+use Rattle.std.specs.Prelude.{IfSome}
+use Rattle.std.specs.Result.{result_unwrap_or}
+use lib.ListN.{length, take, drop, take-append-drop}
+use lib.Seq.{length-take-le, take-append-le, drop-append-le}
 use lib.Dec.{eqb}
 use borrow.Author.Tests.{eq-eqb, le-ltb}
-use Rattle.lbp16.specs.Answer.{Answer, refusal}
+use Rattle.lbp16.specs.Answer.{Answer}
 use Rattle.lbp16.specs.Space.{space_of, row}
 use Rattle.lbp16.specs.declared.space.Row.{Row}
 use Rattle.lbp16.specs.Word.{word_of, out_of_range, written, listed}
-use Rattle.lbp16.specs.declared.word.Written.{Written}
-use Rattle.lbp16.specs.declared.word.Written.TheVariants.{Word, Refused}
 use Rattle.lbp16.specs.declared.Refusal.{Refusal}
 use Rattle.lbp16.proofs.SpaceLaws.{size_le, number_le}
 use Rattle.packet.specs.Bytes.{bytes_of}
@@ -25,18 +26,8 @@ use Rattle.planner.specs.Inside.{framed_command, still_fields, still_output, Pro
 use Rattle.planner.proofs.PutLaws.{kept-none}
 use Rattle.planner.proofs.OneCellLaws.{cell-is}
 
--- eight stores from the room's start on
-pub command-put : (l : List ℕ) (w a : ℕ) → w < 65536 → a < 65536 → 8 ≤ length l
-    → set (set (set (set (set (set (set (set l 0 0x4C) 1 0x42) 2 4) 3 0) 4 (w % 256)) 5 (w / 256)) 6 (a % 256)) 7 (a / 256)
-    ≡ framed_command w a ++ drop 8 l
-unfolding framed_command bytes_of
-command-put l w a h k n =
-    let p : w / 256 % 256 ≡ w / 256 = omega arith in
-    let q : a / 256 % 256 ≡ a / 256 = omega arith in
-    rw (p, q) (sets-eq (0x4C ∷ 0x42 ∷ 4 ∷ 0 ∷ w % 256 ∷ w / 256 ∷ a % 256 ∷ a / 256 ∷ []) l 0 n)
-
 -- the word of the command that reads the cell `count` times: no field is out of range
-module _ (cell : Record) (count : ℕ) (line : Row) (r : Written) (l : line ≡ row (space_of cell.space))
+module _ (cell : Record) (count : ℕ) (line : Row) (r : Result ℕ Refusal) (l : line ≡ row (space_of cell.space))
     (e : listed r ≡ written (record {
       write = false;
       address = true;
@@ -52,17 +43,14 @@ module _ (cell : Record) (count : ℕ) (line : Row) (r : Written) (l : line ≡ 
       rw l at e
       ∙ rw (le-ltb 7 cell.space h, le-ltb 3 (row (space_of cell.space)).size (size_le _), le-ltb 127 count k) refl
 
-  pub still-word : (w : ℕ) → r ≡ Word w → w ≡ word_of (still_fields count cell)
+  pub still-word : result_unwrap_or r 0 ≡ word_of (still_fields count cell)
   unfolding listed
-  still-word w d =
-      let z : Answer.accepted (w ∷ []) ≡ Answer.accepted (word_of (still_fields count cell) ∷ []) = rw d at answered in cc
-
-  pub still-no_word : (f : Refusal) → r ≡ Refused f → 0 ≡ word_of (still_fields count cell)
-  unfolding listed
-  still-no_word f d =
-      let z : refusal f ≡ Answer.accepted (word_of (still_fields count cell) ∷ []) = rw d at answered in
-      let y : ◌≡◌ {A = ℕ} 0 1 = cc in
-      absurd (omega arith)
+  still-word = go r answered
+    where
+      go : (r : Result ℕ Refusal) → listed r ≡ Answer.accepted (word_of (still_fields count cell) ∷ [])
+          → result_unwrap_or r 0 ≡ word_of (still_fields count cell)
+      go (Ok w) d = cc
+      go (Err f) d = let y : ◌≡◌ {A = ℕ} 0 1 = cc in absurd (omega arith)
 
 -- a record that is equal to the cell's and reads passes all three tests
 pub reads_true : (r cell : Record) → r ≡ cell → r.write ≡ false
@@ -76,11 +64,16 @@ reads_true r cell e w =
 pub nothing : (l : List ℕ) → Proposed 0 (length l) l l
 nothing l = record { fits = omega arith; kept = kept-none }
 
+-- what the count says where one is found
+module _ {o : Option ℕ} (count : ℕ) (e : o ≡ Some count) where
+  pub found-few : IfSome o (λ n. n ≤ 127) → count ≤ 127
+  found-few h = rw e at h
+
+  pub found-counts : {list : List ℕ} → ((n : ℕ) (x : Step) → OneCell list n x → o ≡ Some n) → (n : ℕ) (x : Step) → OneCell list n x → count ≡ n
+  found-counts h n x c = let s : Some count ≡ Some n = sym e ∙ h n x c in cc
+
 -- `count` is what the list's records were counted to
 module _ (list : List ℕ) (count : ℕ) (few : count ≤ 127) (counts : (n : ℕ) (x : Step) → OneCell list n x → count ≡ n) where
-  pub still-none : (l : List ℕ) → count ≡ 0 → StillPut list 0 (length l) l
-  still-none l e = record { eight = λ n x o h. let c = counts n x o in absurd (omega (arith, o.some)) }
-
   pub still-small : (l : List ℕ) → length l < 8 → StillPut list 0 (length l) l
   still-small l e = record { eight = λ n x o h. absurd (omega arith) }
 

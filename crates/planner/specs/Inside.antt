@@ -1,5 +1,5 @@
 -- The inside of private functions' contracts.
-use Rattle.std.specs.Prelude.{ℕ, ◌≤◌, ◌≡◌, List, ◌∷◌, ◌++◌, Bool, true, false, length, take, drop, replicate}
+use Rattle.std.specs.Prelude.{ℕ, ◌≤◌, ◌≡◌, List, ◌∷◌, ◌++◌, true, false, length, take, drop, replicate}
 use Rattle.lbp16.specs.Space.{space_of, row}
 use Rattle.lbp16.specs.Word.{word_of}
 use Rattle.lbp16.specs.declared.word.Fields.{Fields}
@@ -10,8 +10,6 @@ use Rattle.cue.specs.Packing.{Command}
 use Rattle.cue.specs.Compile.{output}
 use Rattle.cue.specs.Records.{brief}
 use Rattle.cue.specs.declared.records.Record.{Record}
-use Rattle.tight.specs.Tight.{Checked}
-use Rattle.tight.specs.Tight
 use Rattle.planner.specs.Planner.{OneCell}
 use Rattle.planner.specs.declared.draft.Draft.{Draft}
 use Rattle.planner.specs.declared.draft.Cost.{Cost}
@@ -88,14 +86,3 @@ pub record Packs (list : List ℕ) (bytes : ℕ) : Type 0 where
   pub xs : List Step
   pub list-records : records_of list ≡ records xs
   pub size : bytes ≡ length (output xs)
-
--- whether the checker accepts, and with how many packets
-unfoldable pub is_accepted : Checked → Bool
-is_accepted (Tight.accepted n) = true
-is_accepted Tight.rejected = false
-is_accepted (Tight.refused n i) = false
-
-unfoldable pub packets_of : Checked → ℕ
-packets_of (Tight.accepted n) = n
-packets_of Tight.rejected = 0
-packets_of (Tight.refused n i) = 0

@@ -1,5 +1,5 @@
 // A list of reads that are all of one cell: one command without increment reads them.
-ghost use Rattle.std.specs.Prelude.{◌≡◌, true, false, ◌++◌, ℕ, ◌≤◌, length, drop};
+ghost use Rattle.std.specs.Prelude.{◌≡◌, true, false, ◌++◌, ℕ, ◌≤◌, length, drop, Some, IfSome, unwrap_or};
 ghost use Rattle.lbp16.specs.Word.{word_of};
 ghost use Rattle.packet.specs.Step.{Step};
 ghost use Rattle.planner.specs.Planner.{OneCell};
@@ -7,7 +7,7 @@ ghost use Rattle.planner.specs.Inside.{Proposed, StillPut, still_fields, framed_
 
 use cue::records;
 use cue::records::Record;
-use lbp16::word::{Fields, Written};
+use lbp16::word::Fields;
 use lbp16::{space, word};
 
 // Whether a record is a read of the cell.
@@ -17,9 +17,9 @@ fn reads(r: Record, cell: Record) -> bool
     !r.write & (r.space == cell.space) & (r.address == cell.address)
 }
 
-// How many reads of one cell the list has, 2 to 127. Of another list nothing is promised.
-fn reads_of_one_cell(list: &[u8]) -> u8
-    ensures { (result ≤ 127) × ((n : ℕ) (x : Step) → OneCell list.now n x → result ≡ n) }
+// How many reads of one cell the list has, 2 to 127. Of another list only that it is not more.
+fn reads_of_one_cell(list: &[u8]) -> Option<u8>
+    ensures { IfSome result (λ n. n ≤ 127) × ((n : ℕ) (x : Step) → OneCell list.now n x → result ≡ Some n) }
 {
     let cell = records::record_at(list);
     let mut rest = list;
@@ -27,21 +27,21 @@ fn reads_of_one_cell(list: &[u8]) -> u8
     while rest.len() != 0 {
         let r = records::record_at(rest);
         if !reads(r, cell) {
-            return 0;
+            return None;
         }
         if count == 127 {
-            return 0;
+            return None;
         }
         if rest.len() < 6 {
-            return 0;
+            return None;
         }
         count += 1;
         rest = &rest[6..];
     }
     if count < 2 {
-        return 0;
+        return None;
     }
-    count
+    Some(count)
 }
 
 // The word of the command that reads the cell so many times.
@@ -57,10 +57,7 @@ fn word_of(cell: Record, count: u8) -> u16
         increment: false,
         count,
     };
-    match word::word_of(fields) {
-        Written::Word(w) => w,
-        Written::Refused(_) => 0,
-    }
+    word::word_of(fields).unwrap_or(0)
 }
 
 // A packet of one command without data.
@@ -68,29 +65,21 @@ fn put_command(out: &mut [u8], word: u16, address: u16)
     requires { 8 ≤ length out.old }
     ensures { out.new ≡ framed_command word address ++ drop 8 out.old }
 {
-    out[0] = 0x4C;
-    out[1] = 0x42;
-    out[2] = 4;
-    out[3] = 0;
-    out[4] = (word % 256) as u8;
-    out[5] = (word / 256) as u8;
-    out[6] = (address % 256) as u8;
-    out[7] = (address / 256) as u8;
+    let w = word.to_le_bytes();
+    let a = address.to_le_bytes();
+    out[..8].copy_from_slice(&[0x4C, 0x42, 4, 0, w[0], w[1], a[0], a[1]]);
 }
 
-// The packet for a list of 2 to 127 reads of one cell; no byte for another list.
-pub(crate) fn one_cell(list: &[u8], out: &mut [u8]) -> usize
-    ensures proposed { Proposed result (length out.old) out.old out.new }
-    ensures still { StillPut list.now result (length out.old) out.new }
+// The packet for a list of 2 to 127 reads of one cell; none for another list.
+pub(crate) fn one_cell(list: &[u8], out: &mut [u8]) -> Option<usize>
+    ensures proposed { Proposed (unwrap_or result 0) (length out.old) out.old out.new }
+    ensures still { StillPut list.now (unwrap_or result 0) (length out.old) out.new }
 {
-    let count = reads_of_one_cell(list);
-    if count == 0 {
-        return 0;
-    }
+    let count = reads_of_one_cell(list)?;
     if out.len() < 8 {
-        return 0;
+        return None;
     }
     let cell = records::record_at(list);
     put_command(out, word_of(cell, count), cell.address);
-    8
+    Some(8)
 }

@@ -35,11 +35,10 @@ fn propose(list: &[u8], out: &mut [u8]) -> usize
     ensures proposed { Proposed result (length out.old) out.old out.new }
     ensures still { StillPut list.now result (length out.old) out.new }
 {
-    let n = one_cell::one_cell(list, out);
-    if n != 0 {
-        return n;
+    match one_cell::one_cell(list, out) {
+        Some(n) => n,
+        None => drafted(list, out),
     }
-    drafted(list, out)
 }
 
 // A proposal of at most so many bytes.

@@ -4,7 +4,7 @@ ghost use Rattle.planner.specs.Inside.{Sized, Kept};
 
 use crate::draft::Draft;
 use cue::frame::MARK;
-use lbp16::word::{Fields, Written};
+use lbp16::word::Fields;
 use lbp16::{space, word};
 
 // A byte below the end.
@@ -42,10 +42,7 @@ fn word_of(q: Draft) -> u16 {
         increment: q.rises,
         count: q.count,
     };
-    match word::word_of(fields) {
-        Written::Word(w) => w,
-        Written::Refused(_) => 0,
-    }
+    word::word_of(fields).unwrap_or(0)
 }
 
 // A command of one element that no longer rises: its word's low byte is the count alone.

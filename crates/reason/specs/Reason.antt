@@ -1,6 +1,6 @@
 -- Why a packet is refused. Number and place are the check's; the command at fault is named by its index from 0,
 -- its fields and the address that it uses.
-use Rattle.std.specs.Prelude.{ℕ, zero, suc, ◌+◌, ◌-◌, ◌≤◌, min, ◌≡◌, List, cond, length, take, drop, ltb}
+use Rattle.std.specs.Prelude.{ℕ, zero, suc, ◌+◌, ◌-◌, ◌≤◌, min, ◌≡◌, List, cond, length, take, drop, ltb, Option, Some, None}
 use Rattle.lbp16.specs.Word.{fields_of}
 use Rattle.lbp16.specs.declared.pointer.Pointers.{Pointers}
 use Rattle.packet.specs.Command.{fields_at, command_bytes, address_used}
@@ -39,6 +39,11 @@ pointers_at p packet place = pointers_left (judge p (take place packet)) p
 -- no command is named: index, fields and address are 0
 unfoldable pub unnamed : ℕ → ℕ → Reason
 unnamed number place = record { number = number; place = place; index = 0; fields = fields_of 0; address = 0 }
+
+-- a reason of the code; where there is none all is 0
+unfoldable pub reason_listed : Option Reason → Reason
+reason_listed None = unnamed 0 0
+reason_listed (Some r) = r
 
 -- the command at a place; its fields are all 0 where its word is cut off
 unfoldable pub named : Pointers → List ℕ → ℕ → ℕ → Reason

@@ -5,19 +5,18 @@ pub mod reader;
 pub mod slice;
 mod walk;
 
-ghost use Rattle.std.specs.Prelude.{take, ◌≡◌};
+ghost use Rattle.std.specs.Prelude.{take, ◌≡◌, ◌≤◌, IfSome};
 ghost use Rattle.card.specs.Run.{checked_packet};
-ghost use Rattle.reason.specs.Reason.{unnamed, reason_of, explained, FrontAccepted};
+ghost use Rattle.reason.specs.Reason.{unnamed, reason_of, explained, reason_listed, FrontAccepted};
 
 use card::check;
 use lbp16::pointer::Pointers;
-use lbp16::word;
 use lbp16::word::Fields;
-use packet::judge::Verdict;
+use lbp16::{Rule, word};
 use packet::{command, judge};
 
-// All 0 where the packet is accepted. `address` is the one that the command uses, given or from a pointer; index, fields and
-// address are 0 too where no command is at fault.
+// `address` is the one that the command uses, given or from a pointer; index, fields and address are 0 where no command is at
+// fault. A reason may be made of any number, also of one that no rule has, as `packet_text` says it in words.
 #[derive(Clone, Copy)]
 pub struct Reason {
     pub number: u32,
@@ -40,27 +39,28 @@ pub fn no_command(number: u32) -> Reason
     }
 }
 
-// Of the packet and the pointers alone: refusal 1 is not asked.
-pub fn explain_packet(packet: &[u8], p: Pointers) -> Reason
-    ensures { result ≡ reason_of p packet.now (checked_packet p packet.now) }
+// Of the packet and the pointers alone: refusal 1 is not asked. None of a packet that is accepted.
+pub fn explain_packet(packet: &[u8], p: Pointers) -> Option<Reason>
+    ensures told { reason_listed result ≡ reason_of p packet.now (checked_packet p packet.now) }
+    ensures refused { IfSome result (λ r. 1 ≤ r.number) }
 {
     if command::LIMIT < packet.len() {
-        return no_command(2);
+        return Some(no_command(Rule::PacketTooLong.number()));
     }
-    let verdict = judge::judge(packet, p);
-    let Verdict::Refused(refusal) = verdict else {
-        return no_command(0);
-    };
-    walk::walk(packet, p, refusal.number, refusal.place)
+    match judge::judge(packet, p) {
+        Ok(_) => None,
+        Err(r) => Some(walk::walk(packet, p, r.rule.number(), r.place)),
+    }
 }
 
 // The number and the place are those that the check, and a run with 1,472 bytes of reply room, answers.
-pub fn explain(packet: &[u8], store: &[u8], p: Pointers) -> Reason
-    ensures explained { result ≡ explained packet.now store.now p }
-    ensures front { FrontAccepted packet.now store.now p result }
+pub fn explain(packet: &[u8], store: &[u8], p: Pointers) -> Option<Reason>
+    ensures explained { reason_listed result ≡ explained packet.now store.now p }
+    ensures refused { IfSome result (λ r. 1 ≤ r.number) }
+    ensures front { FrontAccepted packet.now store.now p (reason_listed result) }
 {
     if check::bad_state(store, p) {
-        return no_command(1);
+        return Some(no_command(Rule::State.number()));
     }
     explain_packet(packet, p)
 }

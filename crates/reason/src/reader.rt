@@ -37,14 +37,7 @@ fn header_from(packet: &[u8], place: usize, p: Pointers) -> Header
 fn past(packet: &[u8], place: usize, k: usize) -> usize
     ensures { result ≡ place_after packet.now place k }
 {
-    let most = packet.len();
-    if most < k {
-        return most;
-    }
-    if most - k < place {
-        return most;
-    }
-    place + k
+    place.saturating_add(k).min(packet.len())
 }
 
 pub fn at<'a>(packet: &'a [u8], place: usize) -> Reader<'a>

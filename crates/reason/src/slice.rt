@@ -5,14 +5,12 @@ ghost use Rattle.std.specs.Prelude.{◌≡◌, min, length, drop};
 pub(crate) fn within(n: u64, s: &[u8]) -> usize
     ensures { result ≡ min n (length s.now) }
 {
-    let most = s.len();
-    if n < most as u64 { n as usize } else { most }
+    n.min(s.len() as u64) as usize
 }
 
 // The bytes from a place on.
 pub fn rest(s: &[u8], place: usize) -> &[u8]
     ensures { result.now ≡ drop place s.now }
 {
-    let from = within(place as u64, s);
-    &s[from..]
+    s.get(place..).unwrap_or(&[])
 }

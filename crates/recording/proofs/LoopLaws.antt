@@ -2,6 +2,7 @@
 use Prim.Native.Nat.{ℕ, zero, suc, ◌+◌, ◌-◌, ◌*◌, ◌≤◌}
 use mathlib.Core.Path.{◌≡◌, refl, sym, ap, ◌∙◌}
 use mathlib.Core.List.{List}
+use mathlib.Core.Bool.{true, false}
 use native.Mathlib.Omega.{arith}
 use native.Mathlib.Nat.{le_refl, add_comm}
 use lib.ListN.{length, take, drop, length-drop}
@@ -14,7 +15,7 @@ use Rattle.recording.specs.Recording.{verdict_listed, verdict_of, judged_from, j
 use Rattle.recording.specs.declared.pair.Pair.{Pair}
 use Rattle.recording.specs.declared.Judgment.{Judgment}
 use Rattle.cue.proofs.FrameLaws.{front-within}
-use Rattle.recording.proofs.PairLaws.{pair-cases}
+use Rattle.recording.proofs.PairLaws.{is_yes, pair-cases}
 
 -- A packet and a reply that are as they should be take at least 8 bytes, and no more than there are.
 pub record Within (k bytes : ℕ) : Type 0 where
@@ -32,6 +33,27 @@ pair-within rest store p room =
     let w : 4 + m ≤ length rest - (4 + n) = rw length-drop at (front-within (behind_frame n rest) m g.reply) in
     record { some = omega arith; whole = omega arith })
     (λ pair s q r f h. absurd (h f.stops))
+
+-- a good pair takes some bytes, and all else none
+pub good-some : (rest store : List ℕ) (p : Pointers) (room : List ℕ) (k : ℕ) → (pair_at rest store p room).pair ≡ Pair.Good k → k ≡ 0 → ⊥
+unfolding is_yes
+good-some rest store p room k =
+    pair-cases rest store p room (λ t. t.pair ≡ Pair.Good k → k ≡ 0 → ⊥)
+    (λ e g. let z : ◌≡◌ {A = ℕ} 0 1 = cc in absurd (omega arith))
+    (λ n m o a g. let z : 8 + n + m ≡ k = cc in λ y. omega arith)
+    (λ pair s q r f g.
+    let y : true ≡ false = rw g at (f.faults 0) in
+    let z : ◌≡◌ {A = ℕ} 0 1 = cc in
+    absurd (omega arith))
+
+pub none-good : (pair : Pair) → ((k : ℕ) → pair ≡ Pair.Good k → ⊥) → 0 ≡ good_bytes pair
+none-good Pair.End h = refl
+none-good (Pair.Good k) h = absurd (h k refl)
+none-good Pair.Refused h = refl
+none-good Pair.WrongLength h = refl
+none-good (Pair.WrongByte k) h = refl
+none-good (Pair.Cut r) h = refl
+none-good (Pair.Unmarked r) h = refl
 
 -- What is said of the recording is what is said from packet i on, in the state that the packets before it left.
 pub record Judging (recording store₀ : List ℕ) (p₀ : Pointers) (room₀ store room : List ℕ) (p : Pointers) (i at : ℕ) (rest : List ℕ)

@@ -14,7 +14,7 @@ use Rattle.lbp16.specs.declared.pointer.Pointers.{Pointers}
 use Rattle.packet.specs.Command.{limit}
 use Rattle.packet.specs.Judge
 use Rattle.packet.specs.Verdict.{answer_to, verdict_listed}
-use Rattle.packet.specs.declared.judge.Verdict.{Verdict}
+use Rattle.std.proofs.Common.{Ok, Err}
 use Rattle.packet.proofs.SliceLaws.{tail-whole}
 use Rattle.lbp16.specs.declared.Refusal.{Refusal}
 use Rattle.card.specs.Run.{Outcome, checked, run_packet, ran}
@@ -47,12 +47,12 @@ module _ (rest : List ℕ) (n : ℕ) (store : List ℕ) (p : Pointers) (room : L
   unfolding bytes_in_frame
   run_is = e ∙ rw add-sub_cancel_left refl
 
-  pub ran-refused : (x : Refusal) → r.answer ≡ Verdict.Refused x
+  pub ran-refused : (x : Refusal) → r.answer ≡ Err x
       → pair_left Pair.Refused store' r.pointers room'' ≡ ran_pair n rest (run_packet (bytes_in_frame n rest) store p room)
   unfolding ran_pair ran answered_pair verdict_listed
   ran-refused x q = rw (← run_is, q) refl
 
-  module _ (v : ℕ) (q : r.answer ≡ Verdict.Accepted v) where
+  module _ (v : ℕ) (q : r.answer ≡ Ok v) where
     -- the answered frame of the room, as the code lends it
     pub ran-fits : length room ≡ limit → length room'' ≡ length room → v ≤ length room''
     unfolding ran verdict_listed reply_length

@@ -1,6 +1,6 @@
 -- A recorded show: packet 0, its reply, packet 1, its reply and so on, each behind the mark "LB" and its length.
 use Rattle.std.specs.Prelude.{ℕ, zero, suc, ◌+◌, ◌*◌, List, [], ◌∷◌, Bool, true, false, cond, length, take, drop, replicate, eqb, ltb}
-use Rattle.lbp16.specs.Answer.{Answer}
+use Rattle.lbp16.specs.Answer.{Answer, rule_number}
 use Rattle.lbp16.specs.declared.pointer.Pointers.{Pointers}
 use Rattle.packet.specs.Command.{limit}
 use Rattle.card.specs.Run.{Outcome, bad_state, run_packet}
@@ -138,7 +138,7 @@ judged recording store p = said (judged_in recording store p (replicate limit 0)
 -- the judgment's values, for each case
 abbrev pub verdict_listed : Judgment → Verdict
 verdict_listed (Judgment.Yes n) = yes n
-verdict_listed (Judgment.Refused r) = refused r.number r.place
+verdict_listed (Judgment.Refused r) = refused (rule_number r.rule) r.place
 verdict_listed (Judgment.BadPacket i) = bad_packet i
 verdict_listed (Judgment.BadLength i) = bad_length i
 verdict_listed (Judgment.BadByte i k) = bad_byte i k

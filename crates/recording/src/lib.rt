@@ -2,8 +2,8 @@
 #![tactic(auto)]
 
 use card::check;
-use lbp16::Refusal;
 use lbp16::pointer::Pointers;
+use lbp16::{Refusal, Rule};
 use packet::command::LIMIT;
 
 mod pair;
@@ -14,7 +14,7 @@ ghost use Rattle.recording.specs.Recording.{verdict_listed, verdict_of, part_num
 use pair::Pair;
 
 // Packets and parts are counted from 0.
-#[derive(Clone, Copy)]
+#[derive(Clone, Copy, Debug, PartialEq, Eq)]
 pub enum Judgment {
     // So many packets, each with its reply, and all as it should be.
     Yes(u64),
@@ -78,14 +78,13 @@ fn judge_parts(recording: &[u8], store: &mut [u8], p: Pointers, room: &mut [u8; 
         let next = pair::pair_at(rest, store, pointers, room);
         let found = next.pair;
         pointers = next.pointers;
-        let k = pair::good_bytes(found);
-        if k == 0 {
+        let Pair::Good(k) = found else {
             return Judged {
                 judgment: judgment_of(found, packets),
                 at,
                 pointers,
             };
-        }
+        };
         packets += 1;
         at += k;
         rest = &rest[k..];
@@ -97,12 +96,8 @@ pub fn judge_in(recording: &[u8], store: &mut [u8], p: Pointers, room: &mut [u8;
     ensures { left result store.new room.new ≡ judged_in recording.now store.old p room.old }
 {
     if check::bad_state(store, p) {
-        let refusal = Refusal {
-            number: 1,
-            place: 0,
-        };
         return Judged {
-            judgment: Judgment::Refused(refusal),
+            judgment: Judgment::Refused(Rule::State.at(0)),
             at: 0,
             pointers: p,
         };

@@ -3,16 +3,15 @@ ghost use Rattle.std.specs.Prelude.{◌≡◌, ◌+◌, ◌^◌, ◌<◌, ◌≤
 ghost use Rattle.cue.specs.Output.{front_of, bytes_in_frame};
 ghost use Rattle.packet.specs.Command.{limit};
 ghost use Rattle.card.specs.Run.{run_packet};
-ghost use Rattle.recording.specs.Recording.{first_wrong, good_bytes, reply_pair, pair_left, ran_pair, pair_at};
+ghost use Rattle.recording.specs.Recording.{first_wrong, reply_pair, pair_left, ran_pair, pair_at};
 
 use card::run;
 use cue::frame;
 use cue::frame::Frame;
 use lbp16::pointer::Pointers;
-use packet::judge::Verdict;
 
 // What is found: a fault of the packet or of its reply, or none. Cut and unmarked say whether it is the reply's part.
-#[derive(Clone, Copy)]
+#[derive(Clone, Copy, Debug, PartialEq, Eq)]
 pub enum Pair {
     // No bytes are left.
     End,
@@ -83,7 +82,7 @@ fn whole_at(rest: &[u8], n: usize, store: &mut [u8], p: Pointers, room: &mut [u8
     let ran = run::run(&rest[4..end], store, p, room);
     let pointers = ran.pointers;
     let answer = ran.answer;
-    let Verdict::Accepted(value) = answer else {
+    let Ok(value) = answer else {
         return PairRan {
             pair: Pair::Refused,
             pointers,
@@ -115,20 +114,5 @@ pub(crate) fn pair_at(rest: &[u8], store: &mut [u8], p: Pointers, room: &mut [u8
             pointers: p,
         },
         Frame::Whole(n) => whole_at(rest, n, store, p, room),
-    }
-}
-
-// The bytes of a packet and its reply that are as they should be; 0 for all others.
-pub(crate) fn good_bytes(pair: Pair) -> usize
-    ensures { result ≡ good_bytes pair }
-{
-    match pair {
-        Pair::End => 0,
-        Pair::Good(k) => k,
-        Pair::Refused => 0,
-        Pair::WrongLength => 0,
-        Pair::WrongByte(_) => 0,
-        Pair::Cut(_) => 0,
-        Pair::Unmarked(_) => 0,
     }
 }

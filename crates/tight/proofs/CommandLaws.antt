@@ -19,7 +19,7 @@ use Rattle.packet.specs.Inside.{Passed}
 use Rattle.cue.specs.Records.{record_step, record_kind, record_bytes, mark_at, write_mark}
 use Rattle.tight.specs.Tight.{Doing, none, steps, info_step, plain_only, unlocks, same_kind, same_step}
 use Rattle.tight.specs.Inside.{step_takes, further, and_then, steps_take, doing_takes}
-use Rattle.tight.specs.declared.walk.Taken.{Taken}
+use Rattle.std.proofs.Common.{Option, Some, None}
 use Rattle.tight.proofs.TakeLaws.{first-rejected}
 
 -- No record is an info read.
@@ -40,27 +40,27 @@ info-plain infoRead e = refl
 info-plain read e = refl
 info-plain write e = let z : ◌≡◌ {A = ℕ} 0 1 = cc in absurd (omega arith)
 
-info-step : (s : Step) (rest : List ℕ) → is_info s.kind ≡ true → step_takes s rest ≡ Taken.Rejected
+info-step : (s : Step) (rest : List ℕ) → is_info s.kind ≡ true → step_takes s rest ≡ None
 unfolding step_takes unlocks
 info-step s rest e = rw (info-plain s.kind e, info-other s rest e) (neither (ltb (length rest) (record_bytes (record_kind rest))))
   where
-    neither : (t : Bool) → cond (not t && false) (Taken.Bytes (record_bytes (record_kind rest))) Taken.Rejected ≡ Taken.Rejected
+    neither : (t : Bool) → cond (not t && false) (Some (record_bytes (record_kind rest))) None ≡ None
     neither true = refl
     neither false = refl
 
 -- Steps with an info read among them are rejected, so that it does not matter whether they are left out before.
-info-among : (ss : List Step) (list : List ℕ) → any_step info_step ss ≡ true → steps_take ss list ≡ Taken.Rejected
+info-among : (ss : List Step) (list : List ℕ) → any_step info_step ss ≡ true → steps_take ss list ≡ None
 unfolding any_step info_step steps_take and_then further
 info-among [] list e = let z : ◌≡◌ {A = ℕ} 0 1 = cc in absurd (omega arith)
 info-among (s ∷ ss) list e = go (is_info s.kind) refl (info-among ss) e
   where
-    behind : (t : Taken) → ((k : ℕ) → steps_take ss (drop k list) ≡ Taken.Rejected)
-        → and_then t (λ k. steps_take ss (drop k list)) ≡ Taken.Rejected
-    behind Taken.Rejected h = refl
-    behind (Taken.Bytes k) h = rw (h k)
+    behind : (t : Option ℕ) → ((k : ℕ) → steps_take ss (drop k list) ≡ None)
+        → and_then t (λ k. steps_take ss (drop k list)) ≡ None
+    behind None h = refl
+    behind (Some k) h = rw (h k)
 
-    go : (i : Bool) → is_info s.kind ≡ i → ((rest : List ℕ) → any_step info_step ss ≡ true → steps_take ss rest ≡ Taken.Rejected)
-        → (i || any_step info_step ss) ≡ true → and_then (step_takes s list) (λ k. steps_take ss (drop k list)) ≡ Taken.Rejected
+    go : (i : Bool) → is_info s.kind ≡ i → ((rest : List ℕ) → any_step info_step ss ≡ true → steps_take ss rest ≡ None)
+        → (i || any_step info_step ss) ≡ true → and_then (step_takes s list) (λ k. steps_take ss (drop k list)) ≡ None
     go true i more e = rw (info-step s list i)
     go false i more e = behind (step_takes s list) (λ k. more (drop k list) e)
 
@@ -74,7 +74,7 @@ plain-takes (steps ss) list = go (any_step info_step ss) refl
     go false i = refl
 
 info-elements : (k : Kind) (s : Space) (n a d : ℕ) (bytes list : List ℕ) → is_info k ≡ true → 1 ≤ n
-    → steps_take (elements k s n a d bytes) list ≡ Taken.Rejected
+    → steps_take (elements k s n a d bytes) list ≡ None
 unfolding elements
 info-elements k s zero a d bytes list e l = absurd (omega arith)
 info-elements k s (suc n) a d bytes list e l = first-rejected _ _ list (info-step _ list e)
@@ -86,7 +86,7 @@ used_inside k s zero a d bytes l e = absurd (omega arith)
 used_inside k s (suc n) a d bytes l e = let h = last-inside k s n a d bytes e in omega arith
 
 module _ {p : Pointers} {open? : Bool} {reply : ℕ} {f : Fields} {rest : List ℕ} (c : Passed p open? reply f rest) where
-  pub info-rejected : (list : List ℕ) → is_info (kind_of f) ≡ true → Taken.Rejected ≡ steps_take (steps_at p f rest) list
+  pub info-rejected : (list : List ℕ) → is_info (kind_of f) ≡ true → None ≡ steps_take (steps_at p f rest) list
   unfolding steps_at
   info-rejected list e = sym (info-elements _ _ _ _ _ _ list e c.some)
 
@@ -104,7 +104,7 @@ module _ {p : Pointers} {open? : Bool} {reply : ℕ} {f : Fields} {rest : List �
 
   -- what the code says of the elements, handed the bytes behind the header
   pub plain-taken : (list : List ℕ) → is_info (kind_of f) ≡ false → (used h : ℕ) → used ≡ address_used p f rest → h ≡ header_bytes f
-      → (t : Taken)
+      → (t : Option ℕ)
       → t
       ≡ steps_take
       (elements (kind_of f) (space_of f.space) f.count used (stride f) (take (length rest - h) (drop h rest)))

@@ -16,7 +16,7 @@ use Rattle.packet.proofs.ElementLaws.{write-kind, row_le}
 use Rattle.packet.proofs.CommandLaws.{stride_le}
 use Rattle.packet.proofs.SliceLaws.{tail-whole}
 use Rattle.tight.specs.Inside.{element_step, step_takes, steps_take}
-use Rattle.tight.specs.declared.walk.Taken.{Taken}
+use Rattle.std.proofs.Common.{Option, Some, None}
 use Rattle.tight.proofs.TakeLaws.{Taking, taking-first, taking-last, taking-rejected, taking-next}
 
 plain-kind : (f : Fields) → is_info (kind_of f) ≡ false → kind_of f ≡ pick_kind f.write
@@ -61,7 +61,7 @@ module _ {f : Fields} {used : ℕ} {bytes list : List ℕ} {step element taken a
   step_small = rw e.step_is (omega (arith, stride_le f, row_le f))
 
   pub elements-last : f.count ≤ i
-      → Taken.Bytes taken ≡ steps_take (elements (kind_of f) (space_of f.space) f.count used (stride f) bytes) list
+      → Some taken ≡ steps_take (elements (kind_of f) (space_of f.space) f.count used (stride f) bytes) list
   unfolding elements
   elements-last h =
       let z : f.count - i ≡ 0 = omega arith in
@@ -91,18 +91,18 @@ module _ {f : Fields} {used : ℕ} {bytes list : List ℕ} {step element taken a
         rw (e.element-is, ← drop-drop (carried (pick_kind f.write) (space_of f.space)) at bytes) (rw one_more_lem at e.taking)
 
     -- what the code says of the element, handed the tails of the command and of the list
-    module _ (next : Taken)
+    module _ (next : Option ℕ)
         (q : next
         ≡ step_takes (element_step f.write f.space address (take (length bytes - at) (drop at bytes)))
         (take (length list - taken) (drop taken list))) where
       answer : step_takes (element_step f.write f.space address (drop at bytes)) (drop taken list) ≡ next
       answer = rw (tail-whole at bytes, tail-whole taken list) at (sym q)
 
-      pub elements-rejected : next ≡ Taken.Rejected
-          → Taken.Rejected ≡ steps_take (elements (kind_of f) (space_of f.space) f.count used (stride f) bytes) list
+      pub elements-rejected : next ≡ None
+          → None ≡ steps_take (elements (kind_of f) (space_of f.space) f.count used (stride f) bytes) list
       elements-rejected r = sym (taking-rejected now-taking (answer ∙ r)) ∙ ap (λ ss. steps_take ss list) whole_is
 
-      pub elements-next : (n : ℕ) → next ≡ Taken.Bytes n
+      pub elements-next : (n : ℕ) → next ≡ Some n
           → Elements f used bytes list step element (taken + n) (address + step) (at + element) (i + 1)
       elements-next n r =
           let s = step_small in

@@ -14,18 +14,18 @@ use Rattle.cue.proofs.PackingLaws.{record_bytes_le}
 use Rattle.cue.proofs.WalkLaws.{Remains, remains-all, remains-none, Next, remains-next}
 use Rattle.tight.specs.Tight.{unlocks, without_unlocks, same_step, same_steps}
 use Rattle.tight.specs.Inside.{step_takes, further, and_then, steps_take}
-use Rattle.tight.specs.declared.walk.Taken.{Taken}
+use Rattle.std.proofs.Common.{Option, Some, None}
 use Rattle.tight.proofs.TakeLaws.{further-none}
 
 -- whether all of so many bytes are taken
-unfoldable pub takes_all : Taken → ℕ → Bool
-takes_all Taken.Rejected n = false
-takes_all (Taken.Bytes k) n = eqb k n
+unfoldable pub takes_all : Option ℕ → ℕ → Bool
+takes_all None n = false
+takes_all (Some k) n = eqb k n
 
-all-further : (k n : ℕ) (t : Taken) → k ≤ n → takes_all (further k t) n ≡ takes_all t (n - k)
+all-further : (k n : ℕ) (t : Option ℕ) → k ≤ n → takes_all (further k t) n ≡ takes_all t (n - k)
 unfolding takes_all further
-all-further k n Taken.Rejected l = refl
-all-further k n (Taken.Bytes j) l = go (eqb j (n - k)) refl
+all-further k n None l = refl
+all-further k n (Some j) l = go (eqb j (n - k)) refl
   where
     go : (t : Bool) → eqb j (n - k) ≡ t → eqb (k + j) n ≡ t
     go true e = let q = eqb-true j (n - k) e in eq-eqb (k + j) n (omega arith)
@@ -33,12 +33,12 @@ all-further k n (Taken.Bytes j) l = go (eqb j (n - k)) refl
 
 -- a step that is no unlock write, at the list's end and at a record
 module _ (s : Step) (plain : unlocks s ≡ false) where
-  step_end : step_takes s [] ≡ Taken.Rejected
+  step_end : step_takes s [] ≡ None
   unfolding step_takes
   step_end = rw (plain, lt-ltb 0 (record_bytes (record_kind [])) (omega (arith, record_bytes_le (record_kind []))))
 
   step-front : (rest : List ℕ) → record_bytes (record_kind rest) ≤ length rest
-      → step_takes s rest ≡ cond (same_step s (record_step rest)) (Taken.Bytes (record_bytes (record_kind rest))) Taken.Rejected
+      → step_takes s rest ≡ cond (same_step s (record_step rest)) (Some (record_bytes (record_kind rest))) None
   unfolding step_takes
   step-front rest h = rw (plain, le-ltb (length rest) (record_bytes (record_kind rest)) h)
 
@@ -87,7 +87,7 @@ module _ (s : Step) (ss : List Step) (later : Same ss) where
 
       go : (t : Bool)
           → (t && same_steps (without_unlocks ss) next.later)
-          ≡ takes_all (and_then (cond t (Taken.Bytes n) Taken.Rejected) (λ k. steps_take ss (drop k rest))) (length rest)
+          ≡ takes_all (and_then (cond t (Some n) None) (λ k. steps_take ss (drop k rest))) (length rest)
       go true = on
       go false = refl
 

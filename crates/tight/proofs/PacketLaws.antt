@@ -23,14 +23,14 @@ use Rattle.packet.proofs.LoopLaws.{At, at-begin, at-end, at-accepted, at-passed,
 use Rattle.card.specs.Inside.{LetPass}
 use Rattle.tight.specs.Tight.{none, done_by, packet_does}
 use Rattle.tight.specs.Inside.{unset, from_unset, further, steps_take, doing_takes, packet_takes}
-use Rattle.tight.specs.declared.walk.Taken.{Taken}
+use Rattle.std.proofs.Common.{Option, Some, None}
 use Rattle.tight.proofs.PointerLaws.{does-is}
 use Rattle.tight.proofs.TakeLaws.{append-rejected, append-taken, steps-within}
 use Rattle.tight.proofs.CommandLaws.{plain-takes}
 
 -- Once the steps so far are rejected, so is the packet, whatever follows.
-rejected-on : (fuel : ℕ) (c : Carried) (rest list : List ℕ) → steps_take c.steps list ≡ Taken.Rejected
-    → doing_takes (done_by (judge_from fuel c rest)) list ≡ Taken.Rejected
+rejected-on : (fuel : ℕ) (c : Carried) (rest list : List ℕ) → steps_take c.steps list ≡ None
+    → doing_takes (done_by (judge_from fuel c rest)) list ≡ None
 unfolding judge_from done_by doing_takes carry
 rejected-on zero c rest list e = e
 rejected-on (suc fuel) c [] list e = e
@@ -39,8 +39,8 @@ rejected-on (suc fuel) c (b ∷ bs) list e =
     (rejected-on fuel (carry c (b ∷ bs)) (drop (command_bytes (fields_at (b ∷ bs))) (b ∷ bs)) list
     (append-rejected c.steps (steps_at c.pointers (fields_at (b ∷ bs)) (b ∷ bs)) list e))
   where
-    go : (w : Answer) (v : Verdict) → doing_takes (done_by v) list ≡ Taken.Rejected
-        → doing_takes (done_by (verdict_at w v)) list ≡ Taken.Rejected
+    go : (w : Answer) (v : Verdict) → doing_takes (done_by v) list ≡ None
+        → doing_takes (done_by (verdict_at w v)) list ≡ None
     go (Answer.accepted values) v h = h
     go (Answer.refused n place) v h = refl
 
@@ -51,7 +51,7 @@ refused_none (refused m i) n place e = refl
 refused_none (accepted c) n place e = let z : ◌≡◌ {A = ℕ} 0 1 = cc in absurd (omega arith)
 
 -- a packet that is too long, and one that is not
-pub packet-long : (packet list : List ℕ) → limit < length packet → Taken.Rejected ≡ packet_takes packet list
+pub packet-long : (packet list : List ℕ) → limit < length packet → None ≡ packet_takes packet list
 unfolding packet_takes packet_does doing_takes
 packet-long packet list h = rw (lt-ltb limit (length packet) h)
 
@@ -60,7 +60,7 @@ module _ (packet list : List ℕ) (short : length packet ≤ limit) (p : Pointer
   unfolding packet_takes from_unset
   packet-short = rw (does-is packet, le-ltb limit (length packet) short, e) (plain-takes (done_by (judge unset packet)) list)
 
-  pub packet-refused : (n place : ℕ) → Answer.refused n place ≡ answer_to (judge p packet) → Taken.Rejected ≡ packet_takes packet list
+  pub packet-refused : (n place : ℕ) → Answer.refused n place ≡ answer_to (judge p packet) → None ≡ packet_takes packet list
   unfolding doing_takes
   packet-refused n place r = sym (packet-short ∙ rw (refused_none _ n place r) refl)
 
@@ -73,7 +73,7 @@ pub record Going (p : Pointers) (packet list : List ℕ) (pointers : Pointers) (
   place : ℕ
   at : At p packet c g place rest
   pointed : pointers ≡ c.pointers
-  taken_is : steps_take c.steps list ≡ Taken.Bytes taken
+  taken_is : steps_take c.steps list ≡ Some taken
 
 pub going-first : (p : Pointers) (packet list : List ℕ) → (c : Carried) × (judge p packet ≡ accepted c)
     → Going p packet list p packet 0
@@ -95,7 +95,7 @@ module _ {p : Pointers} {packet list : List ℕ} {pointers : Pointers} {rest : L
   pub taken-within : taken ≤ length list
   taken-within = steps-within _ list taken s.taken_is
 
-  pub going-last : length rest ≡ 0 → Taken.Bytes taken ≡ doing_takes (done_by (judge p packet)) list
+  pub going-last : length rest ≡ 0 → Some taken ≡ doing_takes (done_by (judge p packet)) list
   unfolding done_by doing_takes
   going-last e = sym (rw (at-end rest s.at e) s.taken_is)
 
@@ -121,7 +121,7 @@ module _ {p : Pointers} {packet list : List ℕ} {pointers : Pointers} {rest : L
   passed_here = rw (h.read, s.pointed) (record { open? = _; reply = _; passed = pass })
 
   -- the bytes that the command takes, behind those taken
-  module _ (next : Taken) (q : next ≡ steps_take (steps_at pointers f rest) (take (length list - taken) (drop taken list))) where
+  module _ (next : Option ℕ) (q : next ≡ steps_take (steps_at pointers f rest) (take (length list - taken) (drop taken list))) where
     steps-here : steps_take (carry s.c rest).steps list ≡ further taken next
     unfolding carry
     steps-here =
@@ -129,7 +129,7 @@ module _ {p : Pointers} {packet list : List ℕ} {pointers : Pointers} {rest : L
         let t : next ≡ steps_take steps (drop taken list) = rw (tail-whole, h.read, s.pointed) at q in
         append-taken s.c.steps steps list taken s.taken_is ∙ ap (further taken) (sym t)
 
-    pub going-rejected : next ≡ Taken.Rejected → Taken.Rejected ≡ doing_takes (done_by (judge p packet)) list
+    pub going-rejected : next ≡ None → None ≡ doing_takes (done_by (judge p packet)) list
     unfolding further
     going-rejected r =
         let a = at_next rest s.at h.more none-refuses in
@@ -137,7 +137,7 @@ module _ {p : Pointers} {packet list : List ℕ} {pointers : Pointers} {rest : L
         (ap (λ v. doing_takes (done_by v) list) a.same
         ∙ rejected-on a.fuel (carry s.c rest) _ list (steps-here ∙ ap (further taken) r))
 
-    pub more_within : (j : ℕ) → next ≡ Taken.Bytes j → taken + j ≤ length list
+    pub more_within : (j : ℕ) → next ≡ Some j → taken + j ≤ length list
     unfolding further
     more_within j r = steps-within (carry s.c rest).steps list (taken + j) (steps-here ∙ ap (further taken) r)
 
@@ -152,9 +152,9 @@ module _ {p : Pointers} {packet list : List ℕ} {pointers : Pointers} {rest : L
     pub command-within : k ≤ length rest
     command-within = turn.whole
 
-    pub going_next : (next : Taken)
+    pub going_next : (next : Option ℕ)
         → next ≡ steps_take (steps_at pointers f rest) (take (length list - taken) (drop taken list))
-        → (j : ℕ) → next ≡ Taken.Bytes j → (used : ℕ) → used ≡ address_used pointers f rest → (after : Pointers)
+        → (j : ℕ) → next ≡ Some j → (used : ℕ) → used ≡ address_used pointers f rest → (after : Pointers)
         → after ≡ with_pointer pointers (is_info (kind_of f)) (space_of f.space) (advanced used (f.count * stride f))
         → Going p packet list after (take (length rest - k) (drop k rest)) (taken + j)
     unfolding further carry pointers_after

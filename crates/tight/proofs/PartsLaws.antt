@@ -20,7 +20,7 @@ use Rattle.tight.specs.Tight.{Doing, none, steps, both, packet_does, packets_do}
 use Rattle.tight.specs.Tight.{Checked, accepted, rejected, steps_checked, frames_checked}
 use Rattle.tight.specs.Inside.{further, steps_take, doing_takes, packet_takes}
 use Rattle.tight.specs.Inside
-use Rattle.tight.specs.declared.walk.Taken.{Taken}
+use Rattle.std.proofs.Common.{Option, Some, None}
 use Rattle.tight.proofs.TakeLaws.{append-rejected, append-taken, steps-within}
 use Rattle.tight.proofs.ListLaws.{takes_all, steps-taken}
 
@@ -61,7 +61,7 @@ from-none ss n p (frames ps) xs e = rw e
 
 -- Once the steps are rejected, so is the proposal, whatever follows.
 module _ (list : List ℕ) (xs : List Step) (l : records_of list ≡ records xs) where
-  from-rejected : (ss : List Step) (n : ℕ) (a : Apart) → steps_take ss list ≡ Taken.Rejected → checked_from ss n a xs ≡ rejected
+  from-rejected : (ss : List Step) (n : ℕ) (a : Apart) → steps_take ss list ≡ None → checked_from ss n a xs ≡ rejected
   unfolding checked_from both steps_checked takes_all
   from-rejected ss n unsound e = refl
   from-rejected ss n (frames ps) e = go (packets_do ps)
@@ -70,7 +70,7 @@ module _ (list : List ℕ) (xs : List Step) (l : records_of list ≡ records xs)
       go none = refl
       go (steps ts) = rw (steps-taken list xs l (ss ++ ts), append-rejected ss ts list e)
 
-  from_last : (ss : List Step) (n taken : ℕ) → steps_take ss list ≡ Taken.Bytes taken
+  from_last : (ss : List Step) (n taken : ℕ) → steps_take ss list ≡ Some taken
       → checked_from ss n (frames []) xs ≡ cond (eqb taken (length list)) (accepted n) rejected
   unfolding checked_from both packets_do steps_checked takes_all
   from_last ss n taken e =
@@ -99,7 +99,7 @@ apart-end zero rest e = refl
 apart-end (suc fuel) rest e = rw (← front-end rest e)
 
 apart-unsound : (fuel : ℕ) (rest : List ℕ) (f : Front) → (length rest ≡ 0 → ⊥) → f ≡ front_of rest
-    → Inside.frame_takes f ≡ Taken.Rejected → apart_from (suc fuel) rest ≡ unsound
+    → Inside.frame_takes f ≡ None → apart_from (suc fuel) rest ≡ unsound
 unfolding apart_from with_front Inside.frame_takes
 apart-unsound fuel rest Front.end h e p = absurd (h (end-length rest e))
 apart-unsound fuel rest Front.cut h e p = rw (← e)
@@ -110,7 +110,7 @@ apart-unsound fuel rest (Front.frame n) h e p = let z : ◌≡◌ {A = ℕ} 0 1 
 pub frame-listed : (p q : Frame) (f : Front) → frame_listed p ≡ f → p ≡ q → Inside.frame_takes (frame_listed q) ≡ Inside.frame_takes f
 frame-listed p q f e r = ap Inside.frame_takes (ap frame_listed (sym r) ∙ e)
 
-front-frame : (f : Front) (n : ℕ) → Inside.frame_takes f ≡ Taken.Bytes n → Front.frame n ≡ f
+front-frame : (f : Front) (n : ℕ) → Inside.frame_takes f ≡ Some n → Front.frame n ≡ f
 unfolding Inside.frame_takes
 front-frame Front.end n e = let z : ◌≡◌ {A = ℕ} 0 1 = cc in absurd (omega arith)
 front-frame Front.cut n e = let z : ◌≡◌ {A = ℕ} 0 1 = cc in absurd (omega arith)
@@ -128,7 +128,7 @@ pub record Parting (list proposal rest : List ℕ) (taken packets : ℕ) : Type 
   fuel : ℕ
   same : (xs : List Step) → frames_checked (apart proposal) xs ≡ checked_from ss packets (apart_from fuel rest) xs
   enough : length rest ≤ fuel
-  taken_is : steps_take ss list ≡ Taken.Bytes taken
+  taken_is : steps_take ss list ≡ Some taken
   pub few : packets + length rest ≤ length proposal
 
 pub parting_first : (list proposal : List ℕ) → Parting list proposal proposal 0 0
@@ -162,14 +162,14 @@ module _ {list proposal rest : List ℕ} {taken packets : ℕ} (s : Parting list
       ∙ from_last list xs l s.ss packets taken s.taken_is
 
   module _ (some : length rest ≡ 0 → ⊥) where
-    module _ (frame : Taken) (b : frame ≡ Inside.frame_takes (front_of rest)) where
-      pub parting_unsound : frame ≡ Taken.Rejected → (xs : List Step) → rejected ≡ frames_checked (apart proposal) xs
+    module _ (frame : Option ℕ) (b : frame ≡ Inside.frame_takes (front_of rest)) where
+      pub parting_unsound : frame ≡ None → (xs : List Step) → rejected ≡ frames_checked (apart proposal) xs
       unfolding checked_from
       parting_unsound p xs =
           let (k, q) = some-fuel some in
           sym (s.same xs ∙ rw (q, apart-unsound k rest _ some refl (sym b ∙ p)) refl)
 
-      pub front-is : (n : ℕ) → frame ≡ Taken.Bytes n → Front.frame n ≡ front_of rest
+      pub front-is : (n : ℕ) → frame ≡ Some n → Front.frame n ≡ front_of rest
       front-is n p = front-frame (front_of rest) n (sym b ∙ p)
 
     -- a whole frame of n bytes, and what its packet takes
@@ -177,7 +177,7 @@ module _ {list proposal rest : List ℕ} {taken packets : ℕ} (s : Parting list
       pub frame-within : 4 + n ≤ length rest
       frame-within = (whole-frame rest n e).within
 
-      module _ (next : Taken)
+      module _ (next : Option ℕ)
           (q : next ≡ packet_takes (take (4 + n - 4) (drop 4 rest)) (take (length list - taken) (drop taken list))) where
         takes : doing_takes (packet_does (bytes_in_frame n rest)) (drop taken list) ≡ next
         unfolding packet_takes bytes_in_frame
@@ -188,14 +188,14 @@ module _ {list proposal rest : List ℕ} {taken packets : ℕ} (s : Parting list
             ≡ checked_from s.ss packets (with_frame (bytes_in_frame n rest) (apart_from k (behind_frame n rest))) xs
         checked-here k f xs = s.same xs ∙ rw (f, apart-frame rest n e k) refl
 
-        pub parting_rejected : next ≡ Taken.Rejected → (xs : List Step) → records_of list ≡ records xs
+        pub parting_rejected : next ≡ None → (xs : List Step) → records_of list ≡ records xs
             → rejected ≡ frames_checked (apart proposal) xs
         unfolding doing_takes further
         parting_rejected r xs l =
             let (k, f) = some-fuel some in
             sym (checked-here k f xs ∙ go (apart_from k (behind_frame n rest)) (packet_does (bytes_in_frame n rest)) refl (takes ∙ r))
           where
-            go : (a : Apart) (d : Doing) → packet_does (bytes_in_frame n rest) ≡ d → doing_takes d (drop taken list) ≡ Taken.Rejected
+            go : (a : Apart) (d : Doing) → packet_does (bytes_in_frame n rest) ≡ d → doing_takes d (drop taken list) ≡ None
                 → checked_from s.ss packets (with_frame (bytes_in_frame n rest) a) xs ≡ rejected
             go a none p t = from-none s.ss packets (bytes_in_frame n rest) a xs p
             go a (steps ts) p t =
@@ -203,12 +203,12 @@ module _ {list proposal rest : List ℕ} {taken packets : ℕ} (s : Parting list
                 ∙ from-rejected list xs l (s.ss ++ ts) (packets + 1) a
                 (append-taken s.ss ts list taken s.taken_is ∙ ap (further taken) t)
 
-        pub parting_next : (j : ℕ) → next ≡ Taken.Bytes j
+        pub parting_next : (j : ℕ) → next ≡ Some j
             → Parting list proposal (take (length rest - (4 + n)) (drop (4 + n) rest)) (taken + j) (packets + 1)
         unfolding doing_takes further behind_frame
         parting_next j r = rw tail-whole (go (packet_does (bytes_in_frame n rest)) refl (takes ∙ r))
           where
-            go : (d : Doing) → packet_does (bytes_in_frame n rest) ≡ d → doing_takes d (drop taken list) ≡ Taken.Bytes j
+            go : (d : Doing) → packet_does (bytes_in_frame n rest) ≡ d → doing_takes d (drop taken list) ≡ Some j
                 → Parting list proposal (drop (4 + n) rest) (taken + j) (packets + 1)
             go none p t = let z : ◌≡◌ {A = ℕ} 0 1 = cc in absurd (omega arith)
             go (steps ts) p t =

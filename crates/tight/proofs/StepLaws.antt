@@ -22,7 +22,7 @@ use Rattle.cue.specs.declared.records.Record.{Record}
 use Rattle.lbp16.proofs.CaseLaws.{space-cases}
 use Rattle.tight.specs.Tight.{unlocks, same_kind, same_step}
 use Rattle.tight.specs.Inside.{element_step, step_takes}
-use Rattle.tight.specs.declared.walk.Taken.{Taken}
+use Rattle.std.proofs.Common.{Some, None}
 
 pub unlocks-is : (w : Bool) (space address pair : ℕ) (bytes : List ℕ) → pair ≡ number (take 2 (drop 0 bytes))
     → (w && eqb space 6 && eqb address 0x1A && eqb pair 0x5A02) ≡ unlocks (element_step w space address bytes)
@@ -131,7 +131,7 @@ module _ (n a space address : ℕ) (bytes value : List ℕ) (present : is_absent
   same_step_lem true false = refl
   same_step_lem false true = refl
 
-pub element-unlocks : (x : Step) (rest : List ℕ) → unlocks x ≡ true → Taken.Bytes 0 ≡ step_takes x rest
+pub element-unlocks : (x : Step) (rest : List ℕ) → unlocks x ≡ true → Some 0 ≡ step_takes x rest
 unfolding step_takes
 element-unlocks x rest e = rw e
 
@@ -151,23 +151,23 @@ module _ {w : Bool} {space address : ℕ} {bytes rest : List ℕ} {r : Record} {
   taken_is : step_takes (element_step w space address bytes) rest
       ≡ cond (not (ltb (length rest) n)
       && (not (differs r w space address) && same_bytes (front w space bytes) (front w space (drop 6 rest))))
-      (Taken.Bytes n)
-      Taken.Rejected
+      (Some n)
+      None
   unfolding step_takes record_step record_at record_kind record_space bytes_of_value
   taken_is =
       rw (c.plain, bytes-is, c.read)
       (ap
-      (λ t. cond (not (ltb (length rest) (record_bytes (record_kind rest))) && t) (Taken.Bytes (record_bytes (record_kind rest)))
-      Taken.Rejected)
+      (λ t. cond (not (ltb (length rest) (record_bytes (record_kind rest))) && t) (Some (record_bytes (record_kind rest)))
+      None)
       (same_step_lem (record_at rest).space (record_at rest).address space address bytes (drop 6 rest) c.present
       (record_at rest).write
       w))
 
-  pub element-short : length rest < n → Taken.Rejected ≡ step_takes (element_step w space address bytes) rest
+  pub element-short : length rest < n → None ≡ step_takes (element_step w space address bytes) rest
   element-short h = rw (taken_is, lt-ltb (length rest) n h)
 
   module _ (whole : n ≤ length rest) where
-    pub element-other : differs r w space address ≡ true → Taken.Rejected ≡ step_takes (element_step w space address bytes) rest
+    pub element-other : differs r w space address ≡ true → None ≡ step_takes (element_step w space address bytes) rest
     element-other h = rw (taken_is, le-ltb (length rest) n whole, h)
 
     module _ (alike : differs r w space address ≡ false) where
@@ -188,7 +188,7 @@ module _ {w : Bool} {space address : ℕ} {bytes rest : List ℕ} {r : Record} {
 
       pub element-taken : (m : ℕ) → m ≡ carried (pick_kind w) (space_of space) → (t : Bool) {u : Bool}
           → u ≡ same_bytes (take m bytes) (take (6 + m - 6) (drop 6 rest)) → u ≡ t
-          → cond t (Taken.Bytes n) Taken.Rejected ≡ step_takes (element_step w space address bytes) rest
+          → cond t (Some n) None ≡ step_takes (element_step w space address bytes) rest
       element-taken m e t s f =
           let d : 6 + m - 6 ≡ m = omega arith in
           let q : t ≡ same_bytes (front w space bytes) (front w space (drop 6 rest)) = sym f ∙ s ∙ rw (d, e) refl in

@@ -1,7 +1,8 @@
 -- A proposed output for a cue list, and when it is accepted.
-use Rattle.std.specs.Prelude.{ℕ, List, [], ◌∷◌, ◌++◌, Bool, true, false, ◌&&◌, ◌||◌, cond, length, eqb, ltb}
+use Rattle.std.specs.Prelude.{ℕ, List, [], ◌∷◌, ◌++◌, Bool, true, false, ◌&&◌, ◌||◌, cond, length, eqb, ltb, Result, Ok, Err}
 use Rattle.std.specs.Bool.{beq}
 use Rattle.text.specs.Find.{same_bytes}
+use Rattle.lbp16.specs.Answer.{rule_number}
 use Rattle.lbp16.specs.Space.{space_number}
 use Rattle.lbp16.specs.Pointer.{fresh}
 use Rattle.packet.specs.Bytes.{number}
@@ -15,7 +16,7 @@ use Rattle.cue.specs.Records
 use Rattle.cue.specs.Output.{Apart, unsound, frames, apart}
 use Rattle.cue.specs.Compile.{output}
 use Rattle.tight.specs.Unset.{uses_unset}
-use Rattle.tight.specs.declared.TightAnswer.{TightAnswer}
+use Rattle.tight.specs.declared.Fault.{Fault}
 
 -- The steps of a packet that is let through; `none` of any other packet.
 pub data Doing : Type 0 where
@@ -99,7 +100,7 @@ unfoldable pub checked : List ℕ → List ℕ → Checked
 checked list proposal = proposal_checked (records_of list) proposal
 
 -- the checker's answer: its values, for each case
-unfoldable pub check_listed : TightAnswer → Checked
-check_listed (TightAnswer.Accepted n) = accepted n
-check_listed TightAnswer.Rejected = rejected
-check_listed (TightAnswer.Refused r) = refused r.number r.place
+unfoldable pub check_listed : Result ℕ Fault → Checked
+check_listed (Ok n) = accepted n
+check_listed (Err Fault.Rejected) = rejected
+check_listed (Err (Fault.List r)) = refused (rule_number r.rule) r.place

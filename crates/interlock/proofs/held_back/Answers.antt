@@ -1,14 +1,16 @@
-use mathlib.Core.Path.{sym, ap, ◌∙◌}
+use mathlib.Core.Path.{sym, ◌∙◌}
+use Rattle.std.proofs.lemmas.Result.{err_from_is_err_and}
 use Rattle.packet.specs.Verdict.{verdict_listed}
 use Rattle.interlock.proofs.GuardedLaws.{stays, replaced}
 use Rattle.interlock.proofs.held_back.Goals as goal
 
-pub returns-in_default : goal.returns-in_default
+pub returns-in_err-check_lent : goal.returns-in_err-check_lent
 unfolding verdict_listed
-returns-in_default c = let e = c.check_lent-answer.ensures in
-    e ∙ stays _ _ _ _ (sym e ∙ ap verdict_listed c.in_default.is)
+returns-in_err-check_lent c =
+    let p = err_from_is_err_and c.from_residual.result c.from_residual.ensures.1 in
+    let e = c.in_err-check_lent.ensures in
+    rw (p.1, p.2) (e ∙ stays _ _ _ _ (sym e))
 
 pub returns : goal.returns
 unfolding verdict_listed
-returns c = let e = c.check_lent-answer.ensures in
-    c.refused.ensures ∙ replaced _ _ _ (ap verdict_listed (sym c.in-Accepted.is) ∙ e)
+returns c = rw c.at.ensures (replaced _ _ _ c.in_ok-check_lent.ensures)

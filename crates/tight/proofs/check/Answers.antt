@@ -1,36 +1,30 @@
-use Prim.Native.Nat.{ℕ}
 use mathlib.Core.Path.{◌≡◌, sym, ◌∙◌}
-use mathlib.Core.List.{List}
-use Rattle.tight.specs.Tight.{accepted, checked, check_listed}
-use Rattle.tight.specs.Demand3.{TightDemand3}
-use Rattle.tight.specs.declared.TightAnswer.{TightAnswer}
+use Rattle.std.proofs.Common.{Err}
+use Rattle.std.proofs.lemmas.Result.{err_from_is_err_and}
+use Rattle.tight.specs.Tight.{checked, check_listed}
+use Rattle.tight.specs.declared.Fault.{Fault}
 use Rattle.tight.proofs.Demand3Laws.{tight_demand3}
-use Rattle.tight.proofs.AnswerLaws.{list-refused, too_long, gone_through}
+use Rattle.tight.proofs.AnswerLaws.{missing-rejected, list-refused, too_long, gone_through}
 use Rattle.tight.proofs.check.Goals as goal
 
--- a lemma's facts, as the clauses have names
-named2 : {A B R : Type 0} → (A → B → R) → A × B → R
-named2 f h = f h.0 h.1
-
--- demand 3 of an answer that is the checker's
-
-both : (list proposal : List ℕ) (t : TightAnswer) → check_listed t ≡ checked list proposal
-    → (check_listed t ≡ checked list proposal)
-    × ((count : ℕ) → check_listed t ≡ accepted count → TightDemand3 list proposal count)
-both list proposal t e = (e, λ count a. tight_demand3 list proposal count (sym e ∙ a))
-
-pub returns-then-bytes-proposal : goal.returns-then-bytes-proposal
+pub returns-then-packed-proposal : goal.returns-then-packed-proposal
 unfolding check_listed
-returns-then-bytes-proposal c =
-    named2 (λ h0 h1. record { checked = h0; demand3 = h1 })
-    (both _ _ TightAnswer.Rejected (too_long _ _ _ c.plan-answer.ensures _ _ c.in-Compiled.is c.if-bytes-proposal.true))
+returns-then-packed-proposal c =
+    let e : check_listed (Err Fault.Rejected) ≡ checked c.args.list.now c.args.proposal.now =
+    too_long _ _ _ c.plan.ensures _ c.in_ok-packed.was c.if-packed-proposal.true in
+    record { checked = e; demand3 = λ count a. tight_demand3 _ _ count (sym e ∙ a) }
 
-pub returns-in-Refused : goal.returns-in-Refused
+pub returns-in_err-packed : goal.returns-in_err-packed
 unfolding check_listed
-returns-in-Refused c = named2 (λ h0 h1. record { checked = h0; demand3 = h1 }) (both _ _ (TightAnswer.Refused c.in-Refused.r)
-    (list-refused _ _ _ c.plan-answer.ensures _ c.in-Refused.is))
+returns-in_err-packed c =
+    let p = err_from_is_err_and c.from_residual.result c.from_residual.ensures.1 in
+    let e : check_listed (Err (Fault.List c.in_err-packed.field-0.0)) ≡ checked c.args.list.now c.args.proposal.now =
+    list-refused _ _ _ c.plan.ensures _ c.in_err-packed.was in
+    rw (p.1, p.2) (record { checked = e; demand3 = λ count a. tight_demand3 _ _ count (sym e ∙ a) })
 
-pub returns-else-bytes-proposal : goal.returns-else-bytes-proposal
-returns-else-bytes-proposal c = named2 (λ h0 h1. record { checked = h0; demand3 = h1 }) (both _ _ _
-    (gone_through _ _ _ c.plan-answer.ensures _ _ c.in-Compiled.is c.if-bytes-proposal.false _
-    c.packets_checked.ensures))
+pub returns : goal.returns
+returns c =
+    let e : check_listed c.ok_or.result ≡ checked c.args.list.now c.args.proposal.now =
+    rw c.ok_or.ensures.value (missing-rejected _
+    ∙ gone_through _ _ _ c.plan.ensures _ c.in_ok-packed.was c.if-packed-proposal.false _ c.packets_checked.ensures) in
+    record { checked = e; demand3 = λ count a. tight_demand3 _ _ count (sym e ∙ a) }

@@ -1,30 +1,22 @@
 use mathlib.Core.Path.{refl}
 use Rattle.capture.specs.Datagram.{data_of}
-use Rattle.capture.proofs.WriteLaws.{part-request, part-reply, part_none}
+use Rattle.capture.specs.Inside.{part_at, part_of, number_part}
 use Rattle.capture.proofs.write.put.Goals as goal
 
-pub returns-then-write-t : goal.returns-then-write-t
-unfolding data_of
-returns-then-write-t c = let a = c.args in
-    let q = part-request a.write a.p a.t a.d a.frame.now a.k c.if-write-t.true in
-    record {
-      out_after = rw (q.0, q.1) c.put_request.ensures;
-      numbers_after = rw q.2 c.put_number.ensures;
-    }
+pub returns-then-not-write : goal.returns-then-not-write
+unfolding part_of number_part
+returns-then-not-write c = rw c.if-not-write.true (record { out_after = refl; numbers_after = refl })
 
-pub returns-then-write-t-2 : goal.returns-then-write-t-2
-unfolding data_of
-returns-then-write-t-2 c = let a = c.args in
-    let q = part-reply a.write a.p a.t a.d a.frame.now a.k c.if-write-t.false c.if-write-t-2.true in
-    record {
-      out_after = rw (q.0, q.1) c.put_framed.ensures;
-      numbers_after = rw q.2 refl;
-    }
+pub returns-in-Other : goal.returns-in-Other
+unfolding part_of number_part
+returns-in-Other c = rw (c.if-not-write.false, c.in-Other.is) (record { out_after = refl; numbers_after = refl })
 
-pub returns-else-write-t-2 : goal.returns-else-write-t-2
-returns-else-write-t-2 c = let a = c.args in
-    let q = part_none a.write a.t a.d a.frame.now a.k c.if-write-t.false c.if-write-t-2.false in
-    record {
-      out_after = rw q.0 refl;
-      numbers_after = rw q.1 refl;
-    }
+pub returns-in-Request : goal.returns-in-Request
+unfolding data_of part_at part_of number_part
+returns-in-Request c =
+    rw (c.if-not-write.false, c.in-Request.is) (record { out_after = c.put_request.ensures; numbers_after = c.put_number.ensures })
+
+pub returns-in-Reply : goal.returns-in-Reply
+unfolding data_of part_at part_of number_part
+returns-in-Reply c =
+    rw (c.if-not-write.false, c.in-Reply.is) (record { out_after = c.put_framed.ensures; numbers_after = refl })

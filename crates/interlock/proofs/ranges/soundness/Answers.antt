@@ -12,9 +12,10 @@ unfolding soundness
 loop-rest-init c = (refl, omega arith)
 
 pub returns-then-at_fault : goal.returns-then-at_fault
-returns-then-at_fault c = c.refused.ensures
-    ∙ sound-fault _ _ c.loop-rest-test.true (sym c.at_fault.ensures ∙ c.if-at_fault.true)
-    ∙ sym c.loop-rest.invariant.0
+unfolding verdict_listed
+returns-then-at_fault c = rw c.at.ensures
+    (sound-fault _ _ c.loop-rest-test.true (sym c.at_fault.ensures ∙ c.if-at_fault.true)
+    ∙ sym c.loop-rest.invariant.0)
 
 pub slice_bounds-rest-count : goal.slice_bounds-rest-count
 slice_bounds-rest-count c = let at_past : Past c.loop-rest.index c.loop-rest.rest.now = sound-past _ _ (sym c.at_fault.ensures ∙ c.if-at_fault.false) in

@@ -8,15 +8,24 @@ pub loop-rest-init : goal.loop-rest-init
 loop-rest-init c = walk-begin _ _ _ _ c.from_lent-p.ensures
 
 pub returns-then-writes_protected : goal.returns-then-writes_protected
-returns-then-writes_protected c = λ l end a.
-    let told = c.writes_protected.ensures _ _ c.address-used.ensures in
-    walk-found c.loop-rest.invariant c.loop-rest-test.true _ c.fields_at-f.ensures end a (sym told ∙ c.if-writes_protected.true)
+returns-then-writes_protected c =
+    let some = c.loop-rest-test.true in
+    let left = c.loop-rest.invariant.left in
+    record {
+      place = λ l end a.
+          let told = c.writes_protected.ensures _ _ c.address-used.ensures in
+          walk-found c.loop-rest.invariant c.loop-rest-test.true _ c.fields_at-f.ensures end a (sym told ∙ c.if-writes_protected.true);
+      inside = omega arith;
+    }
 
 pub returns-then-rest-k : goal.returns-then-rest-k
-returns-then-rest-k c = λ l end a.
-    let whole = walk-whole c.loop-rest.invariant c.loop-rest-test.true _ c.fields_at-f.ensures end a _ c.whole-k.ensures in
-    let cut = c.if-rest-k.true in
-    absurd (omega arith)
+returns-then-rest-k c = record {
+  place = λ l end a.
+      let whole = walk-whole c.loop-rest.invariant c.loop-rest-test.true _ c.fields_at-f.ensures end a _ c.whole-k.ensures in
+      let cut = c.if-rest-k.true in
+      absurd (omega arith);
+  inside = tt;
+}
 
 pub loop-rest-smaller : goal.loop-rest-smaller
 loop-rest-smaller c = let two = some_bytes _ _ c.whole-k.ensures in
@@ -34,4 +43,4 @@ loop-rest-preserved c = let told = c.writes_protected.ensures _ _ c.address-used
     c.if-rest-k.false
 
 pub returns : goal.returns
-returns c = λ l. walk_end c.loop-rest.invariant (let none = c.loop-rest-test.false in omega arith)
+returns c = record { place = λ l. walk_end c.loop-rest.invariant (let none = c.loop-rest-test.false in omega arith); inside = tt }

@@ -1,5 +1,4 @@
 use Prim.Native.Nat.{◌≤◌}
-use mathlib.Core.Path.{◌∙◌}
 use native.Mathlib.Omega.{arith}
 use lib.ListN.{length, length-take, length-drop}
 use Rattle.packet.specs.Verdict.{verdict_listed}
@@ -10,9 +9,9 @@ pub loop-rest-init : goal.loop-rest-init
 loop-rest-init c = holding_first _ _ _ c.requires.1
 
 pub returns-then-record_protected : goal.returns-then-record_protected
+unfolding verdict_listed
 returns-then-record_protected c = λ xs l.
-    c.refused.ensures
-    ∙ holding_found c.loop-rest.invariant c.loop-rest-test.true _ c.record_at-r.ensures _ c.record_protected.ensures c.if-record_protected.true xs l
+    rw c.at.ensures (holding_found c.loop-rest.invariant c.loop-rest-test.true _ c.record_at-r.ensures _ c.record_protected.ensures c.if-record_protected.true xs l)
 
 pub slice_bounds-rest-count : goal.slice_bounds-rest-count
 slice_bounds-rest-count c = let at_whole : c.record_bytes-n.result ≤ length c.loop-rest.rest.now =

@@ -1,6 +1,7 @@
-use native.Mathlib.Omega.{arith}
-use Rattle.planner.proofs.WriteLaws.{command-put}
+use Rattle.packet.specs.Bytes.{bytes_of}
+use Rattle.planner.specs.Inside.{framed_command}
 use Rattle.planner.proofs.one_cell.put_command.Goals as goal
 
 pub returns : goal.returns
-returns c = command-put c.args.out.now _ _ (omega arith) (omega arith) (omega arith)
+unfolding framed_command bytes_of
+returns c = rw (c.copy_from_slice.ensures.after, c.to_le_bytes-w.ensures, c.to_le_bytes-a.ensures)

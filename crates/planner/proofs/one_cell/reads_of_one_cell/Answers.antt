@@ -1,5 +1,6 @@
 use mathlib.Core.Path.{ap}
 use mathlib.Core.Bool.{not}
+use Rattle.std.proofs.Common.{Some}
 use Rattle.planner.proofs.OneCellLaws.{counting-first, no_read, too_many, cut_short, counting-again, counted, too_few}
 use Rattle.planner.proofs.one_cell.reads_of_one_cell.Goals as goal
 
@@ -25,4 +26,4 @@ pub returns-then-count-lt2 : goal.returns-then-count-lt2
 returns-then-count-lt2 c = too_few _ _ _ c.loop-rest.invariant c.loop-rest-test.false c.if-count-lt2.true
 
 pub returns : goal.returns
-returns c = (c.loop-rest.invariant.few, counted _ _ _ c.loop-rest.invariant c.loop-rest-test.false)
+returns c = (c.loop-rest.invariant.few, λ n x o. ap Some (counted _ _ _ c.loop-rest.invariant c.loop-rest-test.false n x o))

@@ -1,3 +1,4 @@
+use mathlib.Core.Path.{◌∙◌}
 use native.Mathlib.Omega.{arith}
 use lib.ListN.{length-take, length-drop}
 use Rattle.tight.proofs.PacketLaws.{Here, going-first, going-last, passed_here, going-rejected, going_next}
@@ -15,23 +16,23 @@ slice_bounds-command_takes-count c = taken-within c.loop-rest.invariant
 pub slice_bounds-command_takes-start : goal.slice_bounds-command_takes-start
 slice_bounds-command_takes-start c = slice_bounds-command_takes-count c
 
-pub command_takes-next-requires : goal.command_takes-next-requires
-command_takes-next-requires c = let at_found : (let a = c.args in
+pub command_takes-requires : goal.command_takes-requires
+command_takes-requires c = let at_found : (let a = c.args in
     Here a.p a.packet.now a.list.now c.loop-rest.pointers c.loop-rest.rest.now c.loop-rest.taken c.fields_at-f.result) =
     record { going = c.loop-rest.invariant; more = c.loop-rest-test.true; read = c.fields_at-f.ensures } in
     passed_here at_found
 
-pub returns-in_default : goal.returns-in_default
-returns-in_default c = let at_found : (let a = c.args in
+pub returns-in_err-n : goal.returns-in_err-n
+returns-in_err-n c = let at_found : (let a = c.args in
     Here a.p a.packet.now a.list.now c.loop-rest.pointers c.loop-rest.rest.now c.loop-rest.taken c.fields_at-f.result) =
     record { going = c.loop-rest.invariant; more = c.loop-rest-test.true; read = c.fields_at-f.ensures } in
-    going-rejected at_found _ c.command_takes-next.ensures c.in_default.is
+    c.from_residual.ensures ∙ going-rejected at_found _ c.command_takes.ensures c.in_err-n.was
 
 pub overflow_add-taken : goal.overflow_add-taken
 overflow_add-taken c = let at_found : (let a = c.args in
     Here a.p a.packet.now a.list.now c.loop-rest.pointers c.loop-rest.rest.now c.loop-rest.taken c.fields_at-f.result) =
     record { going = c.loop-rest.invariant; more = c.loop-rest-test.true; read = c.fields_at-f.ensures } in
-    let l = more_within at_found _ c.command_takes-next.ensures _ c.in-Bytes.is in
+    let l = more_within at_found _ c.command_takes.ensures _ c.in_ok-n.was in
     omega (arith, c.well_formed.0)
 
 pub slice_bounds-rest-count : goal.slice_bounds-rest-count
@@ -55,7 +56,7 @@ pub loop-rest-preserved : goal.loop-rest-preserved
 loop-rest-preserved c = going_next ((let found' : (let a = c.args in
     Here a.p a.packet.now a.list.now c.loop-rest.pointers c.loop-rest.rest.now c.loop-rest.taken c.fields_at-f.result) =
     record { going = c.loop-rest.invariant; more = c.loop-rest-test.true; read = c.fields_at-f.ensures } in found')) _ c.command_bytes-k.ensures _
-    c.command_takes-next.ensures _ c.in-Bytes.is _
+    c.command_takes.ensures _ c.in_ok-n.was _
     c.address_used-used.ensures _ c.pointers_after-pointers.ensures
 
 pub returns : goal.returns

@@ -1,7 +1,7 @@
 use mathlib.Core.Path.{◌≡◌, sym, ◌∙◌}
 use mathlib.Core.Bool.{true, false, cond}
 use Rattle.tight.specs.Inside.{element_step, step_takes}
-use Rattle.tight.specs.declared.walk.Taken.{Taken}
+use Rattle.std.proofs.Common.{Some, None}
 use Rattle.tight.proofs.StepLaws.{Compared, element-unlocks, element-short, element-other, element-taken}
 use Rattle.tight.proofs.walk.element_takes.Goals as goal
 
@@ -56,7 +56,7 @@ returns-then-same c = let at_compared : Compared c.args.write
       record_bytes_lem = c.record_bytes-n.ensures.0;
     } in
     (let answer' : (let a = c.args in
-    cond true (Taken.Bytes c.record_bytes-n.result) Taken.Rejected
+    cond true (Some c.record_bytes-n.result) None
     ≡ step_takes (element_step a.write a.space a.address a.bytes.now) a.list.now) =
     element-taken at_compared c.if-list-n.false c.if-r-write.false _ c.carried_bytes-m.ensures.0 true
     c.same.ensures
@@ -76,7 +76,7 @@ returns-else-same c = let at_compared : Compared c.args.write
       record_bytes_lem = c.record_bytes-n.ensures.0;
     } in
     (let answer' : (let a = c.args in
-    cond false (Taken.Bytes c.record_bytes-n.result) Taken.Rejected
+    cond false (Some c.record_bytes-n.result) None
     ≡ step_takes (element_step a.write a.space a.address a.bytes.now) a.list.now) =
     element-taken at_compared c.if-list-n.false c.if-r-write.false _ c.carried_bytes-m.ensures.0 false
     c.same.ensures

@@ -9,12 +9,12 @@ returns-then-packet-gt-LIMIT c = packet-long _ _ c.if-packet-gt-LIMIT.true
 
 pub commands_take-requires : goal.commands_take-requires
 unfolding verdict_listed
-commands_take-requires c = accepted-some _ c.in-Accepted.field-0 (ap verdict_listed (sym c.in-Accepted.is) ∙ c.judge-verdict.ensures)
+commands_take-requires c = accepted-some _ c.in-Ok.field-0 (ap verdict_listed (sym c.in-Ok.is) ∙ c.judge.ensures)
 
-pub returns-in-Refused : goal.returns-in-Refused
+pub returns-in-Err : goal.returns-in-Err
 unfolding verdict_listed
-returns-in-Refused c = packet-refused _ _ c.if-packet-gt-LIMIT.false _ c.unset-p.ensures _ _
-    (ap verdict_listed (sym c.in-Refused.is) ∙ c.judge-verdict.ensures)
+returns-in-Err c = packet-refused _ _ c.if-packet-gt-LIMIT.false _ c.unset-p.ensures _ _
+    (ap verdict_listed (sym c.in-Err.is) ∙ c.judge.ensures)
 
-pub returns-in-Accepted : goal.returns-in-Accepted
-returns-in-Accepted c = c.commands_take.ensures ∙ sym (packet-short _ _ c.if-packet-gt-LIMIT.false _ c.unset-p.ensures)
+pub returns-in-Ok : goal.returns-in-Ok
+returns-in-Ok c = c.commands_take.ensures ∙ sym (packet-short _ _ c.if-packet-gt-LIMIT.false _ c.unset-p.ensures)
