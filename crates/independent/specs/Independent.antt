@@ -1,5 +1,6 @@
 -- Two cue lists of which neither writes a cell that the other names.
 use Rattle.std.specs.Prelude.{ℕ, ◌+◌, List, [], ◌∷◌, Bool, false, ◌||◌, ◌&&◌, cond, eqb}
+use Rattle.lbp16.specs.Answer.{rule_number}
 use Rattle.lbp16.specs.Space.{Space, space_number}
 use Rattle.packet.specs.Step.{Step, is_write}
 use Rattle.cue.specs.Records.{Listed, refused, records, records_of}
@@ -62,5 +63,5 @@ independence first second = compared (records_of first) (records_of second)
 -- an answer of the code: its number and values, for each case
 unfoldable pub independence_listed : Independence → Compared
 independence_listed Independence.Independent = independent
-independence_listed (Independence.Refused list r) = refused_list list r.number r.place
+independence_listed (Independence.Refused list r) = refused_list list (rule_number r.rule) r.place
 independence_listed (Independence.Clash index) = clash index

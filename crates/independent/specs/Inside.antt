@@ -1,16 +1,10 @@
 -- The inside of private functions' contracts: a table with a mark for each cell, two bits for each two bytes of the store.
 use Rattle.std.specs.Prelude.{ℕ, ◌+◌, ◌*◌, ◌/◌, ◌%◌, ◌<◌, ◌≡◌, List, Bool, false, not, ◌||◌, ◌&&◌, cond, length, get_or, eqb}
 use Rattle.lbp16.specs.Space.{space_of, is_absent, row}
-use Rattle.lbp16.specs.declared.Refusal.{Refusal}
 use Rattle.packet.specs.Step.{Step}
-use Rattle.cue.specs.Records.{Listed, refused, records, records_of}
+use Rattle.cue.specs.Records.{records, records_of}
 use Rattle.cue.specs.declared.records.Record.{Record}
 use Rattle.independent.specs.Independent.{Cell, names, writes}
-
--- a list's refusal, with number 0 if it has none
-unfoldable pub list_refusal : Listed → Refusal
-list_refusal (refused n i) = record { number = n; place = i }
-list_refusal (records xs) = record { number = 0; place = 0 }
 
 pub record Accepted (list : List ℕ) : Type 0 where
   pub xs : List Step

@@ -4,38 +4,20 @@
 mod marks;
 
 ghost use Rattle.std.specs.Prelude.{◌≡◌, []};
-ghost use Rattle.cue.specs.Records.{records_of};
 ghost use Rattle.independent.specs.Independent.{independence, independence_listed};
 ghost use Rattle.independent.specs.EitherOrder.{EitherOrder};
-ghost use Rattle.independent.specs.Inside.{list_refusal, Accepted, Marked};
+ghost use Rattle.independent.specs.Inside.{Accepted, Marked};
 
-use cue::{CompileAnswer, plan};
+use cue::plan;
 use lbp16::Refusal;
 
 // What stands between two lists and either order. `list` is 0 for the first and 1 for the second; `Clash` is the index of the
 // second list's first record that writes a cell which the first names, or names a cell which the first writes.
-#[derive(Clone, Copy)]
+#[derive(Clone, Copy, Debug, PartialEq, Eq)]
 pub enum Independence {
     Independent,
     Refused { list: u64, refusal: Refusal },
     Clash(u64),
-}
-
-// Why a list is refused, with number 0 if it is not.
-fn refusal_of(list: &[u8]) -> Refusal
-    ensures { result ≡ list_refusal (records_of list.now) }
-{
-    let answer = plan::plan(list);
-    match answer {
-        CompileAnswer::Compiled {
-            bytes: _,
-            packets: _,
-        } => Refusal {
-            number: 0,
-            place: 0,
-        },
-        CompileAnswer::Refused(r) => r,
-    }
 }
 
 fn compare(first: &[u8], second: &[u8], table: &mut [u8]) -> Independence
@@ -51,12 +33,10 @@ pub fn independent(first: &[u8], second: &[u8]) -> Independence
     ensures answer { independence_listed result ≡ independence first.now second.now }
     ensures either { (independence_listed result).number ≡ 0 → EitherOrder first.now second.now }
 {
-    let refusal = refusal_of(first);
-    if refusal.number != 0 {
+    if let Err(refusal) = plan::plan(first) {
         return Independence::Refused { list: 0, refusal };
     }
-    let refusal = refusal_of(second);
-    if refusal.number != 0 {
+    if let Err(refusal) = plan::plan(second) {
         return Independence::Refused { list: 1, refusal };
     }
     compare(first, second, &mut [0; 8216])

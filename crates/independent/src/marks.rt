@@ -1,16 +1,16 @@
 // A mark for each cell of the store, by the place where the cell stands: how the first list uses it. A mark is two bits, and no
 // two cells stand at the same two bytes, so that the table has a byte for each eight of the store.
-ghost use Rattle.std.specs.Prelude.{◌≡◌, List, [], ◌<◌, length};
+ghost use Rattle.std.specs.Prelude.{◌≡◌, List, [], ◌<◌, length, get_or};
 ghost use Rattle.packet.specs.Step.{Step};
-ghost use Rattle.cue.specs.Records.{records, records_of};
+ghost use Rattle.cue.specs.Records.{records, records_of, cut_up};
 ghost use Rattle.independent.specs.Independent.{first_clash, independence_listed};
-ghost use Rattle.independent.specs.Inside.{Accepted, place_by, marked_by, clashes_with, mark_in, picked, with_mark, table_bytes, Marked};
+ghost use Rattle.independent.specs.Inside.{Accepted, place_by, marked_by, clashes_with, mark_in, mark_at, picked, with_mark, table_bytes, Marked};
 
 use crate::Independence;
-use cue::records;
-use cue::records::Record;
+use cue::records::{Record, Records};
 use lbp16::space;
 
+// Two bits of the table's byte, which the definitions have as a number.
 const FREE: u8 = 0;
 
 const READ: u8 = 1;
@@ -39,16 +39,12 @@ fn marked(old: u8, write: bool) -> u8
 fn mark_in(byte: u8, slot: usize) -> u8
     ensures { (result ≡ mark_in byte slot) × (result < 4) }
 {
-    if slot == 0 {
-        return byte % 4;
+    match slot {
+        0 => byte % 4,
+        1 => byte / 4 % 4,
+        2 => byte / 16 % 4,
+        _ => byte / 64 % 4,
     }
-    if slot == 1 {
-        return byte / 4 % 4;
-    }
-    if slot == 2 {
-        return byte / 16 % 4;
-    }
-    byte / 64 % 4
 }
 
 fn picked(byte: u8, slot: usize, mark: u8, k: usize) -> u8
@@ -77,19 +73,29 @@ fn clashes(mark: u8, write: bool) -> bool
     (mark == WRITTEN) | (write & (mark != FREE))
 }
 
+fn byte_at(marks: &[u8], at: usize) -> u8
+    ensures { result ≡ get_or marks.now at 0 }
+{
+    marks.get(at).copied().unwrap_or(0)
+}
+
+// The mark at the cell of a record.
+fn mark_of(marks: &[u8], r: Record) -> u8
+    ensures { result ≡ mark_at marks.now (place_by r) }
+{
+    let at = place_of(r);
+    mark_in(byte_at(marks, at / 8), at / 2 % 4)
+}
+
 // Marks the cells of an accepted list's records.
 pub(crate) fn mark(list: &[u8], marks: &mut [u8])
     requires { Accepted list.now × Marked [] marks.old }
     ensures { (xs : List Step) → records_of list.now ≡ records xs → Marked xs marks.new }
 {
-    let mut rest = list;
-    while rest.len() != 0 {
-        let r = records::record_at(rest);
+    for r in Records(list) {
         let at = place_of(r);
         let i = at / 8;
         marks[i] = marked_in(marks[i], at / 2 % 4, r.write);
-        let n = records::record_bytes(r.write);
-        rest = &rest[n..];
     }
 }
 
@@ -99,18 +105,10 @@ pub(crate) fn first_clash(list: &[u8], marks: &[u8]) -> Independence
     ensures { (xs ys : List Step) → Marked xs marks.now → records_of list.now ≡ records ys
         → independence_listed result ≡ first_clash xs 0 ys }
 {
-    let mut rest = list;
-    let mut index: u64 = 0;
-    while rest.len() != 0 {
-        let r = records::record_at(rest);
-        let at = place_of(r);
-        let i = at / 8;
-        if clashes(mark_in(marks[i], at / 2 % 4), r.write) {
-            return Independence::Clash(index);
+    for (index, r) in Records(list).enumerate() {
+        if clashes(mark_of(marks, r), r.write) {
+            return Independence::Clash(index as u64);
         }
-        let n = records::record_bytes(r.write);
-        rest = &rest[n..];
-        index += 1;
     }
     Independence::Independent
 }

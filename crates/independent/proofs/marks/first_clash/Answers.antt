@@ -1,69 +1,37 @@
-use borrow.Author.Rules.{rules}
-use Prim.Native.Nat.{◌≤◌}
+use Prim.Native.Nat.{ℕ}
+use mathlib.Core.Bool.{Bool}
+use mathlib.Core.Path.{◌≡◌, ap}
+use mathlib.Core.Logic.{inl}
 use native.Mathlib.Omega.{arith}
-use lib.ListN.{length}
+use Rattle.cue.specs.Records.{cut_up}
+use Rattle.cue.specs.declared.records.Records.{Records}
 use Rattle.independent.specs.Independent.{independence_listed}
-use Rattle.independent.proofs.WalkLaws.{place-inside_here, whole_here, shorter}
+use Rattle.independent.specs.Inside.{clashes_with}
 use Rattle.independent.proofs.LoopLaws.{testing_first, testing_again, testing_last, clash-found}
 use Rattle.independent.proofs.marks.first_clash.Goals as goal
 
--- the mark's byte is in the table
+-- a record's test, by its mark
+found : {mark m : ℕ} (write : Bool) {b : Bool} → mark ≡ m → b ≡ clashes_with mark write → b ≡ clashes_with m write
+found write e f = rw (← e) f
 
--- where the record is read
+pub loop-index-init : goal.loop-index-init
+loop-index-init c =
+    let n = c.enumerate-index-items.ensures in
+    let t = testing_first c.args.list.now c.args.marks.now c.requires.0 _ (ap (λ (s : Records). cut_up s.0.now) n.source) _ n.count in
+    rw c.into_iter-index-iterator.ensures.into_iter_gives ((tt, tt, inl (omega (arith, t.few, c.well_formed))), tt, t)
 
-pub loop-rest-init : goal.loop-rest-init
-loop-rest-init c = testing_first _ _ c.requires.0
-
-pub bounds-marks-i : goal.bounds-marks-i
-bounds-marks-i c = let h =
-    place-inside_here _ _ _ _ c.loop-rest.invariant.walk c.loop-rest-test.true _ c.record_at-r.ensures _
-    c.place_of-at.ensures in
-    let l = c.requires.1 in
-    omega arith
+pub loop-index-preserved : goal.loop-index-preserved
+loop-index-preserved c =
+    let h = c.in-Some.ensures.steps in
+    let t = testing_again _ _ _ _ c.loop-index.invariant.2 _ _ h.0 _ (found _ c.mark_of.ensures c.clashes.ensures) c.if-clashes.false in
+    rw h.2 ((tt, tt, inl (omega (arith, t.few, c.well_formed))), tt, t)
 
 pub returns-then-clashes : goal.returns-then-clashes
 unfolding independence_listed
-returns-then-clashes c = clash-found _ _ _ _ c.loop-rest.invariant c.loop-rest-test.true _ c.record_at-r.ensures _
-    c.place_of-at.ensures
-    _
-    c.mark_in.ensures.0
-    _
-    c.clashes.ensures
-    c.if-clashes.true
-
-pub slice_bounds-rest-count : goal.slice_bounds-rest-count
-slice_bounds-rest-count c = let at_whole : c.record_bytes-n.result ≤ length c.loop-rest.rest.now =
-    whole_here _ _ _ _ c.loop-rest.invariant.walk c.loop-rest-test.true _ c.record_at-r.ensures _ c.record_bytes-n.ensures.0 in
-    at_whole
-
-pub slice_bounds-rest-start : goal.slice_bounds-rest-start
-slice_bounds-rest-start c = let at_whole : c.record_bytes-n.result ≤ length c.loop-rest.rest.now =
-    whole_here _ _ _ _ c.loop-rest.invariant.walk c.loop-rest-test.true _ c.record_at-r.ensures _ c.record_bytes-n.ensures.0 in
-    search rules
-
-pub slice_bounds-rest-end : goal.slice_bounds-rest-end
-slice_bounds-rest-end c = let at_whole : c.record_bytes-n.result ≤ length c.loop-rest.rest.now =
-    whole_here _ _ _ _ c.loop-rest.invariant.walk c.loop-rest-test.true _ c.record_at-r.ensures _ c.record_bytes-n.ensures.0 in
-    search rules
-
-pub overflow_add-index : goal.overflow_add-index
-overflow_add-index c = let h = c.loop-rest.invariant.walk.few in omega arith
-
-pub loop-rest-smaller : goal.loop-rest-smaller
-loop-rest-smaller c = shorter _ _ _ _ c.loop-rest.invariant.walk c.loop-rest-test.true _ c.record_at-r.ensures _
-    c.record_bytes-n.ensures.0
-
-pub loop-rest-preserved : goal.loop-rest-preserved
-loop-rest-preserved c = testing_again _ _ _ _ c.loop-rest.invariant c.loop-rest-test.true _ c.record_at-r.ensures _
-    c.place_of-at.ensures
-    _
-    c.mark_in.ensures.0
-    _
-    c.clashes.ensures
-    c.if-clashes.false
-    _
-    c.record_bytes-n.ensures.0
+returns-then-clashes c =
+    let h = c.in-Some.ensures.steps in
+    rw h.1 (clash-found _ _ _ _ c.loop-index.invariant.2 _ _ h.0 _ (found _ c.mark_of.ensures c.clashes.ensures) c.if-clashes.true)
 
 pub returns : goal.returns
 unfolding independence_listed
-returns c = testing_last _ _ _ _ c.loop-rest.invariant c.loop-rest-test.false
+returns c = testing_last _ _ _ _ c.loop-index.invariant.2 c.in-None.ensures.steps.0.0

@@ -1,9 +1,6 @@
-use lib.ListN.{length}
+use Rattle.cue.specs.Records.{cut_up}
 use Rattle.independent.proofs.LoopLaws.{Marking}
 use Rattle.independent.proofs.marks.mark.Given as goal
 
-abbrev pub invariant-loop-rest : goal.invariant-loop-rest
-invariant-loop-rest l = Marking l.list l.rest l.marks
-
-abbrev pub decreases-loop-rest : goal.decreases-loop-rest
-decreases-loop-rest l = length l.rest
+abbrev pub invariant-loop-r : goal.invariant-loop-r
+invariant-loop-r l = Marking l.list (cut_up l.r-iterator.0.now) l.marks

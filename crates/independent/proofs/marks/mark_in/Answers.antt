@@ -1,21 +1,24 @@
 use native.Mathlib.Omega.{arith}
 use mathlib.Core.Path.{refl}
-use borrow.Author.Tests.{eq-eqb, ne_eqb}
+use borrow.Author.Tests.{ne_eqb}
 use Rattle.independent.specs.Inside.{mark_in}
 use Rattle.independent.proofs.marks.mark_in.Goals as goal
 
-pub returns-then-slot-eq0 : goal.returns-then-slot-eq0
+pub returns-in-0 : goal.returns-in-0
 unfolding mark_in
-returns-then-slot-eq0 c = (rw (eq-eqb _ 0 c.if-slot-eq0.true) refl, omega arith)
+returns-in-0 c = (rw c.in-0.is refl, omega arith)
 
-pub returns-then-slot-eq1 : goal.returns-then-slot-eq1
+pub returns-in-1 : goal.returns-in-1
 unfolding mark_in
-returns-then-slot-eq1 c = (rw (ne_eqb _ 0 c.if-slot-eq0.false, eq-eqb _ 1 c.if-slot-eq1.true) refl, omega arith)
+returns-in-1 c = (rw c.in-1.is refl, omega arith)
 
-pub returns-then-slot-eq2 : goal.returns-then-slot-eq2
+pub returns-in-2 : goal.returns-in-2
 unfolding mark_in
-returns-then-slot-eq2 c = (rw (ne_eqb _ 0 c.if-slot-eq0.false, ne_eqb _ 1 c.if-slot-eq1.false, eq-eqb _ 2 c.if-slot-eq2.true) refl, omega arith)
+returns-in-2 c = (rw c.in-2.is refl, omega arith)
 
-pub returns : goal.returns
+pub returns-in_default : goal.returns-in_default
 unfolding mark_in
-returns c = (rw (ne_eqb _ 0 c.if-slot-eq0.false, ne_eqb _ 1 c.if-slot-eq1.false, ne_eqb _ 2 c.if-slot-eq2.false) refl, omega arith)
+returns-in_default c = (
+  rw (ne_eqb c.args.slot 0 (λ e. omega arith), ne_eqb c.args.slot 1 (λ e. omega arith), ne_eqb c.args.slot 2 (λ e. omega arith)) refl,
+  omega arith,
+)
