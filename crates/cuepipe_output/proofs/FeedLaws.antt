@@ -3,12 +3,13 @@ use Prim.Native.Nat.{ℕ, zero, suc, ◌+◌, ◌-◌, ◌*◌, ◌^◌, min, �
 use mathlib.Core.Path.{◌≡◌, refl, sym, ap, ◌∙◌}
 use mathlib.Core.List.{List, [], ◌∷◌}
 use mathlib.Core.Bool.{Bool, true, false, cond, ◌||◌}
-use Rattle.std.specs.Prelude.{Option, Some, None, Result, Ok, Err}
+use Rattle.std.specs.Prelude.{Option, Some, None, IfSome, Result, Ok, Err}
 use native.Mathlib.Omega.{arith}
 use lib.ListN.{length, take, drop, replicate, length-drop, length-take}
 use lib.Dec.{eqb}
 use borrow.Author.Tests.{eqb-false}
 use Rattle.lbp16.specs.Answer.{rule_number}
+use Rattle.lbp16.proofs.RuleLaws.{rule_number_range}
 use Rattle.lbp16.specs.declared.Refusal.{Refusal}
 use Rattle.packet.specs.Verdict.{verdict_listed}
 use Rattle.packet.proofs.SliceLaws.{tail-whole}
@@ -79,10 +80,22 @@ module _ (state part : List ℕ) (last : Bool) (zeros : List ℕ) (a : Result �
         calls_alike (p ∙ ap (λ (t : List ℕ). put_at t at out) said) (rw (← stop) refl) left
 
 -- and a line is shorter
-pub refusal-short : (number place at next : ℕ) (out out₂ : List ℕ) → number < 2 ^ 64 → place < 2 ^ 64
-    → filled next out₂ ≡ put_at (refused_line number place) at out → next ≤ at + 1476
-refusal-short number place at next out out₂ h k p =
-    omega (arith, put-reach (refused_line number place) out at p, refused-length number place h k)
+pub refusal-short : (r : Refusal) (number at next : ℕ) (out out₂ : List ℕ) → number ≡ rule_number r.rule → r.place < 2 ^ 64
+    → filled next out₂ ≡ put_at (refused_line number r.place) at out → next ≤ at + 1476
+refusal-short r number at next out out₂ e k p =
+    let range = rule_number_range r.rule in
+    omega (arith, put-reach (refused_line number r.place) out at p, refused-length number r.place (omega (arith, range.1)) k)
+
+-- no more is taken than there is
+pub some-within : (n most : ℕ) {k : Option ℕ} → k ≡ cond (eqb n 0) None (Some n) → n ≤ most → IfSome k (λ m. m ≤ most)
+some-within n most e h = rw e (go (eqb n 0))
+  where
+    go : (t : Bool) → IfSome (cond t None (Some n)) (λ m. m ≤ most)
+    go true = tt
+    go false = h
+
+pub within-some : {k : Option ℕ} {m most : ℕ} → IfSome k (λ n. n ≤ most) → k ≡ Some m → m ≤ most
+within-some h e = rw e at h
 
 fed-step : (fuel : ℕ) (state rest : List ℕ) → 0 < length rest
     → fed_from (suc fuel) state rest

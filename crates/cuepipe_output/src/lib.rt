@@ -36,7 +36,8 @@ fn call(state: &mut [u8], part: &[u8], last: bool, out: &mut [u8], at: usize) ->
 {
     let mut packet = [0u8; frame::ROOM];
     let done = parts::compile_part(state, part, last, &mut packet);
-    match done.answer {
+    let answer = done.answer;
+    match answer {
         Ok(bytes) => {
             let n = bytes as usize;
             Called {
@@ -59,7 +60,7 @@ fn take_all(state: &mut [u8], part: &[u8], out: &mut [u8]) -> Fed
     let mut rest = part;
     let mut next: usize = 0;
     // How far a turn goes is what the call took.
-    while !rest.is_empty() {
+    while 0 < rest.len() {
         let c = call(state, rest, false, out, next);
         next = c.next;
         let Some(k) = c.taken else {
@@ -83,7 +84,7 @@ pub fn feed(state: &mut [u8], part: &[u8], out: &mut [u8]) -> Fed
         ≡ fed_left (fed_of state.old part.now) 0 out.old }
     ensures bounded { result.bytes ≤ 1476 * (1 + length part.now) }
 {
-    if part.is_empty() {
+    if part.len() == 0 {
         let c = call(state, part, true, out, 0);
         return Fed {
             bytes: c.next,

@@ -8,10 +8,12 @@ use lib.ListN.{length, take, get_or}
 use lib.Seq.{length-take-le}
 use lib.Dec.{ltb}
 use borrow.Author.Tests.{lt-ltb, le-ltb}
-use Rattle.lbp16.specs.Answer.{Answer}
+use Rattle.lbp16.specs.Answer.{Answer, rule_number}
+use Rattle.lbp16.proofs.RuleLaws.{rule_number_range}
 use Rattle.lbp16.specs.declared.Refusal.{Refusal}
 use Rattle.cue.specs.Compile.{Compiled, compiled, compile_listed, left, output}
-use Rattle.cue.specs.declared.CompileAnswer.{CompileAnswer}
+use Rattle.cue.specs.declared.Packed.{Packed}
+use Rattle.std.specs.Prelude.{Result, Ok, Err}
 use Rattle.cue.proofs.CompileLaws.{accepted-list}
 use Rattle.planner.specs.Planner.{TightenedBy, Tightened}
 use Rattle.text.specs.Number.{ascii}
@@ -30,39 +32,39 @@ too_long-reported list room after n h size p =
     rw (lt-ltb most_bytes (length list) h) (p ∙ put_front too_long_line room (omega arith))
 
 -- as the code comes to it: `a` is the planner's answer, `room'` the room after it
-module _ (list room : List ℕ) (few : length list ≤ most_bytes) (a : CompileAnswer) (room'' : List ℕ)
+module _ (list room : List ℕ) (few : length list ≤ most_bytes) (a : Result Packed Refusal) (room'' : List ℕ)
     (t : Tightened list room (left a room'')) where
-  pub packets-reported : (b n : ℕ) → a ≡ CompileAnswer.Compiled b n → Reported list room b room''
+  pub packets-reported : (p : Packed) → a ≡ Ok p → Reported list room p.bytes room''
   unfolding Reported ReportedBy Tightened TightenedBy left compile_listed
-  packets-reported b n d = rw (le-ltb most_bytes (length list) few) (go (compiled list room).answer t)
+  packets-reported p d = rw (le-ltb most_bytes (length list) few) (go (compiled list room).answer t)
     where
-      e : compile_listed a ≡ Answer.accepted (b ∷ n ∷ [])
+      e : compile_listed a ≡ Answer.accepted (p.bytes ∷ p.packets ∷ [])
       e = ap compile_listed d
 
-      go : (v : Answer) → TightenedBy v list room (left a room'') → ReportedBy false v list room b room''
+      go : (v : Answer) → TightenedBy v list room (left a room'') → ReportedBy false v list room p.bytes room''
       go (Answer.refused m k) s =
           let f : compile_listed a ≡ Answer.refused m k = ap (λ (c : Compiled). c.answer) s in
           let z : ◌≡◌ {A = ℕ} 0 1 = cc in
           absurd (omega arith)
-      go (Answer.accepted values) s = record { count = n; tighter = rw e at s }
+      go (Answer.accepted values) s = record { count = p.packets; tighter = rw e at s }
 
-  pub refusal-reported : (r : Refusal) (after : List ℕ) (m : ℕ) → length room ≡ 32768 → r.number < 2 ^ 64 → r.place < 2 ^ 64
-      → a ≡ CompileAnswer.Refused r → filled m after ≡ put_at (refused_line r.number r.place) 0 room''
-      → Reported list room m after
+  pub refusal-reported : (r : Refusal) (number : ℕ) (after : List ℕ) (m : ℕ) → length room ≡ 32768 → number ≡ rule_number r.rule
+      → r.place < 2 ^ 64 → a ≡ Err r → filled m after ≡ put_at (refused_line number r.place) 0 room'' → Reported list room m after
   unfolding Reported ReportedBy Tightened TightenedBy left compile_listed
-  refusal-reported r after m size big far d p = rw (le-ltb most_bytes (length list) few) (go (compiled list room).answer t)
+  refusal-reported r number after m size same-number far d p = rw (le-ltb most_bytes (length list) few) (go (compiled list room).answer t)
     where
-      e : compile_listed a ≡ Answer.refused r.number r.place
+      e : compile_listed a ≡ Answer.refused (rule_number r.rule) r.place
       e = ap compile_listed d
 
       go : (v : Answer) → TightenedBy v list room (left a room'') → ReportedBy false v list room m after
-      go (Answer.refused number place) s =
+      go (Answer.refused n place) s =
           let same : room'' ≡ room = ap (λ (c : Compiled). c.room) s in
-          let f : compile_listed a ≡ Answer.refused number place = ap (λ (c : Compiled). c.answer) s in
-          let x : r.number ≡ number = cc in
+          let f : compile_listed a ≡ Answer.refused n place = ap (λ (c : Compiled). c.answer) s in
+          let x : rule_number r.rule ≡ n = cc in
           let y : r.place ≡ place = cc in
-          let fits = refused-length r.number r.place big far in
-          rw (← x, ← y) (rw same at p ∙ put_front (refused_line r.number r.place) room (omega arith))
+          let range = rule_number_range r.rule in
+          let fits = refused-length (rule_number r.rule) r.place (omega (arith, range.1)) far in
+          rw (← x, ← y) (rw (same, same-number) at p ∙ put_front (refused_line (rule_number r.rule) r.place) room (omega arith))
       go (Answer.accepted values) s =
           let f = s.answered in
           let z : ◌≡◌ {A = ℕ} 0 1 = cc in

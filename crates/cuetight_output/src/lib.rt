@@ -3,7 +3,6 @@
 
 ghost use Rattle.cuetight_output.specs.Report.{Reported};
 
-use cue::CompileAnswer;
 use text::line;
 
 // The most bytes that a list may have.
@@ -17,7 +16,7 @@ pub fn report(input: &[u8], room: &mut [u8; 32768]) -> usize
         return line::too_long(room, 0);
     }
     match planner::tighten(input, room) {
-        CompileAnswer::Compiled { bytes, packets: _ } => bytes,
-        CompileAnswer::Refused(r) => line::refused(room, 0, r.number as u64, r.place),
+        Ok(packed) => packed.bytes,
+        Err(r) => line::refused(room, 0, r.rule.number() as u64, r.place),
     }
 }
