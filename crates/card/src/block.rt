@@ -19,14 +19,12 @@ fn move_each<const W: usize>(
         × Within count to to_step W (length dst.old) }
     ensures { dst.new ≡ moved count W src.now from from_step dst.old to to_step }
 {
-    let mut n = count;
     let mut i = from;
     let mut j = to;
-    while 0 < n {
+    for _ in 0..count {
         element::move_element::<W>(src, i, dst, j);
         i += from_step;
         j += to_step;
-        n -= 1;
     }
 }
 
