@@ -19,14 +19,12 @@ fn move_each<const W: usize>(
         × Within count to to_step W (length dst.old) }
     ensures { dst.new ≡ moved count W src.now from from_step dst.old to to_step }
 {
-    let mut n = count;
     let mut i = from;
     let mut j = to;
-    while 0 < n {
+    for _ in 0..count {
         element::move_element::<W>(src, i, dst, j);
         i += from_step;
         j += to_step;
-        n -= 1;
     }
 }
 
@@ -52,7 +50,7 @@ fn fill<const W: usize>(
 }
 
 // Elements that stand one behind the other in both slices, as words of 4 bytes: two elements of 2 bytes are a word, and an odd one
-// over is moved alone.
+// over is moved alone. One copy of the whole slice would ask for a memmove, which a bare board may not have.
 fn copy<const W: usize>(src: &[u8], from: usize, dst: &mut [u8], to: usize, count: u32)
     requires { IsWidth W × (from + count * W ≤ length src.now) × (to + count * W ≤ length dst.old) }
     ensures { dst.new ≡ sets dst.old to (take (count * W) (drop from src.now)) }

@@ -142,6 +142,7 @@ fn perform(packet: &[u8], store: &mut [u8], pointers: &mut [u32], reply: &mut [u
     let mut filled: usize = 0;
     let mut elements: u64 = 0;
     let mut rest = packet;
+    // What a command means depends on the pointers that the one before it left.
     while 0 < rest.len() {
         let c = command::next_command(rest, pointers);
         let f = c.fields;
@@ -228,7 +229,7 @@ pub struct Ran {
     pub pointers: Pointers,
 }
 
-// The same, on pointers by value.
+// The same, on pointers by value: they come back beside the answer.
 pub fn run(packet: &[u8], store: &mut [u8], p: Pointers, reply: &mut [u8]) -> Ran
     ensures ran { ran result store.new reply.new ≡ run_packet packet.now store.old p reply.old }
     ensures summed { result.elements ≡ elements_moved (verdict_listed result.answer) packet.now }

@@ -10,7 +10,8 @@ pub(crate) fn pair(s: &[u8], at: usize) -> u16
     u16::from_le_bytes([s[at], s[at + 1]])
 }
 
-// The same, of any bytes; a byte that is not there counts as 0.
+// The same, of any bytes; a byte that is not there counts as 0. Asked by index: a match on the slice's tail takes a small processor
+// longer, and each command's address is read here.
 pub fn pair_at(s: &[u8], at: usize) -> u16
     ensures { result ≡ number (take 2 (drop at s.now)) }
 {
