@@ -77,7 +77,10 @@ fn put_element(out: &mut [u8], at: usize, rest: &[u8], n: usize)
     requires { (at + n ≤ length out.old) × (6 + n ≤ length rest.now) }
     ensures { out.new ≡ sets out.old at (take n (drop 6 rest.now)) }
 {
-    out[at..at + n].copy_from_slice(&rest[6..6 + n]);
+    // Two or four bytes: a loop of so few costs less than the call of a copy.
+    for i in 0..n {
+        out[at + i] = rest[6 + i];
+    }
 }
 
 // One record, of which the packer is already told; `n`: the bytes of its element.
