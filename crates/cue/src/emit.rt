@@ -77,7 +77,7 @@ fn put_element(out: &mut [u8], at: usize, rest: &[u8], n: usize)
     requires { (at + n ≤ length out.old) × (6 + n ≤ length rest.now) }
     ensures { out.new ≡ sets out.old at (take n (drop 6 rest.now)) }
 {
-    // A loop, since a copy of a slice calls memmove, which the library does not ask for.
+    // Two or four bytes: a loop of so few costs less than the call of a copy.
     for i in 0..n {
         out[at + i] = rest[6 + i];
     }
