@@ -54,6 +54,7 @@ fn line_place(text: &[u8], line: u64) -> usize
 {
     let mut at: usize = 0;
     let mut k: u64 = 1;
+    // Where a line begins is known only once the one above it is read.
     while (k < line) & (at < text.len()) {
         at += walk::line_bytes(find::rest(text, at));
         k += 1;
@@ -109,6 +110,7 @@ fn is_defined(text: &[u8], line: u64, name: &[u8]) -> bool
 {
     let mut at: usize = 0;
     let mut k: u64 = 1;
+    // Where a line begins is known only once the one above it is read.
     while (k < line) & (at < text.len()) {
         if defines_name(text, at, name) {
             return true;
@@ -200,7 +202,7 @@ fn name_fault(number: u32, line: u64, text: &[u8], rest: &[u8], w: Words) -> Fau
     }
 }
 
-// Of a line that is refused with this number.
+// Of a line that is refused with this number, which may be any.
 pub fn fault_of(number: u32, line: u64, text: &[u8]) -> Fault
     ensures { result ≡ fault_of number line text.now }
 {
