@@ -4,6 +4,7 @@ use mathlib.Core.Path.{◌≡◌, refl, sym, ap, ◌∙◌}
 use mathlib.Core.List.{List, [], ◌∷◌}
 use mathlib.Core.Bool.{Bool, true, false, ◌||◌, cond}
 use native.Mathlib.Omega.{arith}
+use native.Mathlib.Decide.{dec_le}
 use lib.Dec.{leb}
 use lib.ListN.{length, take, drop}
 use Rattle.lbp16.specs.Answer.{Answer}
@@ -12,12 +13,13 @@ use Rattle.packet.specs.Step.{Kind, read, write, infoRead, Step, is_info, is_wri
 use Rattle.packet.specs.Rules.{any_step}
 use Rattle.packet.specs.Command.{pick_kind}
 use Rattle.packet.proofs.SliceLaws.{tail-whole}
-use Rattle.cue.specs.Records.{Listed, refused, records, records_of, record_step, record_kind, record_bytes, record_at, brief}
+use Rattle.cue.specs.Records.{Listed, refused, records, records_of, record_step, record_kind, record_bytes, record_at, brief, cut_up}
 use Rattle.cue.specs.Compile.{needed}
 use Rattle.cue.specs.declared.records.Record.{Record}
 use Rattle.cue.proofs.RecordLaws.{refused_record}
 use Rattle.cue.proofs.ReadingLaws.{passing}
 use Rattle.cue.proofs.PackingLaws.{record_bytes_le, space-again}
+use Rattle.cue.proofs.CutLaws.{cut-next, cut-end}
 use Rattle.cue.proofs.WalkLaws.{Remains, remains-all, remains-none, remains-next}
 use Rattle.interlock.specs.Guard.{sound_from, soundness, faulty, most_ranges, touches, writes_protected, protected}
 use Rattle.interlock.specs.Guarded.{records_held, list_held, list_by, guarded_list}
@@ -105,6 +107,57 @@ module _ {guard list rest : List ℕ} {index : ℕ} (s : Holding guard list rest
             held = turn ∙ rw t refl;
             few = omega arith;
           }
+
+-- The same, where the records that are left are known and not their bytes.
+pub record Left (guard list : List ℕ) (recs : List Record) (index : ℕ) : Type 0 where
+  rest : List ℕ
+  same : recs ≡ cut_up rest
+  holding : Holding guard list rest index
+
+pub held-first : (guard list : List ℕ) (xs : List Step) → records_of list ≡ records xs → Left guard list (cut_up list) 0
+held-first guard list xs e = record { rest = list; same = refl; holding = holding_first guard list xs e }
+
+module _ {guard list : List ℕ} {recs : List Record} {index : ℕ} (h : Left guard list recs index) where
+  pub held-few : index ≤ 100000
+  held-few = h.holding.few
+
+  pub held-last : recs ≡ [] → (ys : List Step) → records_of list ≡ records ys → Answer.accepted (index ∷ []) ≡ records_held guard 0 ys
+  held-last e = holding_last h.holding (go (dec_le (length h.rest) 0))
+    where
+      go : Dec (length h.rest ≤ 0) → length h.rest ≡ 0
+      go (yes l) = omega arith
+      go (no g) =
+          let c = sym e ∙ h.same ∙ cut-next h.rest (omega arith) in
+          let z : ◌≡◌ {A = ℕ} 0 1 = cc in
+          absurd (omega arith)
+
+  module _ (r : Record) (more : List Record) (e : recs ≡ r ∷ more) (b : Bool) (told : (x : Step) → r ≡ brief x → b ≡ writes_protected guard x) where
+    some : length h.rest ≡ 0 → ⊥
+    some z =
+        let c = sym e ∙ h.same ∙ cut-end h.rest z in
+        let z : ◌≡◌ {A = ℕ} 0 1 = cc in
+        omega arith
+
+    cut : r ∷ more ≡ record_at h.rest ∷ cut_up (drop (record_bytes (record_kind h.rest)) h.rest)
+    cut = let s = some in sym e ∙ h.same ∙ cut-next h.rest (omega arith)
+
+    read_is : r ≡ record_at h.rest
+    read_is = let c = cut in cc
+
+    pub held-found : b ≡ true → (ys : List Step) → records_of list ≡ records ys → Answer.refused 71 index ≡ records_held guard 0 ys
+    held-found t = holding_found h.holding some r read_is b told t
+
+    pub held-next : b ≡ false → Left guard list more (index + 1)
+    held-next t =
+        let n = record_bytes (pick_kind r.write) in
+        let c = cut in
+        let q : more ≡ cut_up (drop (record_bytes (record_kind h.rest)) h.rest) = cc in
+        let k : n ≡ record_bytes (record_kind h.rest) = bytes_same h.holding some r read_is b told n refl in
+        record {
+          rest = take (length h.rest - n) (drop n h.rest);
+          same = q ∙ rw (tail-whole, k) refl;
+          holding = holding_next h.holding some r read_is b told n refl t;
+        }
 
 -- The answer, from the guard's soundness and the list's own compilation.
 module _ (guard list : List ℕ) where

@@ -12,8 +12,7 @@ ghost use Rattle.interlock.specs.Guard.{writes_protected, protected};
 ghost use Rattle.interlock.specs.Guarded.{protected_place, records_held};
 
 use crate::ranges;
-use cue::records;
-use cue::records::Record;
+use cue::records::{Record, Records};
 use lbp16::pointer::{Pointer, Pointers};
 use lbp16::word::Fields;
 use lbp16::{Rule, space};
@@ -137,16 +136,12 @@ pub(crate) fn records_held(list: &[u8], guard: &[u32]) -> Verdict
     ensures { (xs : List Step) → records_of list.now ≡ records xs
         → verdict_listed result ≡ records_held guard.now 0 xs }
 {
-    let mut rest = list;
-    let mut index: usize = 0;
-    while rest.len() != 0 {
-        let r = records::record_at(rest);
+    let mut index: u64 = 0;
+    for r in Records(list) {
         if record_protected(guard, r) {
-            return Err(Rule::Protected.at(index as u64));
+            return Err(Rule::Protected.at(index));
         }
-        let n = records::record_bytes(r.write);
-        rest = &rest[n..];
         index += 1;
     }
-    Ok(index as u64)
+    Ok(index)
 }

@@ -1,16 +1,16 @@
 -- Counting the records of a list that are reads of one cell.
-use Prim.Native.Nat.{ℕ, zero, suc, ◌+◌, ◌-◌, ◌≤◌, ◌<◌}
+use Prim.Native.Nat.{ℕ, zero, suc, ◌+◌, ◌≤◌, ◌<◌}
 use mathlib.Core.Path.{◌≡◌, refl, sym, ap, ◌∙◌}
-use mathlib.Core.List.{List, [], ◌∷◌}
-use mathlib.Core.Bool.{Bool, true, false, not}
+use mathlib.Core.List.{List, [], ◌∷◌, map}
+use mathlib.Core.Bool.{Bool, true, false}
 use native.Mathlib.Omega.{arith}
 use Rattle.std.proofs.Common.{Some, None}
 use Rattle.std.specs.Bool.{⊤}
-use lib.ListN.{length, take, drop, replicate, length-drop}
-use lib.Seq.{take_all}
+use lib.ListN.{length, drop, replicate}
 use Rattle.packet.specs.Step.{Step, is_write}
 use Rattle.cue.specs.Records.{record_step, record_kind, record_bytes}
-use Rattle.cue.specs.Records.{record_at, brief}
+use Rattle.cue.specs.Records.{record_at, brief, cut_up}
+use Rattle.cue.proofs.CutLaws.{cut-good}
 use Rattle.cue.specs.declared.records.Record.{Record}
 use Rattle.cue.proofs.ReadingLaws.{passing}
 use Rattle.cue.proofs.WalkLaws.{Remains, remains-all, remains-none, Next, remains-next}
@@ -72,10 +72,20 @@ cell-is list n x o =
     (front list 0 n x o.read (λ h. let z = left-last list 0 n x h (left-first list n x o) in omega (arith, o.some))
     (left-first list n x o)).at
 
+-- `count` of n equal records are counted; the others are left.
+record Todo (recs : List Record) (count n : ℕ) (x : Step) : Type 0 where
+  todo : ℕ
+  sum : count + todo ≡ n
+  same : recs ≡ replicate todo (brief x)
+
+copies : (n : ℕ) (x : Step) → map brief (replicate n x) ≡ replicate n (brief x)
+copies zero x = refl
+copies (suc n) x = ap (λ l. brief x ∷ l) (copies n x)
+
 -- Between two records of the list.
-pub record Counting (list rest : List ℕ) (count : ℕ) : Type 0 where
+pub record Counting (list : List ℕ) (recs : List Record) (count : ℕ) : Type 0 where
   pub few : count ≤ 127
-  left : (n : ℕ) (x : Step) → OneCell list n x → Left rest count n x
+  left : (n : ℕ) (x : Step) → OneCell list n x → Todo recs count n x
 
 -- an answer where the list is not one of reads of one cell
 abbrev pub Other : List ℕ → Type 0
@@ -84,42 +94,45 @@ Other list = ⊤ × ((n : ℕ) (x : Step) → OneCell list n x → None ≡ Some
 other : (list : List ℕ) → ((n : ℕ) (x : Step) → OneCell list n x → ⊥) → Other list
 other list h = (tt, λ n x o. absurd (h n x o))
 
-pub counting-first : (list : List ℕ) → Counting list list 0
-counting-first list = record { few = omega arith; left = left-first list }
+pub counting-first : (list : List ℕ) → Counting list (cut_up list) 0
+counting-first list =
+    record {
+      few = omega arith;
+      left = λ n x o. record { todo = n; sum = omega arith; same = cut-good list (replicate n x) o.list-records ∙ copies n x };
+    }
 
-module _ (list rest : List ℕ) (count : ℕ) (c : Counting list rest count) (some : length rest ≡ 0 → ⊥) where
-  front-here : (n : ℕ) (x : Step) → OneCell list n x → Front rest count n x
-  front-here n x o = front rest count n x o.read some (c.left n x o)
+module _ (list : List ℕ) (recs more : List Record) (r : Record) (count : ℕ) (c : Counting list recs count) (e : recs ≡ r ∷ more) where
+  next : (n : ℕ) (x : Step) → OneCell list n x → (r ≡ brief x) × ((count < n) × Todo more (count + 1) n x)
+  next n x o = let t = c.left n x o in go t.todo t.sum t.same
+    where
+      go : (m : ℕ) → count + m ≡ n → recs ≡ replicate m (brief x) → (r ≡ brief x) × ((count < n) × Todo more (count + 1) n x)
+      go zero s q = let z : ◌≡◌ {A = ℕ} 0 1 = cc in absurd (omega arith)
+      go (suc m) s q = (cc, (omega arith, record { todo = m; sum = omega arith; same = cc }))
 
-  pub no_read : (r cell : Record) (b : Bool) → r ≡ record_at rest → cell ≡ record_at list
-      → (r ≡ cell → r.write ≡ false → b ≡ true) → not b ≡ true → Other list
+  pub no_read : (cell : Record) (b : Bool) → cell ≡ record_at list → (r ≡ cell → r.write ≡ false → b ≡ true) → b ≡ false → Other list
   unfolding brief
-  no_read r cell b p q reads e =
+  no_read cell b q reads f =
       other list
       (λ n x o.
-      let f = p ∙ (front-here n x o).at in
-      let same : r ≡ cell = f ∙ sym (q ∙ cell-is list n x o) in
-      let t : b ≡ true = reads same (ap (λ (s : Record). s.write) f ∙ o.read) in
-      let y : not true ≡ true = rw t at e in
+      let p = (next n x o).0 in
+      let same : r ≡ cell = p ∙ sym (q ∙ cell-is list n x o) in
+      let t : b ≡ true = reads same (ap (λ (s : Record). s.write) p ∙ o.read) in
       let z : ◌≡◌ {A = ℕ} 0 1 = cc in
       omega arith)
 
   pub too_many : count ≡ 127 → Other list
-  too_many h = other list (λ n x o. let m = (front-here n x o).more in omega (arith, o.few))
+  too_many h = other list (λ n x o. let m = (next n x o).1.0 in omega (arith, o.few))
 
-  pub cut_short : length rest < 6 → Other list
-  cut_short h = other list (λ n x o. let m = (front-here n x o).whole in omega arith)
+  pub counting-again : (count ≡ 127 → ⊥) → Counting list more (count + 1)
+  counting-again h = let few = c.few in record { few = omega arith; left = λ n x o. (next n x o).1.1 }
 
-  pub counting-again : (count ≡ 127 → ⊥) → 6 ≤ length rest → Counting list (take (length rest - 6) (drop 6 rest)) (count + 1)
-  counting-again h l =
-      let few = c.few in
-      let same : take (length rest - 6) (drop 6 rest) ≡ drop 6 rest =
-      take_all (length rest - 6) (drop 6 rest) (rw length-drop (omega arith)) in
-      record { few = omega arith; left = λ n x o. rw same (front-here n x o).next }
-
-pub counted : (list rest : List ℕ) (count : ℕ) → Counting list rest count → length rest ≡ 0 → (n : ℕ) (x : Step)
+pub counted : (list : List ℕ) (recs : List Record) (count : ℕ) → Counting list recs count → recs ≡ [] → (n : ℕ) (x : Step)
     → OneCell list n x → count ≡ n
-counted list rest count c h n x o = left-last rest count n x h (c.left n x o)
+counted list recs count c h n x o = let t = c.left n x o in go t.todo t.sum t.same
+  where
+    go : (m : ℕ) → count + m ≡ n → recs ≡ replicate m (brief x) → count ≡ n
+    go zero s q = omega arith
+    go (suc m) s q = let z : ◌≡◌ {A = ℕ} 0 1 = cc in absurd (omega arith)
 
-pub too_few : (list rest : List ℕ) (count : ℕ) → Counting list rest count → length rest ≡ 0 → count < 2 → Other list
-too_few list rest count c h l = other list (λ n x o. let e = counted list rest count c h n x o in omega (arith, o.some))
+pub too_few : (list : List ℕ) (recs : List Record) (count : ℕ) → Counting list recs count → recs ≡ [] → count < 2 → Other list
+too_few list recs count c h l = other list (λ n x o. let e = counted list recs count c h n x o in omega (arith, o.some))

@@ -6,7 +6,7 @@ ghost use Rattle.planner.specs.Planner.{OneCell};
 ghost use Rattle.planner.specs.Inside.{Proposed, StillPut, still_fields, framed_command};
 
 use cue::records;
-use cue::records::Record;
+use cue::records::{Record, Records};
 use lbp16::word::Fields;
 use lbp16::{space, word};
 
@@ -22,21 +22,15 @@ fn reads_of_one_cell(list: &[u8]) -> Option<u8>
     ensures { IfSome result (λ n. n ≤ 127) × ((n : ℕ) (x : Step) → OneCell list.now n x → result ≡ Some n) }
 {
     let cell = records::record_at(list);
-    let mut rest = list;
     let mut count: u8 = 0;
-    while rest.len() != 0 {
-        let r = records::record_at(rest);
+    for r in Records(list) {
         if !reads(r, cell) {
             return None;
         }
         if count == 127 {
             return None;
         }
-        if rest.len() < 6 {
-            return None;
-        }
         count += 1;
-        rest = &rest[6..];
     }
     if count < 2 {
         return None;

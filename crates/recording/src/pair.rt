@@ -1,5 +1,5 @@
 // One packet of a recording with its reply.
-ghost use Rattle.std.specs.Prelude.{◌≡◌, ◌+◌, ◌^◌, ◌<◌, ◌≤◌, length};
+ghost use Rattle.std.specs.Prelude.{◌≡◌, ◌+◌, ◌^◌, ◌<◌, ◌≤◌, length, unwrap_or, IfSome};
 ghost use Rattle.cue.specs.Output.{front_of, bytes_in_frame};
 ghost use Rattle.packet.specs.Command.{limit};
 ghost use Rattle.card.specs.Run.{run_packet};
@@ -32,19 +32,18 @@ pub struct PairRan {
     pub pointers: Pointers,
 }
 
-// The place of the first byte of `found` that isn't as expected, their length if there is none.
-fn first_wrong(expected: &[u8], found: &[u8]) -> usize
+// The place of the first byte of `found` that isn't as expected.
+fn first_wrong(expected: &[u8], found: &[u8]) -> Option<usize>
     requires { length expected.now ≡ length found.now }
-    ensures { result ≡ first_wrong expected.now found.now }
+    ensures place { unwrap_or result (length expected.now) ≡ first_wrong expected.now found.now }
+    ensures inside { IfSome result (λ k. k < length expected.now) }
 {
-    let mut i: usize = 0;
-    while i < expected.len() {
+    for i in 0..expected.len() {
         if expected[i] != found[i] {
-            return i;
+            return Some(i);
         }
-        i += 1;
     }
-    i
+    None
 }
 
 // The reply behind a packet of `n` bytes. Its length is judged before its bytes.
@@ -62,8 +61,7 @@ fn reply_at(expected: &[u8], behind: &[u8], n: usize) -> Pair
                 return Pair::WrongLength;
             }
             let end = 4 + m;
-            let k = first_wrong(expected, &behind[4..end]);
-            if k < m {
+            if let Some(k) = first_wrong(expected, &behind[4..end]) {
                 return Pair::WrongByte(k);
             }
             Pair::Good(8 + n + m)

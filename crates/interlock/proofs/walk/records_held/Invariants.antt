@@ -1,9 +1,6 @@
-use lib.ListN.{length}
-use Rattle.interlock.proofs.ListLaws.{Holding}
+use Rattle.cue.specs.Records.{cut_up}
+use Rattle.interlock.proofs.ListLaws.{Left}
 use Rattle.interlock.proofs.walk.records_held.Given as goal
 
-abbrev pub invariant-loop-rest : goal.invariant-loop-rest
-invariant-loop-rest l = Holding l.guard l.list l.rest l.index
-
-abbrev pub decreases-loop-rest : goal.decreases-loop-rest
-decreases-loop-rest l = length l.rest
+abbrev pub invariant-loop-r : goal.invariant-loop-r
+invariant-loop-r l = Left l.guard l.list (cut_up l.r-iterator.0.now) l.index

@@ -6,14 +6,14 @@ use Rattle.recording.proofs.pair.first_wrong.Goals as goal
 pub returns-then-expected-i : goal.returns-then-expected-i
 returns-then-expected-i c = let a = c.args in
     let e = wrong_here a.expected.now a.found.now c.loop-i.i (search rules) (search rules) c.if-expected-i.true in
-    omega (arith, c.loop-i.invariant.1)
+    record { place = omega (arith, c.loop-i.invariant); inside = search rules }
 
 pub loop-i-preserved : goal.loop-i-preserved
 loop-i-preserved c = let a = c.args in
     let e = wrong_past a.expected.now a.found.now c.loop-i.i (search rules) (search rules) c.if-expected-i.false in
-    (omega arith, omega (arith, c.loop-i.invariant.1))
+    omega (arith, c.loop-i.invariant)
 
 pub returns : goal.returns
 returns c = let a = c.args in
     let e = wrong_none a.expected.now a.found.now c.loop-i.i (omega arith) in
-    omega (arith, c.loop-i.invariant.1)
+    record { place = omega (arith, c.loop-i.invariant, c.loop-i.auto.i-end); inside = tt }

@@ -9,9 +9,10 @@ pub slice_bounds-first_wrong-end : goal.slice_bounds-first_wrong-end
 slice_bounds-first_wrong-end c = let a = c.args in
     reply-within a.expected.now _ a.n _ c.frame_at-frame.ensures _ c.in-Whole.is
 
-pub returns-then-k-m : goal.returns-then-k-m
-returns-then-k-m c = reply_wrong _ _ _ _ c.frame_at-frame.ensures _ c.in-Whole.is c.if-m-expected.false _ c.first_wrong-k.ensures
-    c.if-k-m.true
+pub returns-in-Some : goal.returns-in-Some
+returns-in-Some c =
+    let inside = c.in-Some.ensures.inside in
+    reply_wrong _ _ _ _ c.frame_at-frame.ensures _ c.in-Whole.is c.if-m-expected.false _ c.in-Some.ensures.place (omega arith)
 
 pub overflow_add-result : goal.overflow_add-result
 overflow_add-result c = let a = c.args in
@@ -32,6 +33,6 @@ returns-in-Cut c = reply-cut _ _ _ _ c.frame_at-frame.ensures c.in-Cut.is
 pub returns-in-Unmarked : goal.returns-in-Unmarked
 returns-in-Unmarked c = reply-unmarked _ _ _ _ c.frame_at-frame.ensures c.in-Unmarked.is
 
-pub returns-else-k-m : goal.returns-else-k-m
-returns-else-k-m c = reply-good _ _ _ _ c.frame_at-frame.ensures _ c.in-Whole.is c.if-m-expected.false _ c.first_wrong-k.ensures
-    c.if-k-m.false
+pub returns-in_default : goal.returns-in_default
+returns-in_default c =
+    reply-good _ _ _ _ c.frame_at-frame.ensures _ c.in-Whole.is c.if-m-expected.false _ (rw c.in_default.is at c.first_wrong.ensures.place) (omega arith)
