@@ -27,8 +27,8 @@ unfolding Number.ascii Find.bytes_before Find.capital Find.hex_value Find.same_b
     Rules.barred Records.mark_at Records.record_kind Records.record_bytes Records.record_space Records.bytes_of_value Records.record_step
     Records.reserved Records.bad_element Records.upper_half Records.record_refusals Packing.join_all Words.is_blank Words.with_byte Words.lines_of
     Words.uncommented Words.closed Words.words_from Words.words_of Numbers.all_digits Numbers.digits_from Numbers.digits_value Numbers.is_hex
-    Numbers.number_of Numbers.up_to Numbers.address_of Numbers.value_of Numbers.space_of Numbers.within Numbers.is_letter Numbers.is_name_byte
-    Numbers.all_name_bytes Numbers.starts_with_letter Numbers.is_keyword Numbers.is_name Text.read_form Text.write_form Text.name_form Text.form_of
+    Numbers.number_of Numbers.up_to Numbers.address_of Numbers.value_of Numbers.space_of Numbers.is_letter Numbers.is_name_byte
+    Numbers.starts_with_letter Numbers.is_keyword Numbers.is_name Text.read_form Text.write_form Text.name_form Text.form_of
     Text.place_by Text.place_of Text.is_known Text.bytes_of_cue Text.record_meaning Text.read_meaning Text.write_meaning Text.name_meaning
     Text.form_meaning Text.line_meaning Assembled.with_cue Assembled.known_after Assembled.index_after Assembled.with_line Assembled.assembled_from
     Assembled.assembled Assembled.list_of Assembled.placed Assembled.assembled_to Assembled.text_assembled

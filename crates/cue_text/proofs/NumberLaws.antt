@@ -1,13 +1,12 @@
 -- Laws of words as numbers.
-use Prim.Native.Nat.{ℕ, zero, suc, ◌+◌, ◌*◌, min, ◌≤◌, ◌<◌}
+use Prim.Native.Nat.{ℕ, zero, suc, ◌+◌, ◌*◌, ◌≤◌, ◌<◌}
 use mathlib.Core.Path.{◌≡◌, refl}
 use mathlib.Core.List.{List, [], ◌∷◌}
 use mathlib.Core.Bool.{Bool, true, false, not, ◌&&◌, ◌||◌, cond, and-false}
 use native.Mathlib.Omega.{arith}
-use native.Mathlib.Nat.{mul-le-mul}
 use native.Mathlib.Numerals.{add-one}
 use native.Mathlib.Decide.{dec_le}
-use lib.ListN.{length, get_or, drop, length-drop, drop_of_length-le}
+use lib.ListN.{length, get_or, drop, drop_of_length-le}
 use lib.Seq.{drop-cons}
 use lib.Dec.{eqb, ltb}
 use borrow.Author.Tests.{lt-ltb, le-ltb, ne_eqb}
@@ -15,7 +14,7 @@ use Rattle.std.proofs.Common.{Option, Some, None, Result, Ok, Err, OkIff}
 use Rattle.std.specs.Result.{result_ok}
 use Rattle.text.specs.Number.{ascii}
 use Rattle.text.specs.Find.{hex_value, same_bytes}
-use Rattle.cue_text.specs.Numbers.{Value, all_digits, digits_from, digits_value, is_hex, number_of, up_to, address_of, value_of, space_of}
+use Rattle.cue_text.specs.Numbers.{Value, all_digits, digits_from, digits_value, is_hex, number_of, up_to, value_of}
 use Rattle.cue_text.specs.Inside.{most_held}
 
 -- digits make a number no smaller

@@ -22,7 +22,7 @@ use Rattle.lbp16.proofs.RuleLaws.{rule_number_range}
 use Rattle.cue_text.specs.declared.line.Said.{Said}
 use Rattle.cue_text.specs.Fault.{number_in}
 use Rattle.cue_text.specs.Numbers.{Value, space_of, address_of, is_name}
-use Rattle.cue_text.specs.Text.{Form, unknown, form_of, read_form, write_form, name_form, Place, nowhere, place, place_by, place_of, is_known}
+use Rattle.cue_text.specs.Text.{Form, unknown, form_of, read_form, write_form, name_form, nowhere, place, place_by, place_of, is_known}
 use Rattle.cue_text.specs.Text.{Name, most_names, bytes_of_cue, read_of, write_of, Meaning, refused, defines, does, unless, record_meaning}
 use Rattle.cue_text.specs.Text.{read_meaning, write_meaning, name_meaning, form_meaning, line_meaning}
 use Rattle.cue_text.specs.Inside.{line_at, words_here, word_in, HoldsWords, LineHere, located, place_in, name_by}

@@ -1,6 +1,6 @@
 -- The inside of private functions' contracts.
 use Rattle.std.specs.Prelude.{ℕ, suc, ◌+◌, ◌-◌, ◌*◌, ◌/◌, ◌%◌, min, ◌≤◌, ◌<◌, ◌^◌, ◌≡◌, List, [], ◌∷◌}
-use Rattle.std.specs.Prelude.{◌++◌, map, Bool, true, false, not, ◌||◌, ◌&&◌, cond, length, get_or, set, take, drop, eqb, ltb, Option, Some, None, Result, Ok, Err}
+use Rattle.std.specs.Prelude.{◌++◌, map, Bool, not, ◌||◌, ◌&&◌, cond, length, get_or, set, take, drop, eqb, ltb, Option, Some, None, Result, Ok, Err}
 use Rattle.std.proofs.lemmas.List.Edits.{sets}
 use Rattle.text.specs.Number.{ascii}
 use Rattle.text.specs.Find.{bytes_before, same_bytes}

@@ -5,10 +5,11 @@ use mathlib.Core.List.{List, [], ◌∷◌, ◌++◌}
 use native.Mathlib.Omega.{arith}
 use lib.ListN.{length, drop}
 use borrow.Author.Tests.{eq-eqb, ne_eqb, lt-ltb, le-ltb}
-use Rattle.lbp16.specs.Answer.{Answer}
+use Rattle.std.proofs.Common.{Result, Ok, Err}
+use Rattle.lbp16.specs.Answer.{Answer, rule_number}
 use Rattle.lbp16.specs.declared.Refusal.{Refusal}
 use Rattle.cue_text.specs.Assembled.{Assembled, bad, cues, assembled, list_of, Left, placed, assembled_to, text_assembled, text_listed, left}
-use Rattle.cue_text.specs.declared.TextAnswer.{TextAnswer}
+use Rattle.cue_text.specs.declared.Written.{Written}
 use Rattle.cue_text.proofs.ShowLaws.{list-most}
 use Rattle.text.specs.Number.{ascii}
 use Rattle.text.specs.Room.{filled, put_at, text_left}
@@ -35,7 +36,7 @@ module _ (words : ℕ) (text room : List ℕ) (size : length room ≡ room_bytes
         rw (eq-eqb words 1 alone, lt-ltb most_bytes (length text) h) (p ∙ put_front too_long_line room (omega arith))
 
     -- by what the text is; `a` is the answer, `room'` the room after it
-    module _ (few : length text ≤ most_bytes) (a : TextAnswer) (room'' : List ℕ) (done : left a room'' ≡ text_assembled text room) where
+    module _ (few : length text ≤ most_bytes) (a : Result Written Refusal) (room'' : List ℕ) (done : left a room'' ≡ text_assembled text room) where
       said-is : said words text ≡ said_of text (assembled text)
       unfolding said
       said-is = rw (eq-eqb words 1 alone, le-ltb most_bytes (length text) few) refl
@@ -48,36 +49,36 @@ module _ (words : ℕ) (text room : List ℕ) (size : length room ≡ room_bytes
       unfolding left
       room-is = ap (λ (l : Left). l.room) done
 
-      pub list-reported : (b n : ℕ) → a ≡ TextAnswer.Written b n → Reported words text room room'' b
+      pub list-reported : (q : Written) → a ≡ Ok q → Reported words text room room'' q.bytes
       unfolding text_assembled assembled_to placed text_listed said_of text_left
-      list-reported b n d = rw said-is (go (assembled text) refl (rw d at answer) room-is)
+      list-reported q d = rw said-is (go (assembled text) refl (rw d at answer) room-is)
         where
-          go : (v : Assembled) → assembled text ≡ v → Answer.accepted (b ∷ n ∷ []) ≡ (assembled_to v room).answer → room'' ≡ (assembled_to v room).room
-              → filled b room'' ≡ text_left (said_of text v) room
+          go : (v : Assembled) → assembled text ≡ v → Answer.accepted (q.bytes ∷ q.count ∷ []) ≡ (assembled_to v room).answer → room'' ≡ (assembled_to v room).room
+              → filled q.bytes room'' ≡ text_left (said_of text v) room
           go (bad m j) l e w = let z : ◌≡◌ {A = ℕ} 0 1 = cc in absurd (omega arith)
           go (cues cs) l e w =
               let fits : length (list_of cs) ≤ length room = rw size (list-most text cs l) in
               let no = le-ltb (length room) (length (list_of cs)) fits in
-              let f : Answer.accepted (b ∷ n ∷ []) ≡ Answer.accepted (length (list_of cs) ∷ length cs ∷ []) = rw no at e in
+              let f : Answer.accepted (q.bytes ∷ q.count ∷ []) ≡ Answer.accepted (length (list_of cs) ∷ length cs ∷ []) = rw no at e in
               let u : room'' ≡ list_of cs ++ drop (length (list_of cs)) room = rw no at w in
-              let q : b ≡ length (list_of cs) = cc in
-              rw (u, q) refl
+              let same : q.bytes ≡ length (list_of cs) = cc in
+              rw (u, same) refl
 
-      pub sentence-reported : (r : Refusal) → r.place < 2 ^ 64 → a ≡ TextAnswer.Refused r → (after : List ℕ) (m : ℕ)
-          → filled m after ≡ put_at (sentence r.number r.place text) 0 room'' → Reported words text room after m
+      pub sentence-reported : (r : Refusal) → r.place < 2 ^ 64 → a ≡ Err r → (after : List ℕ) (m : ℕ)
+          → filled m after ≡ put_at (sentence (rule_number r.rule) r.place text) 0 room'' → Reported words text room after m
       unfolding text_assembled assembled_to placed text_listed said_of
       sentence-reported r far d after m p = rw said-is (go (assembled text) refl (rw d at answer) room-is)
         where
-          go : (v : Assembled) → assembled text ≡ v → Answer.refused r.number r.place ≡ (assembled_to v room).answer
+          go : (v : Assembled) → assembled text ≡ v → Answer.refused (rule_number r.rule) r.place ≡ (assembled_to v room).answer
               → room'' ≡ (assembled_to v room).room → filled m after ≡ text_left (said_of text v) room
           go (bad n i) l e w =
-              let fits = sentence-most r.number r.place text far in
-              let q : r.number ≡ n = cc in
+              let fits = sentence-most (rule_number r.rule) r.place text far in
+              let q : rule_number r.rule ≡ n = cc in
               let k : r.place ≡ i = cc in
-              rw (← q, ← k) (rw w at p ∙ put_front (sentence r.number r.place text) room (omega arith))
+              rw (← q, ← k) (rw w at p ∙ put_front (sentence (rule_number r.rule) r.place text) room (omega arith))
           go (cues cs) l e w =
               let fits : length (list_of cs) ≤ length room = rw size (list-most text cs l) in
-              let f : Answer.refused r.number r.place ≡ Answer.accepted (length (list_of cs) ∷ length cs ∷ []) =
+              let f : Answer.refused (rule_number r.rule) r.place ≡ Answer.accepted (length (list_of cs) ∷ length cs ∷ []) =
               rw (le-ltb (length room) (length (list_of cs)) fits) at e in
               let z : ◌≡◌ {A = ℕ} 0 1 = cc in
               absurd (omega arith)

@@ -7,7 +7,6 @@ ghost use Rattle.std.specs.Prelude.{◌≡◌};
 ghost use Rattle.text.specs.Room.{filled, text_left};
 ghost use Rattle.cueasm_output.specs.Report.{said};
 
-use cue_text::TextAnswer;
 use text::line;
 
 // The most bytes that a text may have.
@@ -25,7 +24,7 @@ pub fn report(words: usize, input: &[u8], room: &mut [u8; 1000000]) -> usize
         return line::too_long(room, 0);
     }
     match cue_text::assemble(input, room) {
-        TextAnswer::Written { bytes, count: _ } => bytes,
-        TextAnswer::Refused(r) => sentence::put_sentence(room, input, r.number, r.place),
+        Ok(written) => written.bytes,
+        Err(r) => sentence::put_sentence(room, input, r.rule.number(), r.place),
     }
 }

@@ -2,63 +2,36 @@
 ghost use Rattle.std.specs.Prelude.{◌≡◌, map};
 ghost use Rattle.text.specs.Room.{filled, put_at};
 ghost use Rattle.cueasm_output.specs.Sentence.{says, shown, quoted, sentence};
-ghost use Rattle.cue_text.specs.declared.fault.Cause.{Cause};
 
 use cue_text::fault;
 use cue_text::fault::Cause;
 use text::{least, line};
 
-fn put_form(out: &mut [u8], at: usize) -> usize
-    ensures { filled result out.new ≡ put_at (says Cause.Form) at out.old }
-{
-    text::put(
-        out,
-        at,
-        b" and what follows are none of: read SPACE ADDRESS, read NAME, write SPACE ADDRESS VALUE, write NAME VALUE, name NAME SPACE ADDRESS",
-    )
-}
-
 // Behind the word at fault.
-fn put_cause(out: &mut [u8], at: usize, cause: Cause) -> usize
-    ensures { filled result out.new ≡ put_at (says cause) at out.old }
+fn words(cause: Cause) -> &'static [u8]
+    ensures { result.now ≡ says cause }
 {
     match cause {
-        Cause::Form => put_form(out, at),
-        Cause::Space => text::put(
-            out,
-            at,
-            b" is no space: registers, eeprom, status, information or a number to 255",
-        ),
-        Cause::Address => text::put(out, at, b" is no address: a number to 65535"),
-        Cause::Value => text::put(out, at, b" is no value: a number to 4294967295"),
-        Cause::NoName => text::put(
-            out,
-            at,
-            b" is no name: a letter, then letters, digits, _, - and ., 32 at most, and no word that a line has of its own",
-        ),
-        Cause::NotDefined => text::put(out, at, b" is not defined above"),
-        Cause::Again => text::put(out, at, b" is defined above already"),
-        Cause::TooMany => text::put(out, at, b" is the 1001st name, and a text may have 1000"),
-        Cause::Records => text::put(
-            out,
-            at,
-            b" is the 100001st record, and a list may have 100000",
-        ),
-        Cause::NoSpace => text::put(out, at, b" is a space that the card does not have"),
-        Cause::Misaligned => text::put(
-            out,
-            at,
-            b" is no multiple of an element's bytes: 4 in registers, else 2",
-        ),
-        Cause::PastEnd => text::put(out, at, b" is past the end of the space"),
-        Cause::ReadOnly => text::put(out, at, b" is read only"),
-        Cause::Unlock => text::put(out, at, b" is the unlock cell, which a list may not name"),
-        Cause::PacketCount => text::put(
-            out,
-            at,
-            b" is the packet count, which a list may not name",
-        ),
-        Cause::TooWide => text::put(out, at, b" has more than the 2 bytes of an element there"),
+        Cause::Form => {
+            b" and what follows are none of: read SPACE ADDRESS, read NAME, write SPACE ADDRESS VALUE, write NAME VALUE, name NAME SPACE ADDRESS"
+        }
+        Cause::Space => b" is no space: registers, eeprom, status, information or a number to 255",
+        Cause::Address => b" is no address: a number to 65535",
+        Cause::Value => b" is no value: a number to 4294967295",
+        Cause::NoName => {
+            b" is no name: a letter, then letters, digits, _, - and ., 32 at most, and no word that a line has of its own"
+        }
+        Cause::NotDefined => b" is not defined above",
+        Cause::Again => b" is defined above already",
+        Cause::TooMany => b" is the 1001st name, and a text may have 1000",
+        Cause::Records => b" is the 100001st record, and a list may have 100000",
+        Cause::NoSpace => b" is a space that the card does not have",
+        Cause::Misaligned => b" is no multiple of an element's bytes: 4 in registers, else 2",
+        Cause::PastEnd => b" is past the end of the space",
+        Cause::ReadOnly => b" is read only",
+        Cause::Unlock => b" is the unlock cell, which a list may not name",
+        Cause::PacketCount => b" is the packet count, which a list may not name",
+        Cause::TooWide => b" has more than the 2 bytes of an element there",
     }
 }
 
@@ -72,10 +45,8 @@ fn put_shown(out: &mut [u8], at: usize, word: &[u8]) -> usize
     ensures { filled result out.new ≡ put_at (map shown word.now) at out.old }
 {
     let mut next = least(at, out.len());
-    let mut i: usize = 0;
-    while i < word.len() {
-        next = text::put(out, next, &[shown(word[i])]);
-        i += 1;
+    for &b in word {
+        next = text::put(out, next, &[shown(b)]);
     }
     next
 }
@@ -98,7 +69,6 @@ pub(crate) fn put_sentence(out: &mut [u8], text: &[u8], number: u32, line: u64) 
     let at = text::put(out, at, b": ");
     let at = put_quoted(out, at, fault::word_of(number, line, text));
     let f = fault::fault_of(number, line, text);
-    let cause = f.cause;
-    let at = put_cause(out, at, cause);
+    let at = text::put(out, at, words(f.cause));
     text::put(out, at, b"\n")
 }

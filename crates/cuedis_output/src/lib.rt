@@ -5,7 +5,6 @@ ghost use Rattle.std.specs.Prelude.{◌≡◌};
 ghost use Rattle.text.specs.Room.{filled, text_left};
 ghost use Rattle.cuedis_output.specs.Report.{said};
 
-use cue_text::TextAnswer;
 use text::line;
 
 // The most bytes that a list may have.
@@ -23,7 +22,7 @@ pub fn report(words: usize, input: &[u8], room: &mut [u8; 3400000]) -> usize
         return line::too_long(room, 0);
     }
     match list_text::write(input, room) {
-        TextAnswer::Written { bytes, count: _ } => bytes,
-        TextAnswer::Refused(r) => line::refused(room, 0, r.number as u64, r.place),
+        Ok(written) => written.bytes,
+        Err(r) => line::refused(room, 0, r.rule.number() as u64, r.place),
     }
 }

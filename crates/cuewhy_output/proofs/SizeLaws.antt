@@ -15,7 +15,7 @@ use Rattle.text.specs.Line.{numbered, too_long_line}
 use Rattle.text.proofs.HexLaws.{hex_length, bytes-length}
 use Rattle.text.proofs.LineLaws.{cond-length, numbered-length}
 use Rattle.space_text.proofs.SpaceTextLaws.{space-size}
-use Rattle.list_reason.specs.declared.ListWhy.{ListWhy}
+use Rattle.list_reason.specs.ListReason.{ListWhy}
 use Rattle.cuewhy_output.specs.Wording.{upper_digits, value_text, record_text, mark_text, cut_text, named_text, element_text, wide_text}
 use Rattle.cuewhy_output.specs.Wording.{bad_text, fault_text, place_text, refused_text, accepted_text}
 use Rattle.cuewhy_output.specs.Said.{usage_line}

@@ -7,7 +7,7 @@ use Rattle.cue.specs.declared.records.Record.{Record}
 use Rattle.text.specs.Number.{ascii, hexadecimal, bytes_of_hex}
 use Rattle.text.specs.Line.{numbered}
 use Rattle.space_text.specs.SpaceText.{space_text}
-use Rattle.list_reason.specs.declared.ListWhy.{ListWhy}
+use Rattle.list_reason.specs.ListReason.{ListWhy}
 
 -- A write's value has as many digits as its element, and eight where it is wider or the card has no such space: the upper half is
 -- left out where a 2-byte element has room for the value.

@@ -1,22 +1,20 @@
 // What is wrong at a record.
-ghost use Rattle.std.specs.Prelude.{◌≡◌, take};
+ghost use Rattle.std.specs.Prelude.{◌≡◌, take, Some};
+ghost use Rattle.list_reason.specs.Listing.{why_listed};
 ghost use Rattle.text.specs.Room.{filled, put_at};
 ghost use Rattle.cuewhy_output.specs.Wording.{mark_text, cut_text, named_text, element_text, wide_text, bad_text, fault_text};
 
 use crate::shown;
 use cue::records::Record;
 use lbp16::space;
-use list_reason::ListWhy;
-use text::{line, number, pick};
+use list_reason::ListFault;
+use text::{least, line, number, pick};
 
 // The bytes of a mark, as far as they are there.
 fn mark(rest: &[u8]) -> &[u8]
     ensures { result.now ≡ take 2 rest.now }
 {
-    if rest.len() < 2 {
-        return rest;
-    }
-    &rest[..2]
+    &rest[..least(2, rest.len())]
 }
 
 fn put_mark(out: &mut [u8], at: usize, place: u64, rest: &[u8]) -> usize
@@ -52,7 +50,7 @@ fn put_cut(out: &mut [u8], at: usize, r: Record, rest: &[u8]) -> usize
 }
 
 // Causes that are one text each.
-fn put_named(out: &mut [u8], at: usize, r: Record, cause: u64) -> usize
+fn put_named(out: &mut [u8], at: usize, r: Record, cause: u32) -> usize
     ensures { filled result out.new ≡ put_at (named_text r cause) at out.old }
 {
     let t = pick(
@@ -69,7 +67,7 @@ fn put_named(out: &mut [u8], at: usize, r: Record, cause: u64) -> usize
     text::put(out, at, pick(cause == 1, b"the card has no such space", t))
 }
 
-fn put_element(out: &mut [u8], at: usize, r: Record, cause: u64) -> usize
+fn put_element(out: &mut [u8], at: usize, r: Record, cause: u32) -> usize
     ensures { filled result out.new ≡ put_at (element_text r cause) at out.old }
 {
     let row = space::row_of(r.space);
@@ -83,7 +81,7 @@ fn put_element(out: &mut [u8], at: usize, r: Record, cause: u64) -> usize
     put_named(out, at, r, cause)
 }
 
-fn put_wide(out: &mut [u8], at: usize, cause: u64) -> usize
+fn put_wide(out: &mut [u8], at: usize, cause: u32) -> usize
     ensures { filled result out.new ≡ put_at (wide_text cause) at out.old }
 {
     text::put(
@@ -93,29 +91,36 @@ fn put_wide(out: &mut [u8], at: usize, cause: u64) -> usize
     )
 }
 
+// A cause's number among those of its refusal, which is what is known of it here.
+fn cause_number(w: ListFault) -> u32
+    ensures { result ≡ (why_listed (Some w)).cause }
+{
+    match w.cause {
+        Some(cause) => cause.number(),
+        None => 0,
+    }
+}
+
 // Of 23 and 24.
-fn put_bad(out: &mut [u8], at: usize, w: ListWhy, r: Record, rest: &[u8]) -> usize
-    ensures { filled result out.new ≡ put_at (bad_text w r rest.now) at out.old }
+fn put_bad(out: &mut [u8], at: usize, w: ListFault, r: Record, rest: &[u8]) -> usize
+    ensures { filled result out.new ≡ put_at (bad_text (why_listed (Some w)) r rest.now) at out.old }
 {
     let at = shown::put_record(out, at, r, rest);
     let at = text::put(out, at, b": ");
-    if w.number == 23 {
-        return put_element(out, at, r, w.cause);
+    let cause = cause_number(w);
+    if w.refusal.rule.number() == 23 {
+        return put_element(out, at, r, cause);
     }
-    put_wide(out, at, w.cause)
+    put_wide(out, at, cause)
 }
 
-pub(crate) fn put_fault(out: &mut [u8], at: usize, w: ListWhy, r: Record, rest: &[u8]) -> usize
-    ensures { filled result out.new ≡ put_at (fault_text w r rest.now) at out.old }
+pub(crate) fn put_fault(out: &mut [u8], at: usize, w: ListFault, r: Record, rest: &[u8]) -> usize
+    ensures { filled result out.new ≡ put_at (fault_text (why_listed (Some w)) r rest.now) at out.old }
 {
-    if w.number == 21 {
-        return text::put(out, at, b"a list has at most 100,000 records");
+    match w.refusal.rule.number() {
+        21 => text::put(out, at, b"a list has at most 100,000 records"),
+        22 if cause_number(w) == 1 => put_mark(out, at, w.refusal.place, rest),
+        22 => put_cut(out, at, r, rest),
+        _ => put_bad(out, at, w, r, rest),
     }
-    if w.number != 22 {
-        return put_bad(out, at, w, r, rest);
-    }
-    if w.cause == 1 {
-        return put_mark(out, at, w.place, rest);
-    }
-    put_cut(out, at, r, rest)
 }

@@ -4,14 +4,15 @@
 mod fault;
 mod shown;
 
-ghost use Rattle.std.specs.Prelude.{◌≡◌, ◌<◌};
+ghost use Rattle.std.specs.Prelude.{◌≡◌, ◌<◌, Some};
 ghost use Rattle.cue.specs.Records.{record_at};
+ghost use Rattle.list_reason.specs.Listing.{why_listed};
 ghost use Rattle.text.specs.Room.{filled, put_at, text_left};
 ghost use Rattle.cuewhy_output.specs.Wording.{place_text, accepted_text, refused_text};
 ghost use Rattle.cuewhy_output.specs.Said.{said};
 
 use cue::records;
-use list_reason::ListWhy;
+use list_reason::ListFault;
 use text::{line, pick};
 
 // The most bytes that a list may have.
@@ -24,17 +25,17 @@ fn accepted(out: &mut [u8], n: usize) -> usize
     text::put(out, at, pick(n == 1, b" record\n", b" records\n"))
 }
 
-fn place(out: &mut [u8], w: ListWhy) -> usize
-    ensures { filled result out.new ≡ put_at (place_text w) 0 out.old }
+fn place(out: &mut [u8], w: ListFault) -> usize
+    ensures { filled result out.new ≡ put_at (place_text (why_listed (Some w))) 0 out.old }
 {
-    let at = line::numbered(out, 0, b"refused ", w.number as u64);
-    let at = line::numbered(out, at, b" at ", w.place);
+    let at = line::numbered(out, 0, b"refused ", w.refusal.rule.number() as u64);
+    let at = line::numbered(out, at, b" at ", w.refusal.place);
     let at = line::numbered(out, at, b" (byte ", w.offset);
     text::put(out, at, b"): ")
 }
 
-fn refused(out: &mut [u8], w: ListWhy, rest: &[u8]) -> usize
-    ensures { (filled result out.new ≡ put_at (refused_text w rest.now) 0 out.old)
+fn refused(out: &mut [u8], w: ListFault, rest: &[u8]) -> usize
+    ensures { (filled result out.new ≡ put_at (refused_text (why_listed (Some w)) rest.now) 0 out.old)
         × ((record_at rest.now).space < 256) }
 {
     let at = place(out, w);
@@ -54,11 +55,9 @@ pub fn report(count: usize, list: &[u8], room: &mut [u8; 256]) -> usize
     if MOST < list.len() {
         return line::too_long(room, 0);
     }
-    let w = list_reason::why(list);
-    if w.number == 0 {
-        let good = list_reason::walk(list);
-        return accepted(room, good.records);
-    }
+    let Some(w) = list_reason::why(list) else {
+        return accepted(room, list_reason::walk(list).unwrap_or(0));
+    };
     let at = w.offset as usize;
     refused(room, w, &list[at..])
 }

@@ -17,6 +17,7 @@ use Rattle.text.specs.Number.{ascii, hex_digit, hexadecimal}
 use Rattle.text.specs.Find.{bytes_before, capital, hex_value, same_bytes}
 use Rattle.text.proofs.HexLaws.{hex_length}
 use Rattle.cue_text.specs.Words.{is_blank, with_byte, lines_of, uncommented, closed, words_from, words_of}
+use Rattle.std.proofs.Common.{Some}
 use Rattle.cue_text.specs.Numbers.{all_digits, digits_from, digits_value, is_hex, number_of, up_to, address_of, value_of, space_of}
 use Rattle.space_text.specs.SpaceText.{space_word}
 

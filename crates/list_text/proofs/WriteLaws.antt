@@ -9,6 +9,7 @@ use lib.Dec.{eqb, ltb}
 use lib.ListN.{length, take, drop, length-append, length-drop}
 use lib.Seq.{drop-drop, take_at, take-take}
 use borrow.Author.Tests.{lt-ltb, le-ltb}
+use Rattle.std.proofs.Common.{Result, Ok, Err}
 use Rattle.lbp16.specs.Answer.{Answer}
 use Rattle.lbp16.specs.Space.{Space, registers, eeprom, status, information, absent, space_of, is_absent, row}
 use Rattle.lbp16.specs.declared.Refusal.{Refusal}
@@ -36,7 +37,7 @@ use Rattle.space_text.specs.SpaceText.{space_word}
 use Rattle.list_text.specs.Written.{hex_word, kind_word, value_word, line_of, text_of, written_to, list_written}
 use Rattle.list_text.specs.Inside.{text_needed}
 use Rattle.list_text.specs.SameList.{SameList}
-use Rattle.cue_text.specs.declared.TextAnswer.{TextAnswer}
+use Rattle.cue_text.specs.declared.Written.{Written}
 use Rattle.list_text.proofs.SameListLaws.{same-list}
 
 pub kind-word_is : (w : Bool) → cond w (ascii "write ") (ascii "read ") ≡ kind_word (pick_kind w)
@@ -317,12 +318,18 @@ module _ (list room : List ℕ) where
   refused-to (records xs) n i e = let z : ◌≡◌ {A = ℕ} 0 1 = cc in absurd (omega arith)
 
   -- as the code comes to it: `a` is the first pass's answer
-  module _ (a : TextAnswer) (e : text_listed a ≡ text_needed (records_of list)) where
-    pub turned-away : (r : Refusal) → a ≡ TextAnswer.Refused r → Both (text_listed a) room (list_written list room)
+  module _ (a : Result Written Refusal) (e : text_listed a ≡ text_needed (records_of list)) where
+    pub turned-away : (r : Refusal) → a ≡ Err r → Both (text_listed a) room (list_written list room)
     unfolding text_listed list_written
     turned-away r d = rw d (refused-to (records_of list) _ _ (rw d at e))
 
-    module _ (b n : ℕ) (d : a ≡ TextAnswer.Written b n) where
+    module _ (w : Written) (d : a ≡ Ok w) where
+      abbrev b : ℕ
+      b = w.bytes
+
+      abbrev n : ℕ
+      n = w.count
+
       counted : Answer.accepted (b ∷ n ∷ []) ≡ text_needed (records_of list)
       unfolding text_listed
       counted = rw d at e

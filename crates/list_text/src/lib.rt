@@ -17,8 +17,8 @@ ghost use Rattle.list_text.specs.SameList.{SameList};
 
 use cue::records;
 use cue::records::Record;
-use cue_text::TextAnswer;
-use lbp16::Refusal;
+use cue_text::{TextAnswer, Written};
+use lbp16::Rule;
 use packet::bytes;
 use text::{number, pick};
 
@@ -53,13 +53,10 @@ fn text_needed(list: &[u8]) -> TextAnswer
     let mut rest = list;
     let mut index: usize = 0;
     let mut bytes: usize = 0;
+    // A record is judged by the list's bytes from it on, which `Records` does not give.
     while rest.len() != 0 {
-        let refusal = records::record_refusal(rest, index);
-        if refusal != 0 {
-            return TextAnswer::Refused(Refusal {
-                number: refusal,
-                place: index as u64,
-            });
+        if let Err(rule) = records::record_refusal(rest, index) {
+            return Err(rule.at(index as u64));
         }
         let r = records::record_at(rest);
         bytes += line_bytes(r);
@@ -67,10 +64,10 @@ fn text_needed(list: &[u8]) -> TextAnswer
         rest = &rest[n..];
         index += 1;
     }
-    TextAnswer::Written {
+    Ok(Written {
         bytes,
         count: index,
-    }
+    })
 }
 
 // So many digits behind 0x.
@@ -127,6 +124,7 @@ fn put_lines(list: &[u8], out: &mut [u8])
 {
     let mut rest = list;
     let mut at: usize = 0;
+    // A write's value is read from the list's bytes, which `Records` does not give.
     while rest.len() != 0 {
         let r = records::record_at(rest);
         at = put_line(out, at, r, rest);
@@ -142,16 +140,10 @@ pub fn write(list: &[u8], out: &mut [u8]) -> TextAnswer
     ensures same_list { (bytes count : ℕ) → text_listed result ≡ Answer.accepted (bytes ∷ count ∷ [])
         → SameList list.now (take bytes out.new) }
 {
-    let answer = text_needed(list);
-    let TextAnswer::Written { bytes, count } = answer else {
-        return answer;
-    };
-    if out.len() < bytes {
-        return TextAnswer::Refused(Refusal {
-            number: 26,
-            place: bytes as u64,
-        });
+    let needed = text_needed(list)?;
+    if out.len() < needed.bytes {
+        return Err(Rule::OutputRoom.at(needed.bytes as u64));
     }
     put_lines(list, out);
-    TextAnswer::Written { bytes, count }
+    Ok(needed)
 }

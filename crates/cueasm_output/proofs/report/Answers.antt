@@ -11,11 +11,11 @@ returns-then-words-ne1 c = usage_reported _ _ _ (omega arith) c.if-words-ne1.tru
 pub returns-then-input-gt-MOST : goal.returns-then-input-gt-MOST
 returns-then-input-gt-MOST c = too_long-reported _ _ _ (omega arith) c.if-words-ne1.false (omega arith) _ _ c.too_long.ensures
 
-pub returns-in-Written : goal.returns-in-Written
-returns-in-Written c = list-reported _ _ _ (omega arith) c.if-words-ne1.false (omega arith) _ _ c.assemble.ensures.assembled _ _ c.in-Written.is
+pub returns-in-Ok : goal.returns-in-Ok
+returns-in-Ok c = list-reported _ _ _ (omega arith) c.if-words-ne1.false (omega arith) _ _ c.assemble.ensures.assembled _ c.in-Ok.is
 
-pub returns-in-Refused : goal.returns-in-Refused
-returns-in-Refused c = sentence-reported _ _ _ (omega arith) c.if-words-ne1.false (omega arith) _ _ c.assemble.ensures.assembled _
+pub returns-in-Err : goal.returns-in-Err
+returns-in-Err c = sentence-reported _ _ _ (omega arith) c.if-words-ne1.false (omega arith) _ _ c.assemble.ensures.assembled _
     (omega arith)
-    c.in-Refused.is _ _
-    c.put_sentence.ensures
+    c.in-Err.is _ _
+    (rw c.number.ensures at c.put_sentence.ensures)

@@ -11,10 +11,10 @@ returns-then-words-ne1 c = usage_reported _ _ _ (omega arith) c.if-words-ne1.tru
 pub returns-then-input-gt-MOST : goal.returns-then-input-gt-MOST
 returns-then-input-gt-MOST c = too_long-reported _ _ _ (omega arith) c.if-words-ne1.false (omega arith) _ _ c.too_long.ensures
 
-pub returns-in-Written : goal.returns-in-Written
-returns-in-Written c = text-reported _ _ _ (omega arith) c.if-words-ne1.false (omega arith) _ _ c.write.ensures.written _ _ c.in-Written.is
+pub returns-in-Ok : goal.returns-in-Ok
+returns-in-Ok c = text-reported _ _ _ (omega arith) c.if-words-ne1.false (omega arith) _ _ c.write.ensures.written _ c.in-Ok.is
 
-pub returns-in-Refused : goal.returns-in-Refused
-returns-in-Refused c = refusal-reported _ _ _ (omega arith) c.if-words-ne1.false (omega arith) _ _ c.write.ensures.written _ (omega arith) (omega arith)
-    c.in-Refused.is _ _
-    c.refused.ensures
+pub returns-in-Err : goal.returns-in-Err
+returns-in-Err c = refusal-reported _ _ _ (omega arith) c.if-words-ne1.false (omega arith) _ _ c.write.ensures.written _ (omega arith)
+    c.in-Err.is _ _
+    (rw c.number.ensures at c.refused.ensures)

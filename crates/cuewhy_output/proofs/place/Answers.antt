@@ -6,5 +6,5 @@ use Rattle.cuewhy_output.proofs.place.Goals as goal
 pub returns : goal.returns
 unfolding place_text ascii
 returns c = put_then _ _ _ _
-    (put_then _ _ _ _ (put_then _ _ _ _ c.numbered-at.ensures c.numbered-at-2.ensures) c.numbered-at-3.ensures)
+    (put_then _ _ _ _ (put_then _ _ _ _ (rw c.number.ensures at c.numbered-at.ensures) c.numbered-at-2.ensures) c.numbered-at-3.ensures)
     c.put.ensures

@@ -1,4 +1,4 @@
-use Rattle.std.proofs.Common.{ap, refl, arith, sym, ◌∙◌}
+use Rattle.std.proofs.Common.{ap, ◌∙◌}
 use Rattle.cue_text.specs.Fault.{number_in, cause_numbered}
 use Rattle.cue_text.specs.Inside.{element_fault_numbered}
 use Rattle.cue_text.proofs.FaultLaws.{element_wrong}

@@ -1,5 +1,5 @@
-use Rattle.std.proofs.Common.{Bool, true, false, not, ◌||◌, ◌≡◌, cond, refl, arith, ◌∙◌}
-use Rattle.cue_text.specs.Fault.{write_fault, place_fault, fault}
+use Rattle.std.proofs.Common.{refl, arith, ◌∙◌}
+use Rattle.cue_text.specs.Fault.{write_fault}
 use Rattle.cue_text.proofs.FaultLaws.{either}
 use Rattle.cue_text.proofs.fault.value_fault.Goals as goal
 

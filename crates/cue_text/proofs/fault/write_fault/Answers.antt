@@ -1,4 +1,4 @@
-use Rattle.std.proofs.Common.{refl, arith, rules, ne_eqb, ◌∙◌}
+use Rattle.std.proofs.Common.{refl, rules, ne_eqb, ◌∙◌}
 use Rattle.cue_text.specs.Fault.{form_fault}
 use Rattle.cue_text.proofs.fault.write_fault.Goals as goal
 

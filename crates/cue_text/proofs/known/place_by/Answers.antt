@@ -1,4 +1,4 @@
-use Rattle.std.proofs.Common.{refl, sym, ◌∙◌}
+use Rattle.std.proofs.Common.{sym, ◌∙◌}
 use Rattle.cue_text.proofs.KnownLaws.{by_both, by-first, by-second}
 use Rattle.cue_text.proofs.known.place_by.Goals as goal
 

@@ -1,4 +1,4 @@
-use Rattle.std.proofs.Common.{refl, sym, ap, arith, rules, ◌∙◌, Some}
+use Rattle.std.proofs.Common.{sym, ap, rules, ◌∙◌, Some}
 use Rattle.cue_text.specs.Inside.{located}
 use Rattle.cue_text.proofs.KnownLaws.{name-here, name-next, name-none, stands-at}
 use Rattle.cue_text.proofs.known.place_of.Goals as goal

@@ -1,4 +1,4 @@
-use Rattle.std.proofs.Common.{◌*◌, ◌^◌, ◌<◌, ◌≡◌, Option, Some, length, sym, arith, ◌∙◌, refl}
+use Rattle.std.proofs.Common.{◌*◌, ◌^◌, ◌<◌, length, sym, arith, ◌∙◌, refl}
 use Rattle.cue_text.specs.Text.{form_meaning}
 use Rattle.cue_text.specs.Inside.{meaning_of}
 use Rattle.cue_text.proofs.SaidLaws.{name-nowhere, name-bad, name-refused, name-defines, kept-defined, name-within, none_is}

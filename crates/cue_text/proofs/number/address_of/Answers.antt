@@ -1,4 +1,4 @@
-use Rattle.std.proofs.Common.{refl, arith, sym, ◌∙◌}
+use Rattle.std.proofs.Common.{arith}
 use Rattle.cue_text.specs.Numbers.{up_to, address_of}
 use Rattle.cue_text.proofs.NumberLaws.{narrowed, narrow}
 use Rattle.cue_text.proofs.number.address_of.Goals as goal

@@ -1,4 +1,4 @@
-use Rattle.std.proofs.Common.{◌≡◌, ◌≤◌, ◌+◌, length, drop, refl, ap, arith, ◌∙◌}
+use Rattle.std.proofs.Common.{◌≡◌, ◌+◌, drop, refl, ap, arith, ◌∙◌}
 use Rattle.cue_text.specs.Inside.{blanks, word_bytes, word_from}
 use Rattle.cue_text.proofs.WordLaws.{blanks_is, word-bytes_is, blanks-within, word-within}
 use Rattle.cue_text.proofs.word.word_at.Goals as goal

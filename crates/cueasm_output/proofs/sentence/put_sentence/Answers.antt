@@ -8,5 +8,5 @@ unfolding sentence ascii
 returns c = put_then _ _ _ _
     (put_then _ _ _ _
     (put_then _ _ _ _ (put_then _ _ _ _ c.numbered-at.ensures c.put-at.ensures) (rw c.word_of.ensures at c.put_quoted-at.ensures))
-    (rw c.fault_of-f.ensures at c.put_cause-at.ensures))
+    (rw (c.words.ensures, c.fault_of-f.ensures) at c.put-at-2.ensures))
     c.put.ensures
