@@ -1,5 +1,5 @@
 // Tighter packing: the checker, and the planner.
-ghost use Rattle.std.specs.Prelude.{◌≡◌, take};
+ghost use Rattle.std.specs.Prelude.{◌≡◌, take, Err};
 ghost use Rattle.tight.specs.Tight.{check_listed};
 ghost use Rattle.tight.specs.Demand3.{TightDemand3};
 ghost use Rattle.head.specs.Exports.{given, compile_left};
@@ -9,13 +9,21 @@ use crate::numbers;
 use crate::numbers::Numbers;
 use tight::{Fault, TightAnswer};
 
+fn of_fault(fault: Fault) -> Numbers
+    ensures { given result.0 result.1 ≡ tight_given (check_listed (Err fault)) }
+{
+    match fault {
+        Fault::Rejected => Numbers(50, 0, 0),
+        Fault::List(r) => Numbers(r.rule.number(), r.place, 0),
+    }
+}
+
 fn numbers_of(answer: TightAnswer) -> Numbers
     ensures { given result.0 result.1 ≡ tight_given (check_listed answer) }
 {
     match answer {
         Ok(n) => Numbers(0, n, 0),
-        Err(Fault::Rejected) => Numbers(50, 0, 0),
-        Err(Fault::List(r)) => Numbers(r.rule.number(), r.place, 0),
+        Err(fault) => of_fault(fault),
     }
 }
 

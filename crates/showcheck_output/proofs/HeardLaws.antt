@@ -14,7 +14,9 @@ use Rattle.lbp16.specs.declared.pointer.Pointers.{Pointers}
 use Rattle.packet.specs.Command.{limit}
 use Rattle.capture.specs.File.{file_of}
 use Rattle.capture.specs.Capture.{Heard, Captured, heard, recording_of, frames_of, turned_away, written, captured, capture_listed, left}
-use Rattle.capture.specs.declared.CaptureAnswer.{CaptureAnswer}
+use Rattle.std.specs.Prelude.{Result, Ok, Err}
+use Rattle.lbp16.specs.Answer.{rule_number}
+use Rattle.capture.specs.declared.Recorded.{Recorded}
 use Rattle.capture.proofs.TurnLaws.{frames-length}
 use Rattle.text.specs.Number.{ascii}
 use Rattle.text.specs.Line.{numbered, too_long_line}
@@ -68,21 +70,20 @@ module _ (store : List ℕ) (p : Pointers) (room frames : List ℕ) (roomed : le
   rooms-put capture few old h = let e = read_is capture few in (rw e at h.0, rw e at h.1)
 
 -- what is put of what reading answers and leaves
-module _ (capture room frames : List ℕ) {a : CaptureAnswer} {room₁ frames₁ : List ℕ}
+module _ (capture room frames : List ℕ) {a : Result Recorded Refusal} {room₁ frames₁ : List ℕ}
     (e : left a room₁ frames₁ ≡ captured capture room frames) (store : List ℕ) (p : Pointers) where
-  pub read-put : (bytes packets n m : ℕ) → a ≡ CaptureAnswer.Read bytes packets → n ≡ min bytes (length room₁)
-      → m ≡ min packets (length frames₁)
+  pub read-put : (x : Recorded) (n m : ℕ) → a ≡ Ok x → n ≡ min x.bytes (length room₁) → m ≡ min x.packets (length frames₁)
       → judged_text (take n room₁) (take m frames₁) store p (replicate limit 0) ≡ read_text (captured capture room frames) store p
   unfolding read_text answer_text capture_listed
-  read-put bytes packets n m q x y =
-      let f : left (CaptureAnswer.Read bytes packets) room₁ frames₁ ≡ captured capture room frames = rw q at e in
-      rw (← most room₁ bytes n x, ← most frames₁ packets m y) (ap (λ (c : Captured). read_text c store p) f)
+  read-put r n m q x y =
+      let f : left (Ok r) room₁ frames₁ ≡ captured capture room frames = rw q at e in
+      rw (← most room₁ r.bytes n x, ← most frames₁ r.packets m y) (ap (λ (c : Captured). read_text c store p) f)
 
-  pub unread_put : (r : Refusal) → a ≡ CaptureAnswer.Refused r
-      → unread_text r.number r.place ≡ read_text (captured capture room frames) store p
+  pub unread_put : (r : Refusal) → a ≡ Err r
+      → unread_text (rule_number r.rule) r.place ≡ read_text (captured capture room frames) store p
   unfolding read_text answer_text capture_listed
   unread_put r q =
-      let f : left (CaptureAnswer.Refused r) room₁ frames₁ ≡ captured capture room frames = rw q at e in
+      let f : left (Err r) room₁ frames₁ ≡ captured capture room frames = rw q at e in
       ap (λ (c : Captured). read_text c store p) f
 
 -- the sentences of refusals

@@ -8,7 +8,6 @@ ghost use Rattle.showcheck_output.specs.Input.{is_capture, is_pcapng, pcapng_tex
 ghost use Rattle.showcheck_output.specs.Inside.{read_text};
 
 use crate::{MOST, put_judged};
-use capture::CaptureAnswer;
 use lbp16::pointer::Pointers;
 use packet::command::LIMIT;
 use text::{least, line, pick};
@@ -63,6 +62,7 @@ fn put_sentence(room: &mut [u8], at: usize, number: u32) -> usize
     text::put(room, at, t)
 }
 
+// The number itself is said.
 fn put_unread(room: &mut [u8], number: u32, place: u64) -> usize
     ensures room_after { filled result room.new ≡ put_at (unread_text number place) 0 room.old }
     ensures fits { length (unread_text number place) ≤ 24576 }
@@ -97,12 +97,12 @@ fn put_read(
 {
     let answer = capture::read(capture, out, frames);
     match answer {
-        CaptureAnswer::Read { bytes, packets } => {
-            let n = least(bytes, out.len());
-            let m = least(packets, frames.len());
+        Ok(recorded) => {
+            let n = least(recorded.bytes, out.len());
+            let m = least(recorded.packets, frames.len());
             put_judged(room, &out[..n], &frames[..m], store, p, &mut [0; LIMIT])
         }
-        CaptureAnswer::Refused(r) => put_unread(room, r.number, r.place),
+        Err(r) => put_unread(room, r.rule.number(), r.place),
     }
 }
 
