@@ -142,7 +142,7 @@ pub fn write(list: &[u8], out: &mut [u8]) -> TextAnswer
 {
     let needed = text_needed(list)?;
     if out.len() < needed.bytes {
-        return Err(Rule::OutputRoom.at(needed.bytes as u64));
+        return Err(Rule::Room.at(needed.bytes as u64));
     }
     put_lines(list, out);
     Ok(needed)
