@@ -1,15 +1,13 @@
 -- Laws of what the second pass writes.
 use Prim.Native.Nat.{ℕ, ◌+◌, ◌-◌, ◌≤◌}
-use mathlib.Core.Path.{◌≡◌, refl, sym, ◌∙◌}
+use mathlib.Core.Path.{◌≡◌, refl, ◌∙◌}
 use mathlib.Core.List.{List, [], ◌∷◌, ◌++◌}
 use mathlib.Core.Bool.{true, false}
 use native.Mathlib.Omega.{arith}
 use lib.ListN.{length, take, drop, length-take, length-drop}
 use Rattle.std.specs.Prelude.{Result, Ok, Err}
 use Rattle.std.specs.Result.{result_unwrap_or}
-use lib.Seq.{sets, sets-eq, take_all}
-use borrow.Rule.Slice.PartMut.{put_mid}
-use Rattle.std.proofs.lemmas.Slice.{put_mid-paste}
+use lib.Seq.{sets}
 use borrow.Author.Tests.{le-ltb}
 use Rattle.lbp16.specs.Space.{space_of, row}
 use Rattle.lbp16.specs.Answer.{Answer}
@@ -20,11 +18,6 @@ use Rattle.packet.specs.Bytes.{bytes_of}
 use Rattle.lbp16.proofs.ListLaws.{sets_append}
 use Rattle.cue.specs.Summary.{last_fields, framed_at, unlocked_at, headed_at, wrote, bytes_of_unlock}
 use Rattle.cue.specs.declared.packer.Packer.{Packer}
-
--- a part of a room written at once
-pub part_put : (l : List ℕ) (at n : ℕ) {ys vs : List ℕ} → ys ≡ vs → n ≡ length vs → at + n ≤ length l → put_mid at n l ys ≡ sets l at vs
-part_put l at n {ys} {vs} e k h =
-    put_mid-paste at n l ys vs n e refl k ∙ rw (take_all n vs (omega arith), k) (sym (sets-eq vs l at (omega arith)))
 
 pub put4_is : (l : List ℕ) (at a b : ℕ) → sets (sets l at (bytes_of 2 a)) (at + 2) (bytes_of 2 b) ≡ sets l at (bytes_of 2 a ++ bytes_of 2 b)
 unfolding bytes_of

@@ -22,11 +22,7 @@ fn feed<W: Write>(to: &mut W, state: &mut [u8], part: &[u8], room: &mut [u8]) ->
     Ok(fed.more)
 }
 
-fn serve<R: Read, W: Write, E: Write>(
-    beside: &mut E,
-    from: &mut R,
-    to: &mut W,
-) -> io::Result<()> {
+fn serve<R: Read, W: Write, E: Write>(beside: &mut E, from: &mut R, to: &mut W) -> io::Result<()> {
     let mut state = [0; STATE_BYTES];
     let mut part = [0; PART];
     let mut room = [0; ROOM];

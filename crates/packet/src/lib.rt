@@ -6,4 +6,3 @@ pub mod command;
 pub mod info;
 pub mod judge;
 pub mod refusal;
-pub mod rule;

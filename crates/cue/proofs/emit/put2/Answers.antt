@@ -1,6 +1,6 @@
 use Rattle.std.proofs.Common.{arith, ◌∙◌}
 use Rattle.packet.specs.Bytes.{bytes_of}
-use Rattle.cue.proofs.WriteLaws.{part_put}
+use Rattle.packet.proofs.SliceLaws.{part_put}
 use Rattle.cue.proofs.emit.put2.Goals as goal
 
 pub returns : goal.returns

@@ -1,7 +1,7 @@
 use mathlib.Core.Path.{sym, ap, ◌∙◌}
 use native.Mathlib.Omega.{arith}
 use lib.Seq.{sets}
-use Rattle.cue.proofs.WriteLaws.{part_put}
+use Rattle.packet.proofs.SliceLaws.{part_put}
 use Rattle.salvage.proofs.WriteLaws.{entry-none, entry_skipped, entry-fits}
 use Rattle.salvage.proofs.write.put_entry.Goals as goal
 
