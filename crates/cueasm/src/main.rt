@@ -2,20 +2,30 @@
 #![tactic(auto)]
 
 use std::io;
+use std::io::{Read, Write};
+
+// The text has room for one byte more than it may have, so that a longer one is noticed.
+fn serve<R: Read, W: Write, E: Write>(
+    words: usize,
+    from: &mut R,
+    to: &mut W,
+    beside: &mut E,
+    text: &mut [u8; 3400001],
+    room: &mut [u8; 1000000],
+) -> io::Result<()> {
+    input::served(words, from, text, beside, |text| {
+        let said = cueasm_output::report(words, text, room);
+        input::put(to, room, said)
+    })
+}
 
 fn main(rt: HostRuntime) -> io::Result<()> {
-    let words = input::words(&rt, 2);
-    // Room for one byte more than a text may have, so that a longer one is noticed.
-    let mut text = [0; 3400001];
-    input::served(
-        words,
+    serve(
+        input::words(&rt, 2),
         &mut rt.stdin(),
-        &mut text,
+        &mut rt.stdout(),
         &mut rt.stderr(),
-        |text| {
-            let mut room = [0; 1000000];
-            let said = cueasm_output::report(words, text, &mut room);
-            input::put(&mut rt.stdout(), &room, said)
-        },
+        &mut [0; 3400001],
+        &mut [0; 1000000],
     )
 }

@@ -2,20 +2,30 @@
 #![tactic(auto)]
 
 use std::io;
+use std::io::{Read, Write};
+
+// The list has room for one byte more than it may have, so that a longer one is noticed.
+fn serve<R: Read, W: Write, E: Write>(
+    words: usize,
+    from: &mut R,
+    to: &mut W,
+    beside: &mut E,
+    list: &mut [u8; 1000001],
+    room: &mut [u8; 256],
+) -> io::Result<()> {
+    input::served(words, from, list, beside, |list| {
+        let said = cuewhy_output::report(words, list, room);
+        input::put(to, room, said)
+    })
+}
 
 fn main(rt: HostRuntime) -> io::Result<()> {
-    let words = input::words(&rt, 2);
-    // Room for one byte more than a list may have, so that a longer one is noticed.
-    let mut list = [0; 1000001];
-    input::served(
-        words,
+    serve(
+        input::words(&rt, 2),
         &mut rt.stdin(),
-        &mut list,
+        &mut rt.stdout(),
         &mut rt.stderr(),
-        |list| {
-            let mut room = [0; 256];
-            let said = cuewhy_output::report(words, list, &mut room);
-            input::put(&mut rt.stdout(), &room, said)
-        },
+        &mut [0; 1000001],
+        &mut [0; 256],
     )
 }

@@ -4,7 +4,7 @@
 use lbp16::pointer::Pointers;
 use lbpdis_output::ROOM;
 use std::io;
-use std::io::Write;
+use std::io::{Read, Write};
 
 // The most bytes that the input may have.
 const MOST: usize = 3000000;
@@ -32,6 +32,18 @@ fn report<W: Write>(to: &mut W, bytes: &[u8], room: &mut [u8; ROOM]) -> io::Resu
     show(to, bytes, room)
 }
 
+fn serve<R: Read, W: Write, E: Write>(
+    words: usize,
+    from: &mut R,
+    to: &mut W,
+    beside: &mut E,
+    bytes: &mut [u8; 3000001],
+) -> io::Result<()> {
+    input::served(words, from, bytes, beside, |bytes| {
+        report(to, bytes, &mut [0; ROOM])
+    })
+}
+
 fn main(rt: HostRuntime) -> io::Result<()> {
     let words = input::words(&rt, 2);
     if words != 1 {
@@ -40,12 +52,11 @@ fn main(rt: HostRuntime) -> io::Result<()> {
         );
     }
     // Room for one byte more than the input may have, so that a longer one is noticed.
-    let mut bytes = [0; MOST + 1];
-    input::served(
+    serve(
         words,
         &mut rt.stdin(),
-        &mut bytes,
+        &mut rt.stdout(),
         &mut rt.stderr(),
-        |bytes| { report(&mut rt.stdout(), bytes, &mut [0; ROOM]) },
+        &mut [0; 3000001],
     )
 }

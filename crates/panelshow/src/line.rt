@@ -62,7 +62,7 @@ fn plain(out: &mut [u8], at: usize, kind: u8, value: u64) -> usize {
     }
 }
 
-// NoReading is what the type and the width say.
+// ReadingField is what the type and the width say.
 fn why(out: &mut [u8], at: usize, f: Field, r: Refusal) -> usize {
     if r.rule == Rule::ReadingField {
         return line::numbered(out, at, b", width ", f.width as u64);
