@@ -17,7 +17,7 @@ use lbp16::word::Fields;
 use lbp16::{Rule, pointer};
 use packet::command::{Reach, Which};
 use packet::judge::Verdict;
-use packet::{command, info, refusal};
+use packet::{command, info};
 
 // A command's elements in the store or in the info area: the first one's place, from one to the next, their bytes, and
 // how many.
@@ -112,7 +112,7 @@ fn do_command(
     ensures reply_after { reply.new
         ≡ laid filled (values_read (steps_at (pointers_of pointers.now) f rest.now) store.old) reply.old }
 {
-    let which = refusal::which_of(Ok(()), f);
+    let which = command::read_or_write(f);
     match which {
         Which::Read => {
             read_command(rest, pointers, f, r, store, &mut reply[filled..]);

@@ -46,7 +46,7 @@ module _ (p : Pointers) (unlocked : Bool) (reply : ℕ) (f : Fields) (rest : Lis
   unfolding reach_from
   fits-is b h = rw (← ap (λ (t : Reach). t.answered) e) (sym h)
 
-  -- All rules, as `area_number` goes down them: each module adds what one more test says.
+  -- All rules, as `area_rule` goes down them: each module adds what one more test says.
   module _ (row : Row) (of : row ≡ row_of f) where
     -- 3: its header is whole
     past-header : Past (refusals p unlocked reply f rest) 1
@@ -148,7 +148,7 @@ module _ (p : Pointers) (unlocked : Bool) (reply : ℕ) (f : Fields) (rest : Lis
                       unfolding refusals
                       area-none = sym (past-fits ∙ first-of_none [] tt)
 
-  -- The four rules that `register_number` asks.
+  -- The four rules that `register_rule` asks.
   module _ (registers : ForRegisters f) where
     -- the table's number is that of these four
     asked-none : Past (register_rules (refusals p unlocked reply f rest)) 0

@@ -1,11 +1,12 @@
 // What is found at one command of a packet. Every function here gets the packet's bytes from that command on.
-ghost use Rattle.std.specs.Prelude.{cond, ◌≡◌, ◌*◌, ◌/◌, ◌%◌, ◌≤◌, length, take, drop, eqb};
+ghost use Rattle.std.specs.Prelude.{ℕ, cond, ◌≡◌, ◌*◌, ◌/◌, ◌%◌, ◌≤◌, length, take, drop, eqb};
 ghost use Rattle.lbp16.specs.Space.{space_of, status};
 ghost use Rattle.lbp16.specs.Word.{fields_of};
 ghost use Rattle.lbp16.specs.Pointer.{advanced, with_pointer, pointers_of, slot_of};
 ghost use Rattle.packet.specs.Step.{Kind, is_info, carried, unlocked_after, unlocked};
 ghost use Rattle.packet.specs.Inside.{status_write, unlocked_by};
 ghost use Rattle.packet.specs.Command.{fields_at, kind_of, row_of, header_bytes, command_bytes, address_by, address_used, stride, elements};
+ghost use Rattle.packet.specs.Command.{which_of, which_listed};
 ghost use Rattle.packet.specs.Reach.{reach_from, reach_at};
 
 use crate::bytes;
@@ -17,6 +18,7 @@ use lbp16::{Rule, pointer, space, word};
 // The most bytes that a packet or its reply may have: 1,500 less 28 of IP and UDP headers.
 pub const LIMIT: usize = 1472;
 
+// The number of a refusal is its rule's.
 #[derive(Clone, Copy, Debug, PartialEq, Eq)]
 pub enum Which {
     Read,
@@ -191,6 +193,13 @@ pub fn pointers_after(p: Pointers, f: Fields, used: u32) -> Pointers
 {
     let pointer = Pointer::new(used).advance(moved_bytes(f));
     p.with(is_info(f), f.space, pointer)
+}
+
+// Which of read and write a command is that no rule refuses.
+pub fn read_or_write(f: Fields) -> Which
+    ensures { (place : ℕ) → which_listed result place ≡ which_of 0 place (kind_of f) }
+{
+    if f.write { Which::Write } else { Which::Read }
 }
 
 // Whether the word is that of a plain command to space 0, with its size code.

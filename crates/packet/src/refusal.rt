@@ -210,13 +210,13 @@ fn area_ruling(rest: &[u8], f: Fields, pointers: &[u32], unlocked: bool, reply: 
 }
 
 // Which of read, write or refusal a command is, by what the rules say of it.
-pub fn which_of(rules: Result<(), Rule>, f: Fields) -> Which
+fn which_of(rules: Result<(), Rule>, f: Fields) -> Which
     ensures { (place : ℕ) → which_listed result place ≡ which_of (ruled rules) place (kind_of f) }
 {
     if let Err(rule) = rules {
         return Which::Refused(rule);
     }
-    if f.write { Which::Write } else { Which::Read }
+    command::read_or_write(f)
 }
 
 // What is found at a command, by what is ruled of it.

@@ -3,8 +3,8 @@ ghost use Rattle.std.specs.Prelude.{◌≡◌, ◌+◌, ◌<◌, ◌≤◌, leng
 ghost use Rattle.sserial.specs.Table.{pair_at, quad_at, nul_of, is_direction, record_at, stands_in};
 ghost use Rattle.sserial.specs.Inside.{field_record, mode_record, entry_at};
 
-// A field as its descriptor has it; any width, until the table is checked. `kind` is the data type, `minimum` and `maximum` are the bits that stand there, `unit` and
-// `name` the places of the two strings.
+// A field as its descriptor has it; any width, until the table is checked. `kind` is the data type, `minimum` and `maximum` are the bits
+// that stand there, `unit` and `name` the places of the two strings.
 #[derive(Clone, Copy, Debug, PartialEq, Eq)]
 pub struct Field {
     pub width: u8,
