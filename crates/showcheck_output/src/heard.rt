@@ -20,7 +20,7 @@ const PACKETS: usize = 68182;
 pub(crate) fn first_number(input: &[u8]) -> u32
     ensures { result ≡ number (take 4 input.now) }
 {
-    given::quad_at(input, 0)
+    given::first_number(input)
 }
 
 #[tactic(auto, using(std::proofs::lemmas::Bool::Decides::nat_tests), unfolding(crate::specs::Input::is_capture))]

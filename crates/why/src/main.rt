@@ -7,27 +7,22 @@ use std::io;
 use std::io::{Read, Write};
 use std::rt::Files;
 use why_output::words;
-use why_output::words::{Usage, Words};
+use why_output::words::Words;
 
-fn take<R: Read>(
-    asked: Result<Words, Usage>,
-    found: bool,
-    from: &mut R,
-    bytes: &mut [u8],
-) -> io::Result<usize> {
-    let most = words::most_read(asked, found).min(bytes.len());
+fn take<R: Read>(w: Words, found: bool, from: &mut R, bytes: &mut [u8]) -> io::Result<usize> {
+    let most = words::most_read(w, found).min(bytes.len());
     input::all(from, &mut bytes[..most])
 }
 
 fn answer<W: Write>(
     to: &mut W,
-    asked: Result<Words, Usage>,
+    w: Words,
     found: bool,
     file: &[u8],
     bytes: &[u8],
     room: &mut [u8; 16384],
 ) -> io::Result<()> {
-    let said = why_output::whole(asked, found, file, bytes, room);
+    let said = why_output::whole(w, found, file, bytes, room);
     input::put(to, room, said)
 }
 
@@ -36,16 +31,16 @@ fn serve<R: Read, W: Write, E: Write>(
     beside: &mut E,
     from: &mut R,
     to: &mut W,
-    asked: Result<Words, Usage>,
+    w: Words,
     found: bool,
     file: &[u8],
     bytes: &mut [u8; 3000001],
     room: &mut [u8; 16384],
 ) -> io::Result<()> {
-    let taken = take(asked, found, from, bytes);
+    let taken = take(w, found, from, bytes);
     match taken {
         Err(_) => input::cannot_read(beside),
-        Ok(n) => answer(to, asked, found, file, input::front(bytes, n), room),
+        Ok(n) => answer(to, w, found, file, input::front(bytes, n), room),
     }
 }
 
@@ -57,23 +52,16 @@ fn read_file<F: Read>(opened: &mut Option<F>, file: &mut [u8]) -> io::Result<usi
     }
 }
 
-fn open<F: Files>(
-    rt: &F,
-    asked: Result<Words, Usage>,
-    first: &[u8],
-    second: &[u8],
-    third: &[u8],
-) -> Option<F::File> {
-    let name = asked.ok()?.name?;
+fn open<F: Files>(rt: &F, w: Words, first: &[u8], second: &[u8], third: &[u8]) -> Option<F::File> {
     let words = [first, second, third];
-    input::opened(rt, words.get(name.checked_sub(1)?)?)
+    input::opened(rt, words.get(w.name?.checked_sub(1)?)?)
 }
 
 fn judge<R: Read, W: Write, E: Write>(
     beside: &mut E,
     from: &mut R,
     to: &mut W,
-    asked: Result<Words, Usage>,
+    w: Words,
     found: bool,
     file: &[u8],
 ) -> io::Result<()> {
@@ -81,7 +69,7 @@ fn judge<R: Read, W: Write, E: Write>(
         beside,
         from,
         to,
-        asked,
+        w,
         found,
         file,
         &mut [0; 3000001],
@@ -93,7 +81,7 @@ fn start<R: Read, W: Write, F: Read + Drop, E: Write>(
     beside: &mut E,
     from: &mut R,
     to: &mut W,
-    asked: Result<Words, Usage>,
+    w: Words,
     mut opened: Option<F>,
     file: &mut [u8; 33],
 ) -> io::Result<()> {
@@ -101,7 +89,7 @@ fn start<R: Read, W: Write, F: Read + Drop, E: Write>(
     let had = read_file(&mut opened, file);
     match had {
         Err(_) => input::cannot_read(beside),
-        Ok(k) => judge(beside, from, to, asked, found, input::front(file, k)),
+        Ok(k) => judge(beside, from, to, w, found, input::front(file, k)),
     }
 }
 
@@ -112,13 +100,13 @@ fn main(rt: HostRuntime) -> io::Result<()> {
     let m = rt.arg(2, &mut second).unwrap_or(0);
     let mut third = [0u8; 4096];
     let k = rt.arg(3, &mut third).unwrap_or(0);
-    let asked = words::words_of(input::words(&rt, 5), &first[..n], &second[..m], &third[..k]);
-    let opened = open(&rt, asked, &first[..n], &second[..m], &third[..k]);
+    let w = words::words_of(input::words(&rt, 5), &first[..n], &second[..m], &third[..k]);
+    let opened = open(&rt, w, &first[..n], &second[..m], &third[..k]);
     start(
         &mut rt.stderr(),
         &mut rt.stdin(),
         &mut rt.stdout(),
-        asked,
+        w,
         opened,
         &mut [0; 33],
     )

@@ -30,11 +30,10 @@ use Rattle.why_output.specs.Packets.{Part, at_part, packets_from, packets_text}
 use Rattle.why_output.specs.Hex.{Hex, hex_of, has_byte}
 use Rattle.why_output.specs.Given.{pointers_in}
 use Rattle.why_output.specs.Words.{usage_text}
-use Rattle.why_output.specs.Whole.{most_bytes, is_framed, framed_hint, hex_hint, bytes_text, hex_text, input_text, named_text, whole_text}
+use Rattle.why_output.specs.Whole.{most_bytes, is_framed, framed_hint, hex_hint, bytes_text, hex_text, input_text, whole_text}
 use Rattle.why_output.specs.declared.words.Words.{Words}
 use Rattle.why_output.specs.declared.packets.Stop.{Stop}
-use Rattle.why_output.specs.declared.words.Usage.{Usage}
-use Rattle.std.specs.Prelude.{is_some, Result, Ok, Err}
+use Rattle.std.specs.Prelude.{is_some, is_none, Ok, Err}
 use Rattle.why_output.proofs.HexLaws.{Fits, fits_more, text-fits}
 
 accepted-size : (packet : List ℕ) → length (accepted_text packet) ≤ 22
@@ -211,24 +210,19 @@ input_size w input p = go (ltb most_bytes (length input)) refl
         cond-length 13852 w.hex _ _ (hex_size w (hex_of input) p (fits_more (hex_of input) few (text-fits input)))
         (rw length-append (omega arith))
 
-named-size : (w : Words) (found? : Bool) (file input : List ℕ) → length (named_text w found? file input) ≤ 16384
-unfolding named_text ascii
-named-size w found? file input =
+-- Whatever the program is given, its room has space for all that it writes.
+pub whole-fits : (w : Words) (found? : Bool) (file input : List ℕ) → length (whole_text w found? file input) ≤ 16384
+unfolding whole_text usage_text ascii
+whole-fits w found? file input =
     let a = input_size w input fresh in
     let b = input_size w input (pointers_in file) in
-    cond-length 16384 (is_some w.name) _ _
-    (cond-length 16384 found? _ _ (cond-length 16384 (eqb (length file) 32) _ _ (omega arith) (omega arith)) (omega arith))
-    (omega arith)
-
--- Whatever the program is given, its room has space for all that it writes.
-pub whole-fits : (asked : Result Words Usage) (found? : Bool) (file input : List ℕ) → length (whole_text asked found? file input) ≤ 16384
-unfolding whole_text usage_text ascii
-whole-fits (Err e) found? file input = omega arith
-whole-fits (Ok w) found? file input = named-size w found? file input
+    cond-length 16384 w.wrong _ _ (omega arith)
+    (cond-length 16384 (is_none w.name) _ _ (omega arith)
+    (cond-length 16384 found? _ _ (cond-length 16384 (eqb (length file) 32) _ _ (omega arith) (omega arith)) (omega arith)))
 
 -- So it stands there whole.
-pub whole-left : (asked : Result Words Usage) (found? : Bool) (file input room : List ℕ) → length room ≡ 16384
-    → put_at (whole_text asked found? file input) 0 room ≡ text_left (whole_text asked found? file input) room
-whole-left asked found? file input room e =
-    let l = whole-fits asked found? file input in
-    put_front (whole_text asked found? file input) room (omega arith)
+pub whole-left : (w : Words) (found? : Bool) (file input room : List ℕ) → length room ≡ 16384
+    → put_at (whole_text w found? file input) 0 room ≡ text_left (whole_text w found? file input) room
+whole-left w found? file input room e =
+    let l = whole-fits w found? file input in
+    put_front (whole_text w found? file input) room (omega arith)

@@ -1,6 +1,5 @@
 -- All that the program `why` writes, for the words and the input that it is given.
-use Rattle.std.specs.Prelude.{ℕ, List, [], ◌++◌, Bool, false, cond, length, replicate, eqb, ltb, Result, Ok, Err}
-use Rattle.std.specs.Prelude.{is_some}
+use Rattle.std.specs.Prelude.{ℕ, List, [], ◌++◌, Bool, false, cond, length, replicate, eqb, ltb, is_some, is_none}
 use Rattle.lbp16.specs.Space.{store_bytes}
 use Rattle.lbp16.specs.Pointer.{fresh}
 use Rattle.lbp16.specs.declared.pointer.Pointers.{Pointers}
@@ -13,7 +12,6 @@ use Rattle.why_output.specs.Packets.{packets_text}
 use Rattle.why_output.specs.Wording.{judged_text}
 use Rattle.why_output.specs.Words.{usage_text}
 use Rattle.why_output.specs.declared.words.Words.{Words}
-use Rattle.why_output.specs.declared.words.Usage.{Usage}
 
 -- the most bytes that the input may have
 abbrev pub most_bytes : ℕ
@@ -50,14 +48,10 @@ input_text w input p =
     (cond w.hex (hex_text w (hex_of input) p) (bytes_text w input p ++ hex_hint input))
 
 -- `found?`: whether the file named can be opened; `file`: what it has
-unfoldable pub named_text : Words → Bool → List ℕ → List ℕ → List ℕ
-named_text w found? file input =
-    cond (is_some w.name)
+unfoldable pub whole_text : Words → Bool → List ℕ → List ℕ → List ℕ
+whole_text w found? file input =
+    cond w.wrong usage_text
+    (cond (is_none w.name) (input_text w input fresh)
     (cond found?
     (cond (eqb (length file) 32) (input_text w input (pointers_in file)) (ascii "the file of pointers is not 32 bytes long\n"))
-    (ascii "the file of pointers cannot be opened\n"))
-    (input_text w input fresh)
-
-unfoldable pub whole_text : Result Words Usage → Bool → List ℕ → List ℕ → List ℕ
-whole_text (Err e) found? file input = usage_text
-whole_text (Ok w) found? file input = named_text w found? file input
+    (ascii "the file of pointers cannot be opened\n")))

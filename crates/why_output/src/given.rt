@@ -12,11 +12,18 @@ fn joined(low: u16, high: u16) -> u32
 }
 
 // The number in the four bytes from `at` on, low byte first; a byte that is not there counts as 0.
-pub fn quad_at(file: &[u8], at: usize) -> u32
+fn quad_at(file: &[u8], at: usize) -> u32
     requires { at ≤ 28 }
     ensures { result ≡ quad_at file.now at }
 {
     joined(bytes::pair_at(file, at), bytes::pair_at(file, at + 2))
+}
+
+// A file's first number; it may be asked of any file.
+pub fn first_number(file: &[u8]) -> u32
+    ensures { result ≡ quad_at file.now 0 }
+{
+    quad_at(file, 0)
 }
 
 fn spaces_in(file: &[u8], at: usize) -> SpacePointers

@@ -15,7 +15,7 @@ ghost use Rattle.text.specs.Number.{ascii};
 ghost use Rattle.text.specs.Room.{filled, put_at, text_left};
 ghost use Rattle.why_output.specs.Hex.{hex_of};
 ghost use Rattle.why_output.specs.Wording.{accepted_text, front_text, said_of, said, state_text, judged_text};
-ghost use Rattle.why_output.specs.Whole.{is_framed, framed_hint, hex_hint, bytes_text, hex_text, input_text, named_text, most_bytes, whole_text};
+ghost use Rattle.why_output.specs.Whole.{is_framed, framed_hint, hex_hint, bytes_text, hex_text, input_text, most_bytes, whole_text};
 
 use card::check::STORE_BYTES;
 use cue::frame;
@@ -24,7 +24,7 @@ use lbp16::pointer::Pointers;
 use packet_text::command;
 use reason::Reason;
 use text::{line, number, pick};
-use words::{Usage, Words};
+use words::Words;
 
 // The most bytes that the input may have.
 const MOST: usize = 3000000;
@@ -190,10 +190,14 @@ fn put_input(room: &mut [u8], w: Words, input: &[u8], p: Pointers) -> usize
     put_hex_hint(room, at, input)
 }
 
-// `found`: whether the file named can be opened, `file`: what it has.
-fn put_named(room: &mut [u8], w: Words, found: bool, file: &[u8], input: &[u8]) -> usize
-    ensures { filled result room.new ≡ put_at (named_text w found file.now input.now) 0 room.old }
+// What is written: `found`: whether the file named can be opened, `file`: what it has.
+fn written(w: Words, found: bool, file: &[u8], input: &[u8], room: &mut [u8]) -> usize
+    ensures { filled result room.new
+        ≡ put_at (whole_text w found file.now input.now) 0 room.old }
 {
+    if w.wrong {
+        return words::put_usage(room);
+    }
     if w.name.is_none() {
         return put_input(room, w, input, Pointers::fresh());
     }
@@ -206,33 +210,10 @@ fn put_named(room: &mut [u8], w: Words, found: bool, file: &[u8], input: &[u8]) 
     put_input(room, w, input, given::pointers_in(file))
 }
 
-// What is written.
-fn written(
-    asked: Result<Words, Usage>,
-    found: bool,
-    file: &[u8],
-    input: &[u8],
-    room: &mut [u8],
-) -> usize
-    ensures { filled result room.new
-        ≡ put_at (whole_text asked found file.now input.now) 0 room.old }
-{
-    match asked {
-        Err(_) => words::put_usage(room),
-        Ok(w) => put_named(room, w, found, file, input),
-    }
-}
-
 // The bytes to write stand at the front of the room; how many they are is answered.
-pub fn whole(
-    asked: Result<Words, Usage>,
-    found: bool,
-    file: &[u8],
-    input: &[u8],
-    room: &mut [u8; 16384],
-) -> usize
+pub fn whole(w: Words, found: bool, file: &[u8], input: &[u8], room: &mut [u8; 16384]) -> usize
     ensures { filled result room.new
-        ≡ text_left (whole_text asked found file.now input.now) room.old }
+        ≡ text_left (whole_text w found file.now input.now) room.old }
 {
-    written(asked, found, file, input, room)
+    written(w, found, file, input, room)
 }

@@ -6,17 +6,15 @@ ghost use Rattle.why_output.specs.Words.{is_option, no_words, with_word, words_o
 use crate::MOST;
 use text::find;
 
-// `name`: which argument names the file of pointers, from 1.
+// `name`: which argument names the file of pointers, from 1; `wrong`: a word that is not known, or is there twice, or one too many.
+// `wrong` stands beside: the file named last is opened also where the words are wrong, and `words_of` promises it of wrong words too.
 #[derive(Clone, Copy, Debug, PartialEq, Eq)]
 pub struct Words {
     pub hex: bool,
     pub lb: bool,
     pub name: Option<usize>,
+    pub wrong: bool,
 }
-
-// A word that is not known, or is there twice, or one too many.
-#[derive(Clone, Copy, Debug, PartialEq, Eq)]
-pub struct Usage;
 
 // Whether a word begins with -, so that it is no name of a file.
 pub fn is_option(word: &[u8]) -> bool
@@ -25,76 +23,72 @@ pub fn is_option(word: &[u8]) -> bool
     word.first().copied().unwrap_or(0) == b'-'
 }
 
-fn no_words() -> Words
-    ensures { result ≡ no_words }
+fn no_words(wrong: bool) -> Words
+    ensures { result ≡ no_words wrong }
 {
     Words {
         hex: false,
         lb: false,
         name: None,
+        wrong,
     }
 }
 
 // With argument k.
-fn with_word(w: Words, k: usize, word: &[u8]) -> Result<Words, Usage>
+fn with_word(w: Words, k: usize, word: &[u8]) -> Words
     ensures { result ≡ with_word w k word.now }
 {
     if find::same(word, b"--hex") {
-        return if w.hex {
-            Err(Usage)
-        } else {
-            Ok(Words { hex: true, ..w })
+        return Words {
+            hex: true,
+            wrong: w.wrong | w.hex,
+            ..w
         };
     }
     if find::same(word, b"--lb") {
-        return if w.lb {
-            Err(Usage)
-        } else {
-            Ok(Words { lb: true, ..w })
+        return Words {
+            lb: true,
+            wrong: w.wrong | w.lb,
+            ..w
         };
     }
-    if w.name.is_some() | is_option(word) {
-        return Err(Usage);
+    Words {
+        name: Some(k),
+        wrong: w.wrong | (w.name.is_some() | is_option(word)),
+        ..w
     }
-    Ok(Words { name: Some(k), ..w })
 }
 
 // `count`: how many words there are, the program's name among them.
-pub fn words_of(count: usize, first: &[u8], second: &[u8], third: &[u8]) -> Result<Words, Usage>
+pub fn words_of(count: usize, first: &[u8], second: &[u8], third: &[u8]) -> Words
     ensures { result ≡ words_of count (first.now ∷ second.now ∷ third.now ∷ []) }
 {
     if 4 < count {
-        return Err(Usage);
+        return no_words(true);
     }
-    let none = no_words();
+    let none = no_words(false);
     if count < 2 {
-        return Ok(none);
+        return none;
     }
-    let one = with_word(none, 1, first)?;
+    let one = with_word(none, 1, first);
     if count == 2 {
-        return Ok(one);
+        return one;
     }
-    let two = with_word(one, 2, second)?;
+    let two = with_word(one, 2, second);
     if count == 3 {
-        return Ok(two);
+        return two;
     }
     with_word(two, 3, third)
 }
 
 // The bytes of standard input that are looked at: one more than it may have, and none where nothing is done with them.
-pub fn most_read(asked: Result<Words, Usage>, found: bool) -> usize
-    ensures { result ≡ most_read asked found }
+pub fn most_read(w: Words, found: bool) -> usize
+    ensures { result ≡ most_read w found }
 {
-    match asked {
-        Err(_) => 0,
-        Ok(w) => {
-            if w.name.is_some() & !found {
-                0
-            } else {
-                MOST + 1
-            }
-        }
+    if w.wrong | !(w.name.is_none() | found) {
+        return 0;
     }
+    MOST + 1
 }
 
 pub(crate) fn put_usage(room: &mut [u8]) -> usize

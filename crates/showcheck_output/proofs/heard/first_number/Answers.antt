@@ -3,4 +3,4 @@ use Rattle.showcheck_output.proofs.heard.first_number.Goals as goal
 
 pub returns : goal.returns
 unfolding quad_at
-returns c = c.quad_at.ensures
+returns c = c.first_number.ensures

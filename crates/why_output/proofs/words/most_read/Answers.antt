@@ -1,15 +1,12 @@
 use mathlib.Core.Path.{refl}
 use Rattle.why_output.specs.Words.{most_read}
+use Rattle.why_output.proofs.WordsLaws.{none_is}
 use Rattle.why_output.proofs.words.most_read.Goals as goal
 
-pub returns-in-Err : goal.returns-in-Err
+pub returns-then-w-is_none : goal.returns-then-w-is_none
 unfolding most_read
-returns-in-Err c = rw c.in-Err.is refl
+returns-then-w-is_none c = rw (← none_is _ _ c.is_none.ensures, c.if-w-is_none.true) refl
 
-pub returns-then-is_some-found : goal.returns-then-is_some-found
+pub returns : goal.returns
 unfolding most_read
-returns-then-is_some-found c = rw (c.in-Ok.is, ← c.is_some.ensures, c.if-is_some-found.true) refl
-
-pub returns-else-is_some-found : goal.returns-else-is_some-found
-unfolding most_read
-returns-else-is_some-found c = rw (c.in-Ok.is, ← c.is_some.ensures, c.if-is_some-found.false) refl
+returns c = rw (← none_is _ _ c.is_none.ensures, c.if-w-is_none.false) refl
