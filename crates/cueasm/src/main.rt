@@ -13,10 +13,11 @@ fn serve<R: Read, W: Write, E: Write>(
     text: &mut [u8; 3400001],
     room: &mut [u8; 1000000],
 ) -> io::Result<()> {
-    input::served(words, from, text, beside, |text| {
-        let said = cueasm_output::report(words, text, room);
-        input::put(to, room, said)
-    })
+    let Ok(n) = input::asked(words, from, text) else {
+        return input::cannot_read(beside);
+    };
+    let said = cueasm_output::report(words, input::front(text, n), room);
+    input::put(to, room, said)
 }
 
 fn main(rt: HostRuntime) -> io::Result<()> {

@@ -12,15 +12,10 @@ fn main(rt: HostRuntime) -> io::Result<()> {
     }
     // Room for one byte more than a list may have, so that a longer one is noticed.
     let mut list = [0; 16385];
-    input::served(
-        words,
-        &mut rt.stdin(),
-        &mut list,
-        &mut rt.stderr(),
-        |list| {
-            let mut room = [0; 32768];
-            let said = cuetight_output::report(list, &mut room);
-            input::put(&mut rt.stdout(), &room, said)
-        },
-    )
+    let Ok(n) = input::asked(words, &mut rt.stdin(), &mut list) else {
+        return input::cannot_read(&mut rt.stderr());
+    };
+    let mut room = [0; 32768];
+    let said = cuetight_output::report(input::front(&list, n), &mut room);
+    input::put(&mut rt.stdout(), &room, said)
 }

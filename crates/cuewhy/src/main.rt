@@ -13,10 +13,11 @@ fn serve<R: Read, W: Write, E: Write>(
     list: &mut [u8; 1000001],
     room: &mut [u8; 256],
 ) -> io::Result<()> {
-    input::served(words, from, list, beside, |list| {
-        let said = cuewhy_output::report(words, list, room);
-        input::put(to, room, said)
-    })
+    let Ok(n) = input::asked(words, from, list) else {
+        return input::cannot_read(beside);
+    };
+    let said = cuewhy_output::report(words, input::front(list, n), room);
+    input::put(to, room, said)
 }
 
 fn main(rt: HostRuntime) -> io::Result<()> {

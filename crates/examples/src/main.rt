@@ -22,11 +22,8 @@ fn main(rt: HostRuntime) -> io::Result<()> {
         );
     }
     let mut script = [0; 32768];
-    input::served(
-        words,
-        &mut rt.stdin(),
-        &mut script,
-        &mut rt.stderr(),
-        |script| { script::play(&mut rt.stdout(), script) },
-    )
+    let Ok(n) = input::asked(words, &mut rt.stdin(), &mut script) else {
+        return input::cannot_read(&mut rt.stderr());
+    };
+    script::play(&mut rt.stdout(), input::front(&script, n))
 }

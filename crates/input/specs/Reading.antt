@@ -1,5 +1,5 @@
 -- What a read gives: so many bytes came, none at the end; or it failed.
-use Rattle.std.specs.Prelude.{ℕ, ◌+◌, ◌≡◌, ◌≢◌, ◌<◌, ◌≤◌, List, length, take, drop, Result, Ok, IfOk}
+use Rattle.std.specs.Prelude.{ℕ, ◌+◌, ◌≡◌, ◌<◌, ◌≤◌, List, length, take, drop, Result, Ok, IfOk}
 use Rattle.std.specs.Io.KnownBytes.{Consumes, IsAtEnd, Keeps, ReadConsumes}
 use Rattle.std.specs.declared.option.Option.{Option}
 
@@ -27,8 +27,3 @@ TookBehind old new from r room = TookSome old new r (drop from room)
 -- the same of all: fewer than the room has only at the end
 abbrev pub TookAll : {E : Type 0} → Option (List ℕ) → Option (List ℕ) → Result ℕ E → List ℕ → Type 0
 TookAll old new r room = IfOk r (λ n. Consumes old new (take n room) × (n < length room → IsAtEnd new))
-
--- so many bytes came, all that there are: none where the program was given words
-abbrev pub Came : ℕ → Option (List ℕ) → Option (List ℕ) → ℕ → List ℕ → Type 0
-Came words old new n room =
-    (n ≤ length room) × (words ≡ 1 → Consumes old new (take n room) × (n < length room → IsAtEnd new)) × (words ≢ 1 → (n ≡ 0) × Keeps old new)

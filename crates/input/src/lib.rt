@@ -1,14 +1,13 @@
 // What programs read and write, over any reader and writer: a read that fails, or that a signal interrupts, is not the end.
 #![tactic(auto)]
 
-ghost use Rattle.std.specs.Prelude.{ℕ, ◌≤◌, ◌≡◌, ◌≢◌, ◌⊎◌, length, take};
-ghost use Rattle.std.specs.Fn.{FnOnceReturnsAt};
+ghost use Rattle.std.specs.Prelude.{◌≤◌, ◌≡◌, ◌≢◌, length, take};
 ghost use Rattle.std.specs.Str.{IsUtf8};
 ghost use Rattle.std.specs.declared.option.Option.TheVariants.{None};
 ghost use Rattle.text.specs.Number.{ascii};
 ghost use Rattle.std.specs.Io.{WritesAtMost};
 ghost use Rattle.std.specs.Io.KnownBytes.{WriteAppends};
-ghost use Rattle.input.specs.Reading.{Within, Behind, TookNone, TookSome, TookBehind, TookAll, Came};
+ghost use Rattle.input.specs.Reading.{Within, Behind, TookNone, TookSome, TookBehind, TookAll};
 ghost use Rattle.input.specs.Writing.{WroteAll};
 
 use std::env::{Env, FillError};
@@ -129,25 +128,6 @@ pub fn cannot_read<W: Write>(to: &mut W) -> io::Result<()>
     ensures { WroteAll (W.contents to.old) (W.contents to.new) result (ascii "cannot read\n") }
 {
     write_all(to, b"cannot read\n")
-}
-
-// Reads what comes, and has it answered; where nothing can be read, that is said.
-pub fn served<R: Read, W: Write, F: FnOnce(&[u8]) -> io::Result<()>>(
-    words: usize,
-    from: &mut R,
-    room: &mut [u8],
-    beside: &mut W,
-    answer: F,
-) -> io::Result<()>
-    requires { F.IsAlwaysCallable answer }
-    ensures { ((n : ℕ) × Came words (R.remaining from.old) (R.remaining from.new) n room.new
-        × FnOnceReturnsAt F.FnOnce answer (take n room.new) result)
-        ⊎ (words ≡ 1) × WroteAll (W.contents beside.old) (W.contents beside.new) result (ascii "cannot read\n") }
-{
-    let Ok(n) = asked(words, from, room) else {
-        return cannot_read(beside);
-    };
-    answer(front(room, n))
 }
 
 // How many words the program was started with, its name among them, counted up to `most`.

@@ -39,9 +39,10 @@ fn serve<R: Read, W: Write, E: Write>(
     beside: &mut E,
     bytes: &mut [u8; 3000001],
 ) -> io::Result<()> {
-    input::served(words, from, bytes, beside, |bytes| {
-        report(to, bytes, &mut [0; ROOM])
-    })
+    let Ok(n) = input::asked(words, from, bytes) else {
+        return input::cannot_read(beside);
+    };
+    report(to, input::front(bytes, n), &mut [0; ROOM])
 }
 
 fn main(rt: HostRuntime) -> io::Result<()> {

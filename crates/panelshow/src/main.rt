@@ -165,11 +165,8 @@ fn main(rt: HostRuntime) -> io::Result<()> {
         return usage(&rt);
     }
     let mut card = [0; 65550];
-    input::served(
-        words,
-        &mut rt.stdin(),
-        &mut card,
-        &mut rt.stderr(),
-        |card| { show(&mut rt.stdout(), &mut [0; 131200], card) },
-    )
+    let Ok(n) = input::asked(words, &mut rt.stdin(), &mut card) else {
+        return input::cannot_read(&mut rt.stderr());
+    };
+    show(&mut rt.stdout(), &mut [0; 131200], input::front(&card, n))
 }

@@ -155,11 +155,8 @@ fn main(rt: HostRuntime) -> io::Result<()> {
         );
     }
     let mut cards = [0; 8192];
-    input::served(
-        words,
-        &mut rt.stdin(),
-        &mut cards,
-        &mut rt.stderr(),
-        |cards| { play(&mut rt.stdout(), cards, &mut [0; 8192]) },
-    )
+    let Ok(n) = input::asked(words, &mut rt.stdin(), &mut cards) else {
+        return input::cannot_read(&mut rt.stderr());
+    };
+    play(&mut rt.stdout(), input::front(&cards, n), &mut [0; 8192])
 }
