@@ -848,41 +848,41 @@ uint32_t head_sentence(uint32_t number,
 /* What it costs, in bytes, by tools/costs; docs/FIRMWARE.md has the rest:
  *
  *                                 x86_64-linux  aarch64-linux  riscv64-linux    armv7-linux      cortex-m4      cortex-m0
- *   code                                62,006         54,184         53,644         77,608         62,818         67,520
- *   constants                            4,989          3,969          3,601          3,333          3,333          3,333
- *   data                                     0              0              0              0              0              0
- *   stack of head_assemble               8,680          8,528          8,640          8,624          8,576          8,700
- *   stack of head_capture                  432            384            416            296            288            392
- *   stack of head_check                    232            144            160            236            216            240
- *   stack of head_compile                  480            288            304            376            376            416
- *   stack of head_field                    296            144            176            184            176            200
- *   stack of head_fields                   136              0              0              0             16              8
- *   stack of head_guard                    144              0              0             36             36             60
- *   stack of head_guarded_check            296            192            208            284            280            344
- *   stack of head_guarded_list             352            208            224            232            232            304
- *   stack of head_guarded_run              552            448            432            532            520            624
- *   stack of head_guarded_spi              352            144            176            176            176            240
- *   stack of head_header                   136              0              0              0              0              8
- *   stack of head_header_word              136              0              0              8              8             20
- *   stack of head_independent            8,576          8,432          8,448          8,456          8,440          8,488
- *   stack of head_judge                  2,072          1,936          1,952          2,116          2,016          2,120
- *   stack of head_list_text                336            128            112            112            112            160
- *   stack of head_list_why                 224             80             80             72             72            128
- *   stack of head_pack                     440            256            368            376            360            408
- *   stack of head_packet_text            7,392          7,248          7,392          7,128          7,120          7,208
+ *   code                                71,266         66,216         65,614         95,080         77,312         77,214
+ *   constants                            9,261          6,130          7,909          3,333          3,333          3,333
+ *   data                                    64             64             64              0              0              0
+ *   stack of head_assemble               8,776          8,672          9,168          8,756          8,852          8,984
+ *   stack of head_capture                  400            368            400            316            280            364
+ *   stack of head_check                    240            144            160            224            208            252
+ *   stack of head_compile                  512            288            304            512            480            528
+ *   stack of head_field                    296            144            176            176            168            216
+ *   stack of head_fields                   136              0              0              8             24             16
+ *   stack of head_guard                    144              0              0             40             40             60
+ *   stack of head_guarded_check            304            192            192            272            264            324
+ *   stack of head_guarded_list             384            208            208            256            248            304
+ *   stack of head_guarded_run              592            448            432            528            512            628
+ *   stack of head_guarded_spi              352            176            176            192            192            232
+ *   stack of head_header                   136              0              0             16             16             32
+ *   stack of head_header_word              136              0              0              8              0             16
+ *   stack of head_independent            8,640          8,464          8,480          8,480          8,472          8,544
+ *   stack of head_judge                  2,080          1,936          1,952          2,072          2,016          2,124
+ *   stack of head_list_text                368            128            112            128            128            176
+ *   stack of head_list_why                 256             80             80             88             88            144
+ *   stack of head_pack                     472            336            384            368            336            416
+ *   stack of head_packet_text            7,360          7,184          7,360          7,096          7,080          7,184
  *   stack of head_panel_reading            136              0              0              8              8             32
  *   stack of head_panel_report             136              0              0             16             16             24
  *   stack of head_panel_start              136              0              0              0              0              0
- *   stack of head_part                     936          1,008          1,184            948            880          1,248
- *   stack of head_run                      472            336            336            460            464            504
- *   stack of head_salvage                  320            160            144            144            136            208
- *   stack of head_sentence                 160             32             32            152            144            168
- *   stack of head_spi                      272            128            160            128            136            152
- *   stack of head_table                    296            144            192            184            208            224
- *   stack of head_tight_check              624            368            496            500            488            560
- *   stack of head_tighten                  976            624            816            772            752            880
- *   stack of head_unpack                   408            240            368            312            328            384
- *   stack of head_why                      552            416            448            540            488            536
+ *   stack of head_part                     904          1,008          1,168          1,000            888          1,328
+ *   stack of head_run                      480            336            336            456            456            500
+ *   stack of head_salvage                  368            176            176            184            176            240
+ *   stack of head_sentence                 184             48             32             32             32             48
+ *   stack of head_spi                      272            144            160            136            128            144
+ *   stack of head_table                    296            144            176            192            192            240
+ *   stack of head_tight_check              672            512            928            520            620            672
+ *   stack of head_tighten                1,024            784          1,248            792            892            992
+ *   stack of head_unpack                   472            320            368            352            336            416
+ *   stack of head_why                      592            432            512            536            488            564
  *   stack of head_word                     168              0              0             16             16             32
  *
  * A stack is the deepest that the call can need, without that of the functions of libc and libgcc that are named below. No
@@ -891,14 +891,14 @@ uint32_t head_sentence(uint32_t number,
  * 1,376 in head_spi, a record of a list 460 in head_compile.
  * x86_64-linux needs memcpy (libc), memset (libc). Registers beyond the integer ones: assemble, capture, check, compile,
  *   field, fields, guarded_check, guarded_list, guarded_run, guarded_spi, independent, judge, pack, packet_text,
- *   panel_reading, part, run, spi, table, tight_check, tighten, unpack, why.
+ *   panel_reading, part, run, sentence, spi, table, tight_check, tighten, unpack, why.
  * aarch64-linux needs memcpy (libc), memset (libc). Registers beyond the integer ones: assemble, capture, check, compile,
  *   field, fields, guarded_check, guarded_run, guarded_spi, header, judge, list_text, pack, packet_text, panel_reading,
- *   panel_report, part, run, spi, table, tight_check, tighten, unpack, why.
+ *   panel_report, part, run, salvage, sentence, spi, table, tight_check, tighten, unpack, why.
  * riscv64-linux needs memcpy (libc), memset (libc). Registers beyond the integer ones: panel_reading.
  * armv7-linux needs memcpy (libc), memset (libc). Registers beyond the integer ones: assemble, capture, check, compile,
- *   field, guarded_check, guarded_list, guarded_run, guarded_spi, independent, judge, pack, packet_text, panel_reading,
- *   part, run, sentence, spi, table, tight_check, tighten, unpack, why.
+ *   field, guarded_check, guarded_list, guarded_run, guarded_spi, header, independent, judge, pack, packet_text,
+ *   panel_reading, part, run, salvage, sentence, spi, table, tight_check, tighten, unpack, why.
  * cortex-m4 needs __aeabi_memclr (libc), __aeabi_memclr4 (libc), __aeabi_memclr8 (libc), __aeabi_memcpy (libc),
  *   __aeabi_uldivmod (libgcc). Registers beyond the integer ones: panel_reading.
  * cortex-m0 needs __aeabi_fcmplt (libgcc), __aeabi_fdiv (libgcc), __aeabi_fmul (libgcc), __aeabi_llsl (libgcc), __aeabi_llsr

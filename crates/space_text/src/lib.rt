@@ -7,26 +7,18 @@ ghost use Rattle.text.specs.Room.{filled, put_at};
 ghost use Rattle.space_text.specs.SpaceText.{space_word, space_text};
 
 use lbp16::space;
-use text::line;
+use text::{line, pick};
 
 // The name of a space; nothing for one that the card lacks.
-#[tactic(auto, unfolding(crate::specs::SpaceText::space_word, lbp16::specs::Space::space_of, text::specs::Number::ascii))]
-pub fn word(space: u8) -> &'static [u8]
-    ensures { result.now ≡ space_word (space_of space) }
-{
-    match space {
-        0 => b"registers",
-        2 => b"eeprom",
-        6 => b"status",
-        7 => b"information",
-        _ => b"",
-    }
-}
-
 pub fn put_word(out: &mut [u8], at: usize, space: u8) -> usize
     ensures { filled result out.new ≡ put_at (space_word (space_of space)) at out.old }
 {
-    text::put(out, at, word(space))
+    // A match would be a table of pointers in the library, which the linker of a 64-bit processor has to write.
+    let t = pick(space == 7, b"information", b"");
+    let t = pick(space == 6, b"status", t);
+    let t = pick(space == 2, b"eeprom", t);
+    let t = pick(space == 0, b"registers", t);
+    text::put(out, at, t)
 }
 
 // A space by its name, or by its number where the card has none.
