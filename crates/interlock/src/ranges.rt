@@ -62,10 +62,13 @@ pub(crate) fn touches(guard: &[u32], place: u64, width: u64) -> bool
     requires { place + width ≤ 2 ^ 40 }
     ensures { result ≡ touches guard.now place width }
 {
-    for &[first, bytes] in guard.as_chunks::<2>().0 {
-        if shares(first, bytes, place, width) {
+    // Over pairs as arrays the largest guard costs a quarter more instructions.
+    let mut rest = guard;
+    while 1 < rest.len() {
+        if shares(rest[0], rest[1], place, width) {
             return true;
         }
+        rest = &rest[2..];
     }
     false
 }
