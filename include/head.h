@@ -848,9 +848,9 @@ uint32_t head_sentence(uint32_t number,
 /* What it costs, in bytes, by tools/costs; docs/FIRMWARE.md has the rest:
  *
  *                                 x86_64-linux  aarch64-linux  riscv64-linux    armv7-linux      cortex-m4      cortex-m0
- *   code                                71,266         66,216         65,614         95,080         77,312         77,214
- *   constants                            9,261          6,130          7,909          3,333          3,333          3,333
- *   data                                    64             64             64              0              0              0
+ *   code                                71,428         66,364         65,806         95,908         77,374         77,242
+ *   constants                            9,101          5,970          7,749          3,333          3,333          3,333
+ *   data                                     0              0              0              0              0              0
  *   stack of head_assemble               8,776          8,672          9,168          8,756          8,852          8,984
  *   stack of head_capture                  400            368            400            316            280            364
  *   stack of head_check                    240            144            160            224            208            252
@@ -859,9 +859,9 @@ uint32_t head_sentence(uint32_t number,
  *   stack of head_fields                   136              0              0              8             24             16
  *   stack of head_guard                    144              0              0             40             40             60
  *   stack of head_guarded_check            304            192            192            272            264            324
- *   stack of head_guarded_list             384            208            208            256            248            304
+ *   stack of head_guarded_list             384            208            208            248            248            304
  *   stack of head_guarded_run              592            448            432            528            512            628
- *   stack of head_guarded_spi              352            176            176            192            192            232
+ *   stack of head_guarded_spi              352            176            176            192            184            240
  *   stack of head_header                   136              0              0             16             16             32
  *   stack of head_header_word              136              0              0              8              0             16
  *   stack of head_independent            8,640          8,464          8,480          8,480          8,472          8,544
@@ -869,7 +869,7 @@ uint32_t head_sentence(uint32_t number,
  *   stack of head_list_text                368            128            112            128            128            176
  *   stack of head_list_why                 256             80             80             88             88            144
  *   stack of head_pack                     472            336            384            368            336            416
- *   stack of head_packet_text            7,360          7,184          7,360          7,096          7,080          7,184
+ *   stack of head_packet_text            7,344          7,184          7,360          7,096          7,080          7,184
  *   stack of head_panel_reading            136              0              0              8              8             32
  *   stack of head_panel_report             136              0              0             16             16             24
  *   stack of head_panel_start              136              0              0              0              0              0
@@ -887,8 +887,8 @@ uint32_t head_sentence(uint32_t number,
  *
  * A stack is the deepest that the call can need, without that of the functions of libc and libgcc that are named below. No
  * function is reached from itself, none asks for memory, and none keeps anything between calls, so that calls which are lent
- * different memory may run at the same time. On a Cortex-M4 a packet takes at most 239,439 instructions in head_run, a burst
- * 1,376 in head_spi, a record of a list 460 in head_compile.
+ * different memory may run at the same time. On a Cortex-M4 a packet takes at most 240,171 instructions in head_run, a burst
+ * 1,075 in head_spi, a record of a list 527 in head_compile.
  * x86_64-linux needs memcpy (libc), memset (libc). Registers beyond the integer ones: assemble, capture, check, compile,
  *   field, fields, guarded_check, guarded_list, guarded_run, guarded_spi, independent, judge, pack, packet_text,
  *   panel_reading, part, run, sentence, spi, table, tight_check, tighten, unpack, why.
