@@ -17,6 +17,7 @@ use Rattle.std.specs.Option.{unwrap_or}
 use Rattle.std.specs.List.{position, position_or_len}
 use Rattle.std.specs.Simd.{first_chunks}
 use Rattle.std.specs.Cmp.Lexicographic.{unequal}
+use Rattle.std.proofs.Math.Bool.{and_assoc, and_comm}
 use Rattle.std.proofs.lemmas.List.{drop-drop}
 use Rattle.std.proofs.lemmas.List.Recursion.{is_position_or_len}
 use Rattle.text.specs.Number.{ascii}
@@ -106,22 +107,12 @@ same-is (x ∷ a) (y ∷ b) e = go (eqb x y) refl e (same-is a b)
     go false p e more = let z : ◌≡◌ {A = ℕ} 0 1 = cc in absurd (omega arith)
 
 -- the test in two parts
-and_assoc : (p q r : Bool) → (p && (q && r)) ≡ ((p && q) && r)
-and_assoc true q r = refl
-and_assoc false q r = refl
-
-and_turn : (p q : Bool) → (p && q) ≡ (q && p)
-and_turn true true = refl
-and_turn true false = refl
-and_turn false true = refl
-and_turn false false = refl
-
 same_parts : (n : ℕ) (a b : List ℕ) → pointwise eqb a b ≡ (pointwise eqb (take n a) (take n b) && pointwise eqb (drop n a) (drop n b))
 same_parts zero a b = refl
 same_parts (suc n) [] [] = refl
 same_parts (suc n) [] (y ∷ b) = refl
 same_parts (suc n) (x ∷ a) [] = refl
-same_parts (suc n) (x ∷ a) (y ∷ b) = ap (λ t. eqb x y && t) (same_parts n a b) ∙ and_assoc (eqb x y) _ _
+same_parts (suc n) (x ∷ a) (y ∷ b) = ap (λ t. eqb x y && t) (same_parts n a b) ∙ sym (and_assoc (eqb x y) _ _)
 
 -- by groups of eight, then what is left
 later : (k : ℕ) (a : List ℕ) → drop (suc k * 8) a ≡ drop (k * 8) (drop 8 a)
@@ -130,8 +121,9 @@ later k a = let e : suc k * 8 ≡ 8 + k * 8 = omega arith in rw e (sym (drop-dro
 groups_of : (k : ℕ) (a b : List ℕ)
     → pointwise eqb a b ≡ (pointwise (pointwise eqb) (first_chunks 8 k a) (first_chunks 8 k b) && pointwise eqb (drop (k * 8) a) (drop (k * 8) b))
 groups_of zero a b = refl
-groups_of (suc k) a b = rw (later k a, later k b)
-    (same_parts 8 a b ∙ ap (λ t. pointwise eqb (take 8 a) (take 8 b) && t) (groups_of k (drop 8 a) (drop 8 b)) ∙ and_assoc (pointwise eqb (take 8 a) (take 8 b)) _ _)
+groups_of (suc k) a b =
+    let front : Bool = pointwise eqb (take 8 a) (take 8 b) in
+    rw (later k a, later k b) (same_parts 8 a b ∙ ap (λ t. front && t) (groups_of k (drop 8 a) (drop 8 b)) ∙ sym (and_assoc front _ _))
 
 pub by_eights : (a b : List ℕ) → length a ≡ length b
     → same_bytes a b ≡ (same_bytes (drop (length a / 8 * 8) a) (drop (length b / 8 * 8) b)
@@ -139,7 +131,8 @@ pub by_eights : (a b : List ℕ) → length a ≡ length b
 unfolding same_bytes
 by_eights a b e =
     let k = length a / 8 in
-    rw (← e) (groups_of k a b ∙ and_turn (pointwise (pointwise eqb) (first_chunks 8 k a) (first_chunks 8 k b)) (pointwise eqb (drop (k * 8) a) (drop (k * 8) b)))
+    let groups : Bool = pointwise (pointwise eqb) (first_chunks 8 k a) (first_chunks 8 k b) in
+    rw (← e) (groups_of k a b ∙ and_comm groups (pointwise eqb (drop (k * 8) a) (drop (k * 8) b)))
 
 pub same_lengths : (a b : List ℕ) → length a ≢ length b → same_bytes a b ≡ false
 unfolding same_bytes
