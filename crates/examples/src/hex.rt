@@ -35,7 +35,7 @@ impl Data {
         input::front(&self.bytes, self.digits / 2)
     }
 
-    // The room's first two bytes, whether or not digits for them came last.
+    // The first two bytes, 0 where no digits came; past 8,192 bytes those that stand there.
     pub(crate) fn first_pair(&self) -> u16 {
         bytes::pair_at(&self.bytes, 0)
     }
