@@ -4,14 +4,14 @@ use mathlib.Core.Path.{◌≡◌, refl, sym, ap, ◌∙◌}
 use mathlib.Core.List.{List, [], ◌∷◌, ◌++◌, append-nil}
 use mathlib.Core.Bool.{Bool, true, false, not, ◌||◌, cond}
 use native.Mathlib.Omega.{arith}
-use native.Mathlib.Nat.{add-sub_cancel_left}
+use native.Mathlib.Numerals.{add-one}
+use native.Mathlib.Nat.{add-zero, add-sub_cancel_left}
 use native.Mathlib.Decide.{dec_le}
 use lib.ListN.{length, get_or, take, drop, length-take, length-drop, drop_of_length-le}
-use lib.Seq.{drop-drop, append_snoc, get_or-drop, take_all}
+use lib.Seq.{drop-cons, drop-drop, append_snoc, get_or-drop, take_all}
 use lib.Dec.{eqb}
 use borrow.Author.Tests.{eqb-true, lt-ltb, le-ltb}
 use Rattle.text.specs.Find.{bytes_before}
-use Rattle.std.specs.List.{prefix_len}
 use Rattle.cue_text.specs.Words.{newline, comment_mark, is_blank, with_byte, lines_of, uncommented, closed, words_from, words_of}
 use Rattle.cue_text.specs.Inside.{line_at, line_bytes, ends_line, words_here, front_bytes, ends_word, in_word, blanks, word_bytes}
 use Rattle.cue_text.specs.Inside.{word_from, word_in, word_count, HoldsWords}
@@ -106,22 +106,29 @@ module _ (f : ℕ → Bool) where
       go true h = omega arith
       go false h = omega arith
 
-  front_is : (s : List ℕ) → prefix_len f s ≡ front_bytes f s
+  -- behind those in front the next is none of them
+  front-again : (s : List ℕ) → front_bytes f (drop (front_bytes f s) s) ≡ 0
   unfolding front_bytes
-  front_is [] = refl
-  front_is (b ∷ s) = rw (front_is s) (go (f b))
+  front-again [] = refl
+  front-again (b ∷ s) = go (f b) refl (front-again s)
     where
-      go : (t : Bool) → cond t (1 + front_bytes f s) 0 ≡ cond t (suc (front_bytes f s)) 0
-      go true = omega arith
-      go false = refl
+      go : (t : Bool) → f b ≡ t → front_bytes f (drop (front_bytes f s) s) ≡ 0
+          → front_bytes f (drop (cond t (suc (front_bytes f s)) 0) (b ∷ s)) ≡ 0
+      go true e h = h
+      go false e h = rw e refl
 
-pub blanks_is : (s : List ℕ) → prefix_len is_blank s ≡ blanks s
-unfolding blanks
-blanks_is s = front_is is_blank s
+  module _ (s : List ℕ) (i : ℕ) where
+    pub front-more : i < length s → f (get_or s i 0) ≡ true → front_bytes f (drop i s) ≡ suc (front_bytes f (drop (i + 1) s))
+    unfolding front_bytes
+    front-more h e = rw (drop-cons s i 0 h, e, add-one) refl
 
-pub word-bytes_is : (s : List ℕ) → prefix_len in_word s ≡ word_bytes s
-unfolding word_bytes
-word-bytes_is s = front_is in_word s
+    pub front-here : i < length s → f (get_or s i 0) ≡ false → front_bytes f (drop i s) ≡ 0
+    unfolding front_bytes
+    front-here h e = rw (drop-cons s i 0 h, e) refl
+
+    pub front-end : length s ≤ i → front_bytes f (drop i s) ≡ 0
+    unfolding front_bytes
+    front-end h = rw (drop_of_length-le s h) refl
 
 pub blanks-within : (s : List ℕ) (k : ℕ) → k ≤ length s → k + blanks (drop k s) ≤ length s
 unfolding blanks
@@ -130,6 +137,16 @@ blanks-within s k h = let l = length-drop k s in let n = front-within is_blank (
 pub word-within : (s : List ℕ) (k : ℕ) → k ≤ length s → k + word_bytes (drop k s) ≤ length s
 unfolding word_bytes
 word-within s k h = let l = length-drop k s in let n = front-within in_word (drop k s) in omega arith
+
+-- behind no word stands none
+pub word-none : (s : List ℕ) (k : ℕ) → (word_from s k).from ≡ (word_from s k).to → word_from s (word_from s k).to ≡ word_from s k
+unfolding word_from blanks
+word-none s k e =
+    let n : ℕ = k + front_bytes is_blank (drop k s) in
+    let none : word_bytes (drop n s) ≡ 0 = omega (arith, e) in
+    let again : front_bytes is_blank (drop n s) ≡ 0 =
+    ap (front_bytes is_blank) (sym (drop-drop (front_bytes is_blank (drop k s)) k s)) ∙ front-again is_blank (drop k s) in
+    rw (none, add-zero, again, add-zero, none, add-zero) refl
 
 -- blanks in front change nothing
 blanks-pass : (s : List ℕ) → words_here [] s ≡ words_here [] (drop (blanks s) s)

@@ -11,10 +11,9 @@ fn digit_of(c: u8, base: u32) -> Option<u32>
     requires { base ≤ 16 }
     ensures { MatchOption result (base ≤ hex_value c) (λ d. (d ≡ hex_value c) × (d < base)) }
 {
-    match find::hex_value(c) {
-        Some(d) if (d as u32) < base => Some(d as u32),
-        _ => None,
-    }
+    // 16 is a digit of no base: one test does for both.
+    let d = find::hex_value(c).unwrap_or(16) as u32;
+    if d < base { Some(d) } else { None }
 }
 
 // No number that 32 bits do not hold is any word's.

@@ -1,10 +1,9 @@
 // A line's words, found in the text from the line on.
-ghost use Rattle.std.specs.Prelude.{◌≡◌, ◌≤◌, length};
-ghost use Rattle.std.specs.List.{prefix_len};
+ghost use Rattle.std.specs.Prelude.{◌≡◌, ◌+◌, ◌≤◌, ℕ, length, drop};
 ghost use Rattle.cue_text.specs.Words.{is_blank};
-ghost use Rattle.cue_text.specs.Inside.{in_word, word_from, word_in, word_count, HoldsWords};
+ghost use Rattle.cue_text.specs.Inside.{in_word, blanks, word_bytes, word_from, word_in, word_count, HoldsWords};
 
-use text::{find, least};
+use text::least;
 
 // From its first byte to behind its last; both are one place where there is no word.
 #[derive(Clone, Copy, Debug, PartialEq, Eq)]
@@ -35,18 +34,30 @@ fn in_word(b: u8) -> bool
     !(is_blank(b) | ((b == b'\n') | (b == b'#')))
 }
 
-// How many blanks the line begins with.
-fn blanks(rest: &[u8]) -> usize
-    ensures { result ≡ prefix_len is_blank rest.now }
+// The first place from `at` on that has no blank. A `for`, here and below: counted by an iterator, a line costs half as much again.
+fn past_blanks(rest: &[u8], at: usize) -> usize
+    requires { at ≤ length rest.now }
+    ensures { (result ≡ at + blanks (drop at rest.now)) × (result ≤ length rest.now) }
 {
-    rest.iter().take_while(|&&b| is_blank(b)).count()
+    for i in at..rest.len() {
+        if !is_blank(rest[i]) {
+            return i;
+        }
+    }
+    rest.len()
 }
 
-// The bytes of the word that the line begins with.
-fn word_bytes(rest: &[u8]) -> usize
-    ensures { result ≡ prefix_len in_word rest.now }
+// The end of the word at `from`.
+fn past_word(rest: &[u8], from: usize) -> usize
+    requires { from ≤ length rest.now }
+    ensures { (result ≡ from + word_bytes (drop from rest.now)) × (result ≤ length rest.now) }
 {
-    rest.iter().take_while(|&&b| in_word(b)).count()
+    for i in from..rest.len() {
+        if !in_word(rest[i]) {
+            return i;
+        }
+    }
+    rest.len()
 }
 
 // The next word from `at` on.
@@ -54,9 +65,22 @@ pub(crate) fn word_at(rest: &[u8], at: usize) -> Word
     requires { at ≤ length rest.now }
     ensures { (result ≡ word_from rest.now at) × (result.to ≤ length rest.now) }
 {
-    let from = at + blanks(find::rest(rest, at));
-    let to = from + word_bytes(find::rest(rest, from));
+    let from = past_blanks(rest, at);
+    let to = past_word(rest, from);
     Word { from, to }
+}
+
+// The same behind a word. Where there is none, none follows: most lines have fewer words than are asked for.
+#[inline(always)]
+fn word_behind(rest: &[u8], w: Word) -> Word
+    requires { w.to ≤ length rest.now }
+    ensures { (k : ℕ) → w ≡ word_from rest.now k → (result ≡ word_from rest.now w.to) × (result.to ≤ length rest.now) }
+{
+    if w.from == w.to {
+        w
+    } else {
+        word_at(rest, w.to)
+    }
 }
 
 pub(crate) fn part(rest: &[u8], w: Word) -> &[u8]
@@ -78,10 +102,10 @@ pub(crate) fn words_of(rest: &[u8]) -> Words
     ensures { HoldsWords rest.now result }
 {
     let first = word_at(rest, 0);
-    let second = word_at(rest, first.to);
-    let third = word_at(rest, second.to);
-    let fourth = word_at(rest, third.to);
-    let fifth = word_at(rest, fourth.to);
+    let second = word_behind(rest, first);
+    let third = word_behind(rest, second);
+    let fourth = word_behind(rest, third);
+    let fifth = word_behind(rest, fourth);
     let count = word_count(first) + word_count(second) + word_count(third) + word_count(fourth);
     Words {
         first,

@@ -1,4 +1,5 @@
 // Hexadecimal digits as bytes.
+use packet::bytes;
 use text::find;
 
 // What a letter of a text stands for: a digit, or a byte of the address.
@@ -32,6 +33,11 @@ impl Data {
     // The bytes whose both digits came.
     pub(crate) fn whole(&self) -> &[u8] {
         input::front(&self.bytes, self.digits / 2)
+    }
+
+    // The first two bytes, 0 where no digits came; past 8,192 bytes those that stand there.
+    pub(crate) fn first_pair(&self) -> u16 {
+        bytes::pair_at(&self.bytes, 0)
     }
 
     // Half a byte is bad too.

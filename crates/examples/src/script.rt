@@ -76,7 +76,7 @@ fn on_card<W: Write>(
 
 // How often a line's bytes are put: once where it does not say.
 fn times(count: &Data) -> u16 {
-    match bytes::pair_at(count.whole(), 0) {
+    match count.first_pair() {
         0 => 1,
         n => n,
     }

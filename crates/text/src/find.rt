@@ -1,5 +1,6 @@
 // Texts taken apart.
-ghost use Rattle.std.specs.Prelude.{◌≡◌, ◌==◌, ◌<◌, drop, position, MatchOption};
+ghost use Rattle.std.specs.Prelude.{◌≡◌, ◌==◌, ◌<◌, length, drop, position, MatchOption};
+ghost use Rattle.std.specs.Cmp.Lexicographic.{pointwise};
 ghost use Rattle.text.specs.Find.{bytes_before, string_at, hex_value, same_bytes};
 
 // The first b's place.
@@ -45,10 +46,41 @@ pub fn hex_value(c: u8) -> Option<u8>
     }
 }
 
-// Whether two texts are the same.
-#[tactic(auto, unfolding(crate::specs::Find::same_bytes))]
+// Whether two texts of one length are the same, a byte at a time.
+fn same_short(a: &[u8], b: &[u8]) -> bool
+    requires { length a.now ≡ length b.now }
+    ensures { result ≡ same_bytes a.now b.now }
+{
+    for (i, &x) in a.iter().enumerate() {
+        if x != b[i] {
+            return false;
+        }
+    }
+    true
+}
+
+// Whether as many groups of eight bytes are the same, a group at a time.
+fn same_eights(a: &[[u8; 8]], b: &[[u8; 8]]) -> bool
+    requires { length a.now ≡ length b.now }
+    ensures { result ≡ pointwise same_bytes a.now b.now }
+{
+    for (i, x) in a.iter().enumerate() {
+        if *x != b[i] {
+            return false;
+        }
+    }
+    true
+}
+
+// Whether two texts are the same. Eight bytes at a time: the library's `==` calls a function for each two that are as long and begin alike.
+#[tactic(auto, using(crate::proofs::FindLaws::by_eights, crate::proofs::FindLaws::same_lengths))]
 pub fn same(a: &[u8], b: &[u8]) -> bool
     ensures { result ≡ same_bytes a.now b.now }
 {
-    a == b
+    if a.len() != b.len() {
+        return false;
+    }
+    let (groups, rest) = a.as_chunks::<8>();
+    let (others, other_rest) = b.as_chunks::<8>();
+    same_short(rest, other_rest) && same_eights(groups, others)
 }

@@ -1,0 +1,7 @@
+use mathlib.Core.Path.{◌≡◌}
+use lib.ListN.{drop}
+use Rattle.text.specs.Find.{same_bytes}
+use Rattle.text.proofs.find.same_short.Given as goal
+
+abbrev pub invariant-loop-i : goal.invariant-loop-i
+invariant-loop-i l = same_bytes (drop l.i l.a) (drop l.i l.b) ≡ same_bytes l.a l.b
