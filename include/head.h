@@ -848,10 +848,10 @@ uint32_t head_sentence(uint32_t number,
 /* What it costs, in bytes, by tools/costs; docs/FIRMWARE.md has the rest:
  *
  *                                 x86_64-linux  aarch64-linux  riscv64-linux    armv7-linux      cortex-m4      cortex-m0
- *   code                                71,428         66,364         65,806         95,908         77,374         77,242
- *   constants                            9,101          5,970          7,749          3,333          3,333          3,333
+ *   code                                70,732         65,272         62,290         93,952         75,436         75,338
+ *   constants                            9,097          5,950          7,745          3,329          3,329          3,329
  *   data                                     0              0              0              0              0              0
- *   stack of head_assemble               8,776          8,672          9,168          8,756          8,852          8,984
+ *   stack of head_assemble               8,776          8,576          8,704          8,688          8,640          8,756
  *   stack of head_capture                  400            368            400            316            280            364
  *   stack of head_check                    240            144            160            224            208            252
  *   stack of head_compile                  512            288            304            512            480            528
@@ -879,8 +879,8 @@ uint32_t head_sentence(uint32_t number,
  *   stack of head_sentence                 184             48             32             32             32             48
  *   stack of head_spi                      272            144            160            136            128            144
  *   stack of head_table                    296            144            176            192            192            240
- *   stack of head_tight_check              672            512            928            520            620            672
- *   stack of head_tighten                1,024            784          1,248            792            892            992
+ *   stack of head_tight_check              640            384            512            520            520            592
+ *   stack of head_tighten                  992            656            832            792            792            912
  *   stack of head_unpack                   472            320            368            352            336            416
  *   stack of head_why                      592            432            512            536            488            564
  *   stack of head_word                     168              0              0             16             16             32
