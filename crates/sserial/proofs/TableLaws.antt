@@ -1,46 +1,47 @@
 -- Laws of reading a table's records.
-use Prim.Native.Nat.{ℕ, ◌+◌, ◌≤◌, ◌<◌}
+use Prim.Native.Nat.{ℕ, ◌+◌, ◌≤◌, ◌<◌, max}
 use mathlib.Core.Path.{◌≡◌, refl, sym, ap, ◌∙◌}
 use mathlib.Core.Bool.{Bool, true, false, ◌&&◌, cond}
 use mathlib.Core.List.{List}
 use native.Mathlib.Omega.{arith}
-use lib.ListN.{length, get_or, drop, length-drop}
-use lib.Dec.{eqb, ltb}
-use Rattle.std.specs.Prelude.{position, Option, Some, None}
-use Rattle.std.proofs.lemmas.Option.{cond_some, none-some}
+use native.Mathlib.Decide.{dec_le}
+use native.Mathlib.Numerals.{add-one}
+use lib.ListN.{length, get_or, drop_of_length-le}
+use lib.Seq.{drop-cons}
+use lib.Dec.{ltb}
 use borrow.Author.Tests.{ltb-true, ltb-false, eq-eqb, ne_eqb, lt-ltb, le-ltb}
-use Rattle.sserial.specs.Table.{text_bytes, nul_of, name_place, field_of, is_direction, sound_field, sound_mode, pair_at, record_at, entry_of}
+use Rattle.sserial.specs.Table.{nul_of, name_place, field_of, is_direction, sound_field, sound_mode, pair_at, record_at, entry_of}
 use Rattle.sserial.specs.Inside.{field_record, mode_record, entry_at}
 use Rattle.sserial.specs.declared.table.Entry.{Entry}
 use Rattle.sserial.specs.declared.table.Entry.TheVariants.{End, Unreadable, Mode}
 
--- the string at a place, by what is found for its first NUL
-module _ (m : List ℕ) (at : ℕ) (rest : List ℕ) (r : Option ℕ) (e : rest ≡ drop at m) (k : r ≡ position (λ b. eqb b 0) rest) where
-  left : r ≡ position (λ b. eqb b 0) (drop at m)
-  left = rw e at k
-
-  pub string-ends : (n : ℕ) → r ≡ Some n → (at + n ≡ nul_of m at) × (nul_of m at < length m)
+-- the string that ends here, that goes on, and that the memory's end cuts
+module _ (memory : List ℕ) (i : ℕ) where
+  pub nul_here : i < length memory → get_or memory i 0 ≡ 0 → nul_of memory i ≡ i
   unfolding nul_of
-  string-ends n s =
-      let f = cond_some _ _ _ (sym left ∙ s) in
-      let h : text_bytes (drop at m) < length (drop at m) = ltb-true _ _ f.0 in
-      let d = length-drop at m in
-      let q : text_bytes (drop at m) ≡ n = f.1 in
-      (omega arith, omega arith)
+  nul_here h e = rw (drop-cons memory i 0 h, eq-eqb _ _ e) (omega arith)
 
-  pub string_cut : r ≡ None → length m ≤ nul_of m at
+  pub nul_later : i < length memory → (get_or memory i 0 ≡ 0 → ⊥) → nul_of memory (i + 1) ≡ nul_of memory i
   unfolding nul_of
-  string_cut s = go (ltb (text_bytes (drop at m)) (length (drop at m))) refl (sym left ∙ s)
-    where
-      go : (t : Bool) → ltb (text_bytes (drop at m)) (length (drop at m)) ≡ t → cond t (Some (text_bytes (drop at m))) None ≡ None
-          → length m ≤ at + text_bytes (drop at m)
-      go true d n = absurd (none-some _ (sym n))
-      go false d n = let h : length (drop at m) ≤ text_bytes (drop at m) = ltb-false _ _ d in let l = length-drop at m in omega arith
+  nul_later h e = rw (drop-cons memory i 0 h, ne_eqb _ _ e, add-one) (omega arith)
 
--- a string ends where it begins or later
-pub nul_from : (memory : List ℕ) (i : ℕ) → i ≤ nul_of memory i
-unfolding nul_of
-nul_from memory i = omega arith
+  pub nul_past : length memory ≤ i → nul_of memory i ≡ i
+  unfolding nul_of
+  nul_past h = rw (drop_of_length-le memory h) (omega arith)
+
+  -- a string ends where it begins or later
+  pub nul_from : i ≤ nul_of memory i
+  unfolding nul_of
+  nul_from = omega arith
+
+-- where a walk from `at` on has found none up to the memory's end
+pub nul_none : (memory : List ℕ) (at i : ℕ) → (at ≤ length memory → i ≤ length memory) → length memory ≤ i → nul_of memory i ≡ nul_of memory at
+    → max at (length memory) ≡ nul_of memory at
+nul_none memory at i within past e = go (dec_le at (length memory))
+  where
+    go : Dec (at ≤ length memory) → max at (length memory) ≡ nul_of memory at
+    go (yes h) = let n = nul_past memory i past in omega (arith, within h)
+    go (no h) = let n = nul_past memory at (omega arith) in omega arith
 
 -- what a record is found to be, by the tests that the code makes
 module _ (m : List ℕ) (p : ℕ) where
@@ -52,31 +53,27 @@ module _ (m : List ℕ) (p : ℕ) where
   unfolding mode_record sound_mode
   mode-read h = rw (lt-ltb _ _ h)
 
-  pub unit_cut : length m ≤ nul_of m (p + 14) → field_record m p ≡ Unreadable
-  unfolding field_record sound_field name_place
-  unit_cut h = let n = nul_from m (nul_of m (p + 14) + 1) in rw (le-ltb (nul_of m (nul_of m (p + 14) + 1)) (length m) (omega arith))
-
-  -- r is the unit's end
-  module _ (r : ℕ) (e : r ≡ nul_of m (p + 14)) where
-    name-end : nul_of m (name_place m p) ≡ nul_of m (r + 1)
+  -- r₁ and r₂ are the ends of unit and name
+  module _ (r₁ r₂ : ℕ) (e₁ : r₁ ≡ nul_of m (p + 14)) (e₂ : r₂ ≡ nul_of m (r₁ + 1)) where
+    name-end : nul_of m (name_place m p) ≡ r₂
     unfolding name_place
-    name-end = rw (← e) refl
+    name-end = rw (← e₁) (sym e₂)
 
-    pub name-cut : length m ≤ nul_of m (r + 1) → field_record m p ≡ Unreadable
+    pub name-cut : length m ≤ r₂ → field_record m p ≡ Unreadable
     unfolding field_record sound_field
     name-cut h = rw (name-end, le-ltb _ _ h)
 
-    pub field-lent : nul_of m (r + 1) < length m → p + 14 < length m
-    field-lent h = let n = nul_from m (p + 14) in let k = nul_from m (r + 1) in omega arith
+    pub field-lent : r₂ < length m → p + 14 < length m
+    field-lent h = let n = nul_from m (p + 14) in let k = nul_from m (r₁ + 1) in omega arith
 
-    module _ (h : nul_of m (r + 1) < length m) (t : Bool) (k : t ≡ is_direction (get_or m (p + 3) 0)) where
+    module _ (h : r₂ < length m) (t : Bool) (e : t ≡ is_direction (get_or m (p + 3) 0)) where
       pub unlisted : ltb (get_or m (p + 2) 0) 8 && t ≡ false → field_record m p ≡ Unreadable
       unfolding field_record sound_field
-      unlisted n = rw (name-end, lt-ltb _ _ h, ← k, n)
+      unlisted n = rw (name-end, lt-ltb _ _ h, ← e, n)
 
       pub listed : ltb (get_or m (p + 2) 0) 8 && t ≡ true → field_record m p ≡ Entry.Field (field_of m p)
       unfolding field_record sound_field
-      listed n = rw (name-end, lt-ltb _ _ h, ← k, n)
+      listed n = rw (name-end, lt-ltb _ _ h, ← e, n)
 
 abbrev pub readable : Entry → Bool
 readable End = true

@@ -1,5 +1,5 @@
 // A card's process table: its entries, and the records that they point to.
-ghost use Rattle.std.specs.Prelude.{◌≡◌, ◌+◌, ◌<◌, ◌≤◌, length, drop, position, ◌==◌, MatchOption};
+ghost use Rattle.std.specs.Prelude.{◌≡◌, ◌+◌, ◌<◌, ◌≤◌, length, max};
 ghost use Rattle.sserial.specs.Table.{pair_at, quad_at, nul_of, is_direction, record_at, stands_in};
 ghost use Rattle.sserial.specs.Inside.{field_record, mode_record, entry_at};
 
@@ -46,24 +46,17 @@ fn quad_at(memory: &[u8], at: usize) -> u32
     u32::from_le_bytes([memory[at], memory[at + 1], memory[at + 2], memory[at + 3]])
 }
 
-fn first_nul(bytes: &[u8]) -> Option<usize>
-    ensures { result ≡ position (λ b. b == 0) bytes.now }
+// The place of the NUL that ends the string at `at`; past the end where it is not lent. No `Option`: with one, or by an iterator, the loop
+// carries a second counter, and a long unit costs half as much again.
+fn nul_of(memory: &[u8], at: usize) -> usize
+    ensures { (result ≡ nul_of memory.now at) × (result ≤ max at (length memory.now)) }
 {
-    bytes.iter().position(|&b| b == 0)
-}
-
-fn rest_of(memory: &[u8], at: usize) -> &[u8]
-    ensures { result.now ≡ drop at memory.now }
-{
-    memory.get(at..).unwrap_or(&[])
-}
-
-// The place of the NUL that ends the string at `at`, where it is lent.
-fn nul_of(memory: &[u8], at: usize) -> Option<usize>
-    ensures { MatchOption result (length memory.now ≤ nul_of memory.now at)
-        (λ place. (place ≡ nul_of memory.now at) × (nul_of memory.now at < length memory.now)) }
-{
-    Some(at + first_nul(rest_of(memory, at))?)
+    for i in at..memory.len() {
+        if memory[i] == 0 {
+            return i;
+        }
+    }
+    at.max(memory.len())
 }
 
 fn is_direction(d: u8) -> bool
@@ -77,13 +70,10 @@ fn field_record(memory: &[u8], p: u16) -> Entry
 {
     let p = p as usize;
     let unit = p + 14;
-    let Some(unit_end) = nul_of(memory, unit) else {
+    let name = nul_of(memory, unit) + 1;
+    if memory.len() <= nul_of(memory, name) {
         return Entry::Unreadable;
-    };
-    let name = unit_end + 1;
-    let Some(_) = nul_of(memory, name) else {
-        return Entry::Unreadable;
-    };
+    }
     let kind = memory[p + 2];
     let direction = memory[p + 3];
     let listed = (kind < 8) & is_direction(direction);
@@ -105,9 +95,9 @@ fn mode_record(memory: &[u8], p: u16) -> Entry
     ensures { result ≡ mode_record memory.now p }
 {
     let p = p as usize;
-    let Some(_) = nul_of(memory, p + 4) else {
+    if memory.len() <= nul_of(memory, p + 4) {
         return Entry::Unreadable;
-    };
+    }
     if memory[p + 2] < 2 {
         Entry::Mode
     } else {

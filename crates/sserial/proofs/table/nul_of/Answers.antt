@@ -1,20 +1,16 @@
-use Prim.Native.Nat.{◌+◌, ◌<◌}
-use mathlib.Core.Path.{◌≡◌}
+use mathlib.Core.Path.{◌∙◌}
 use native.Mathlib.Omega.{arith}
-use lib.ListN.{length}
-use Rattle.sserial.specs.Table.{nul_of}
-use Rattle.sserial.proofs.TableLaws.{string-ends, string_cut}
+use borrow.Author.Rules.{rules}
+use Rattle.sserial.proofs.TableLaws.{nul_here, nul_later, nul_none}
 use Rattle.sserial.proofs.table.nul_of.Goals as goal
 
-pub returns-in_err-first_nul : goal.returns-in_err-first_nul
-returns-in_err-first_nul c = rw c.from_residual.ensures (string_cut _ _ _ _ c.rest_of.ensures c.first_nul.ensures c.in_err-first_nul.was)
+pub returns-then-memory-i-eq0 : goal.returns-then-memory-i-eq0
+returns-then-memory-i-eq0 c =
+    let e = nul_here c.args.memory.now c.loop-i.i (search rules) c.if-memory-i-eq0.true in
+    (omega (arith, c.loop-i.invariant), omega (arith, c.loop-i.invariant))
 
-pub overflow_add-result : goal.overflow_add-result
-overflow_add-result c =
-    let m = c.args.memory.now in
-    let h : (c.args.at + c.in_ok-first_nul.field-0 ≡ nul_of m c.args.at) × (nul_of m c.args.at < length m) =
-    string-ends _ _ _ _ c.rest_of.ensures c.first_nul.ensures _ c.in_ok-first_nul.was in
-    omega arith
+pub loop-i-preserved : goal.loop-i-preserved
+loop-i-preserved c = nul_later _ _ (search rules) c.if-memory-i-eq0.false ∙ c.loop-i.invariant
 
 pub returns : goal.returns
-returns c = string-ends _ _ _ _ c.rest_of.ensures c.first_nul.ensures _ c.in_ok-first_nul.was
+returns c = (c.max.ensures ∙ nul_none _ _ _ c.loop-i.auto.i-end c.loop-i-test.false c.loop-i.invariant, omega (arith, c.max.ensures))
