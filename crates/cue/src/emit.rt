@@ -18,7 +18,9 @@ fn put2(out: &mut [u8], at: usize, value: u16)
     requires { at + 2 ≤ length out.old }
     ensures { out.new ≡ sets out.old at (bytes_of 2 value) }
 {
-    out[at..at + 2].copy_from_slice(&value.to_le_bytes());
+    let [low, high] = value.to_le_bytes();
+    out[at] = low;
+    out[at + 1] = high;
 }
 
 fn put4(out: &mut [u8], at: usize, low: u16, high: u16)

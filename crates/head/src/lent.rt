@@ -24,15 +24,17 @@ pub(crate) fn put_fields(f: Fields, bytes: &mut [u8])
     requires { length bytes.old ≡ 7 }
     ensures { bytes.new ≡ bytes_of_fields f }
 {
-    bytes.copy_from_slice(&[
-        flag(f.write),
-        flag(f.address),
-        flag(f.info),
-        f.space,
-        f.size,
-        flag(f.increment),
-        f.count,
-    ]);
+    if let Some(room) = bytes.as_mut_array() {
+        *room = [
+            flag(f.write),
+            flag(f.address),
+            flag(f.info),
+            f.space,
+            f.size,
+            flag(f.increment),
+            f.count,
+        ];
+    }
 }
 
 // Another length than seven, or a bad flag.

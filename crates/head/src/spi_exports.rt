@@ -11,12 +11,14 @@ fn put_header(h: Header, fields: &mut [u32])
     requires { length fields.old ≡ 4 }
     ensures { fields.new ≡ header_numbers h }
 {
-    fields.copy_from_slice(&[
-        h.address as u32,
-        h.command as u32,
-        lent::flag(h.increment) as u32,
-        h.count as u32,
-    ]);
+    if let Some(room) = fields.as_mut_array() {
+        *room = [
+            h.address as u32,
+            h.command as u32,
+            lent::flag(h.increment) as u32,
+            h.count as u32,
+        ];
+    }
 }
 
 // Another length than four, or a bad address or increment.

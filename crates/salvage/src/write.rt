@@ -1,5 +1,5 @@
 // The second pass: kept records go to the output, and skipped stretches to the log.
-ghost use Rattle.std.specs.Prelude.{◌≡◌, ◌++◌, ◌+◌, ◌*◌, ◌≤◌, length, drop};
+ghost use Rattle.std.specs.Prelude.{◌≡◌, [], ◌∷◌, ◌++◌, ◌+◌, ◌*◌, ◌≤◌, length, drop};
 ghost use Rattle.std.proofs.lemmas.List.Edits.{sets};
 ghost use Rattle.salvage.specs.Salvage.{output, logged};
 ghost use Rattle.salvage.specs.Inside.{record_part, entry_part, Ready};
@@ -18,6 +18,15 @@ fn put_record(out: &mut [u8], at: usize, rest: &[u8], s: Span)
     }
 }
 
+fn put_pair(room: &mut [u64], first: u64, second: u64)
+    requires { length room.old ≡ 2 }
+    ensures { room.new ≡ first ∷ second ∷ [] }
+{
+    if let Some(pair) = room.as_mut_array() {
+        *pair = [first, second];
+    }
+}
+
 // Start and length of a stretch, if it is skipped.
 fn put_entry(log: &mut [u64], entries: usize, at: usize, s: Span)
     requires { 2 * entries + length (entry_part s at) ≤ length log.old }
@@ -27,7 +36,7 @@ fn put_entry(log: &mut [u64], entries: usize, at: usize, s: Span)
         return;
     }
     let first = 2 * entries;
-    log[first..first + 2].copy_from_slice(&[at as u64, s.bytes as u64]);
+    put_pair(&mut log[first..first + 2], at as u64, s.bytes as u64);
 }
 
 pub(crate) fn write(list: &[u8], out: &mut [u8], log: &mut [u64])

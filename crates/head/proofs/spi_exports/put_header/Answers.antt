@@ -1,6 +1,7 @@
+use mathlib.Core.Path.{refl}
 use Rattle.head.specs.SpiExports.{header_numbers}
 use Rattle.head.proofs.spi_exports.put_header.Goals as goal
 
-pub returns : goal.returns
+pub returns-in-Some : goal.returns-in-Some
 unfolding header_numbers
-returns c = rw (← c.flag.ensures) c.copy_from_slice.ensures.after
+returns-in-Some c = rw (← c.flag.ensures) refl
