@@ -848,57 +848,57 @@ uint32_t head_sentence(uint32_t number,
 /* What it costs, in bytes, by tools/costs; docs/FIRMWARE.md has the rest:
  *
  *                                 x86_64-linux  aarch64-linux  riscv64-linux    armv7-linux      cortex-m4      cortex-m0
- *   code                                70,732         65,272         62,290         93,952         75,436         75,338
- *   constants                            9,097          5,950          7,745          3,329          3,329          3,329
+ *   code                                71,491         66,028         60,926         94,084         75,154         75,396
+ *   constants                            9,313          6,076          7,961          3,329          3,329          3,329
  *   data                                     0              0              0              0              0              0
  *   stack of head_assemble               8,776          8,576          8,704          8,688          8,640          8,756
  *   stack of head_capture                  400            368            400            316            280            364
  *   stack of head_check                    240            144            160            224            208            252
- *   stack of head_compile                  512            288            304            512            480            528
- *   stack of head_field                    296            144            176            176            168            216
- *   stack of head_fields                   136              0              0              8             24             16
+ *   stack of head_compile                  512            288            304            384            392            448
+ *   stack of head_field                    296            128            176            176            160            192
+ *   stack of head_fields                   136              0              0              0             16              8
  *   stack of head_guard                    144              0              0             40             40             60
  *   stack of head_guarded_check            304            192            192            272            264            324
  *   stack of head_guarded_list             384            208            208            248            248            304
  *   stack of head_guarded_run              592            448            432            528            512            628
  *   stack of head_guarded_spi              352            176            176            192            184            240
- *   stack of head_header                   136              0              0             16             16             32
+ *   stack of head_header                   136              0              0              0              0              8
  *   stack of head_header_word              136              0              0              8              0             16
  *   stack of head_independent            8,640          8,464          8,480          8,480          8,472          8,544
- *   stack of head_judge                  2,080          1,936          1,952          2,072          2,016          2,124
+ *   stack of head_judge                  2,112          1,936          1,952          2,096          2,016          2,124
  *   stack of head_list_text                368            128            112            128            128            176
  *   stack of head_list_why                 256             80             80             88             88            144
- *   stack of head_pack                     472            336            384            368            336            416
- *   stack of head_packet_text            7,344          7,184          7,360          7,096          7,080          7,184
+ *   stack of head_pack                     424            288            336            320            288            344
+ *   stack of head_packet_text            7,344          7,184          7,328          7,096          7,080          7,192
  *   stack of head_panel_reading            136              0              0              8              8             32
  *   stack of head_panel_report             136              0              0             16             16             24
  *   stack of head_panel_start              136              0              0              0              0              0
- *   stack of head_part                     904          1,008          1,168          1,000            888          1,328
+ *   stack of head_part                     904          1,008          1,168            948            856          1,240
  *   stack of head_run                      480            336            336            456            456            500
- *   stack of head_salvage                  368            176            176            184            176            240
+ *   stack of head_salvage                  352            160            144            160            152            224
  *   stack of head_sentence                 184             48             32             32             32             48
  *   stack of head_spi                      272            144            160            136            128            144
- *   stack of head_table                    296            144            176            192            192            240
+ *   stack of head_table                    296            144            176            192            184            216
  *   stack of head_tight_check              640            384            512            520            520            592
- *   stack of head_tighten                  992            656            832            792            792            912
- *   stack of head_unpack                   472            320            368            352            336            416
- *   stack of head_why                      592            432            512            536            488            564
+ *   stack of head_tighten                  992            656            832            800            784            912
+ *   stack of head_unpack                   408            240            288            280            264            320
+ *   stack of head_why                      592            432            512            520            488            556
  *   stack of head_word                     168              0              0             16             16             32
  *
  * A stack is the deepest that the call can need, without that of the functions of libc and libgcc that are named below. No
  * function is reached from itself, none asks for memory, and none keeps anything between calls, so that calls which are lent
  * different memory may run at the same time. On a Cortex-M4 a packet takes at most 240,171 instructions in head_run, a burst
- * 1,075 in head_spi, a record of a list 527 in head_compile.
+ * 1,075 in head_spi, a record of a list 469 in head_compile.
  * x86_64-linux needs memcpy (libc), memset (libc). Registers beyond the integer ones: assemble, capture, check, compile,
  *   field, fields, guarded_check, guarded_list, guarded_run, guarded_spi, independent, judge, pack, packet_text,
  *   panel_reading, part, run, sentence, spi, table, tight_check, tighten, unpack, why.
  * aarch64-linux needs memcpy (libc), memset (libc). Registers beyond the integer ones: assemble, capture, check, compile,
  *   field, fields, guarded_check, guarded_run, guarded_spi, header, judge, list_text, pack, packet_text, panel_reading,
- *   panel_report, part, run, salvage, sentence, spi, table, tight_check, tighten, unpack, why.
+ *   panel_report, part, run, sentence, spi, table, tight_check, tighten, unpack, why.
  * riscv64-linux needs memcpy (libc), memset (libc). Registers beyond the integer ones: panel_reading.
  * armv7-linux needs memcpy (libc), memset (libc). Registers beyond the integer ones: assemble, capture, check, compile,
- *   field, guarded_check, guarded_list, guarded_run, guarded_spi, header, independent, judge, pack, packet_text,
- *   panel_reading, part, run, salvage, sentence, spi, table, tight_check, tighten, unpack, why.
+ *   field, guarded_check, guarded_list, guarded_run, guarded_spi, independent, judge, pack, packet_text, panel_reading,
+ *   part, run, sentence, spi, table, tight_check, tighten, unpack, why.
  * cortex-m4 needs __aeabi_memclr (libc), __aeabi_memclr4 (libc), __aeabi_memclr8 (libc), __aeabi_memcpy (libc),
  *   __aeabi_uldivmod (libgcc). Registers beyond the integer ones: panel_reading.
  * cortex-m0 needs __aeabi_fcmplt (libgcc), __aeabi_fdiv (libgcc), __aeabi_fmul (libgcc), __aeabi_llsl (libgcc), __aeabi_llsr
