@@ -80,7 +80,7 @@ impl<'a> Iterator for Directed<'a> {
 
     ghost remaining = { item_count directed_ahead };
 
-    // Inlined, so that a walk keeps its place in registers: packing takes a fifth less stack.
+    // Inlined, so that a walk keeps its place in registers, and packing needs less stack.
     #[inline(always)]
     fn next(&mut self) -> Option<Field> {
         while let Some(f) = self.fields.next() {

@@ -46,8 +46,8 @@ fn quad_at(memory: &[u8], at: usize) -> u32
     u32::from_le_bytes([memory[at], memory[at + 1], memory[at + 2], memory[at + 3]])
 }
 
-// The place of the NUL that ends the string at `at`; past the end where it is not lent. No `Option`: with one, or by an iterator, the loop
-// carries a second counter, and a long unit costs half as much again.
+// The place of the NUL that ends the string at `at`; past the end where it is not lent. No `Option`: inlined with one, or by an iterator,
+// the loop carries a second counter, and a long unit costs half as much again.
 fn nul_of(memory: &[u8], at: usize) -> usize
     ensures { (result ≡ nul_of memory.now at) × (result ≤ max at (length memory.now)) }
 {
